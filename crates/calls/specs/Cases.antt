@@ -1,0 +1,131 @@
+-- Document 01, 'A town of two roads': cases P1 to P10 and the listing's run, computed from the definitions. One list of cases, one test,
+-- one lemma that the test holds of all.
+use Prim.Native.Nat.{ℕ}
+use mathlib.Core.Path.{_≡_, refl}
+use mathlib.Core.Bool.{Bool, true, false, _&&_}
+use mathlib.Core.List.{List, [], _∷_, _++_}
+use lib.Dec.{eqb}
+use Rattle.study.specs.Bytes.{u16, u32}
+use Rattle.study.specs.Header.{version, nodeField, linkField, destinationField, offset, size}
+use Rattle.study.specs.Questions.{lengthFits, versionKnown, countsFit, sectionsInOrder, sizesFit, opening, refusal}
+use Rattle.study.specs.Sections.{nodes, links, destinations, part}
+use Rattle.study.specs.Fields.{tail, head, freeTime, rise, capacity, destination, trips}
+use Rattle.theory.specs.Finite.{sum, all, first, largest, tabulate, rows}
+use Rattle.theory.specs.Network.{Network, totalTrips}
+use Rattle.theory.specs.Flows.{linkTotal, total, sumAt, balances, conserves, totalsFit, step, stepTime, timeAt, times}
+use Rattle.theory.specs.Routes.{leastOf, fromHead, round, rounds, distances, fitsNext, nextLinks, walk, loadingRow, loading}
+use Rattle.theory.specs.Cost.{staircase, linkCost, cost, leastTimes, spentTimes, gap}
+use Rattle.theory.specs.Moves.{Shared, started, movedTimes, qualifies, chosen, added, doubled, move, afterMoves, reaches, stops, judged, lastJudged}
+use Rattle.calls.specs.Study.{linkFields, destinationNodes, tripEntries, networkFrom, networkOf}
+use Rattle.calls.specs.Questions.{endsFit, timesFit, destinationsFit, noTripsWithin, totalFits, hasPath, tripsReach, tableHolds, budgetFits, shareFits}
+use Rattle.calls.specs.Questions.{packedSize, outputHolds, studyQuestions, shareQuestions, checkQuestions, packQuestions, startQuestions, runQuestions, tableQuestions}
+use Rattle.calls.specs.Pack.{bytes16, bytes32, packedHeader, packed}
+use Rattle.calls.specs.Calls.{endingNumber, outcomeNumber, overwritten, checkNumber, packNumber, packOutput, startNumber, startTable, tableNumber, auditAnswer}
+use Rattle.calls.specs.Calls.{passAnswer, passTable, runNumber, endingAt, runAnswer, runTable}
+
+-- n 2, m 2, p 1; links (tail, head, a, b, c): 0 1 10 10 2 and 0 1 15 0 1; destination 1; trips 2, 0. File 58 bytes.
+unfoldable pub town : List ℕ
+town =
+    1 ∷ 0 ∷ 2 ∷ 0 ∷ 2 ∷ 0 ∷ 1 ∷ 0 ∷ []
+    ++ (32 ∷ 0 ∷ 0 ∷ 0 ∷ 20 ∷ 0 ∷ 0 ∷ 0 ∷ 52 ∷ 0 ∷ 0 ∷ 0 ∷ 2 ∷ 0 ∷ 0 ∷ 0 ∷ 54 ∷ 0 ∷ 0 ∷ 0 ∷ 4 ∷ 0 ∷ 0 ∷ 0 ∷ [])
+    ++ (0 ∷ 0 ∷ 1 ∷ 0 ∷ 10 ∷ 0 ∷ 10 ∷ 0 ∷ 2 ∷ 0 ∷ [])
+    ++ (0 ∷ 0 ∷ 1 ∷ 0 ∷ 15 ∷ 0 ∷ 0 ∷ 0 ∷ 1 ∷ 0 ∷ [])
+    ++ (1 ∷ 0 ∷ [])
+    ++ (2 ∷ 0 ∷ 0 ∷ 0 ∷ [])
+
+-- The same town with both roads the wrong way round: no road leads into the destination.
+unfoldable pub strandedTown : List ℕ
+strandedTown =
+    1 ∷ 0 ∷ 2 ∷ 0 ∷ 2 ∷ 0 ∷ 1 ∷ 0 ∷ []
+    ++ (32 ∷ 0 ∷ 0 ∷ 0 ∷ 20 ∷ 0 ∷ 0 ∷ 0 ∷ 52 ∷ 0 ∷ 0 ∷ 0 ∷ 2 ∷ 0 ∷ 0 ∷ 0 ∷ 54 ∷ 0 ∷ 0 ∷ 0 ∷ 4 ∷ 0 ∷ 0 ∷ 0 ∷ [])
+    ++ (1 ∷ 0 ∷ 0 ∷ 0 ∷ 10 ∷ 0 ∷ 10 ∷ 0 ∷ 2 ∷ 0 ∷ [])
+    ++ (1 ∷ 0 ∷ 0 ∷ 0 ∷ 15 ∷ 0 ∷ 0 ∷ 0 ∷ 1 ∷ 0 ∷ [])
+    ++ (1 ∷ 0 ∷ [])
+    ++ (2 ∷ 0 ∷ 0 ∷ 0 ∷ [])
+
+-- A case: what the definitions give, and what document 01 says.
+pub record Case : Type 0 where
+  pub found : List ℕ
+  pub stated : List ℕ
+
+unfoldable pub case : List ℕ → List ℕ → Case
+case found stated = record { found = found; stated = stated }
+
+abbrev pub same : List ℕ → List ℕ → Bool
+same [] [] = true
+same [] (y ∷ ys) = false
+same (x ∷ xs) [] = false
+same (x ∷ xs) (y ∷ ys) = eqb x y && same xs ys
+
+abbrev pub holds : List Case → Bool
+holds [] = true
+holds (c ∷ rest) = same (c .found) (c .stated) && holds rest
+
+abbrev pub g : Network
+g = networkOf town
+
+-- The time of link 0 with a flow, at a share.
+abbrev pub time0 : ℕ → ℕ → List ℕ
+time0 share flow = timeAt g share (λ l. flow) 0 ∷ []
+
+-- Ending, tables judged, share and gap of a run, and the table that it leaves, which held 7, 7 before.
+abbrev pub ran : ℕ → ℕ → List ℕ
+ran budget excess =
+    let a = runAnswer town (7 ∷ 7 ∷ []) budget excess in
+    endingNumber (a .ending) ∷ a .judged ∷ a .share ∷ a .gap ∷ runTable town (7 ∷ 7 ∷ []) budget excess
+
+unfoldable pub cases : List Case
+unfolding case
+cases =
+    -- P1 Link 0, share 1, flow 2: time 20. P2 Flow 8: 2,570. P3 Flow 9: 2,570. P4 Share 64, flow 511: 2,530.
+    case (time0 1 2) (20 ∷ [])
+    ∷ case (time0 1 8) (2570 ∷ [])
+    ∷ case (time0 1 9) (2570 ∷ [])
+    ∷ case (time0 64 511) (2530 ∷ [])
+    -- P5 Start: flows 2, 0.
+    ∷ case (startTable town (7 ∷ 7 ∷ [])) (2 ∷ 0 ∷ [])
+    -- P6 That table: gap 10.
+    ∷ case (auditAnswer town (2 ∷ 0 ∷ []) 1 .gap ∷ []) (10 ∷ [])
+    -- P7 Share 8, flows 16, 0: the pass takes j = 1.
+    ∷ case (chosen g 8 (total g (16 ∷ 0 ∷ [])) (total g (loading g (times g 8 (16 ∷ 0 ∷ [])))) ∷ []) (1 ∷ [])
+    -- P8 Share 9, flows 16, 2: times 15, 15, gap 0, cost 13,104.
+    ∷ case (times g 9 (16 ∷ 2 ∷ [])) (15 ∷ 15 ∷ [])
+    ∷ case (auditAnswer town (16 ∷ 2 ∷ []) 9 .gap ∷ auditAnswer town (16 ∷ 2 ∷ []) 9 .cost ∷ []) (0 ∷ 13104 ∷ [])
+    -- P9 Budget 3, excess 0: spent, 3 judged, share 4, flows 8, 0, gap 40.
+    ∷ case (ran 3 0) (3 ∷ 3 ∷ 4 ∷ 40 ∷ 8 ∷ 0 ∷ [])
+    -- P10 Excess 5: reached, 1 judged. (Excess 4 reaches only at the fifth.)
+    ∷ case (ran 10 5) (1 ∷ 1 ∷ 1 ∷ 10 ∷ 2 ∷ 0 ∷ [])
+    ∷ case (ran 10 4) (1 ∷ 5 ∷ 9 ∷ 0 ∷ 16 ∷ 2 ∷ [])
+    -- The listing of `assign`, budget 10, excess 0: reached, judged 5, share 9, gap 0, cost 13,104, flows 16, 2, times 15, 15 as in P8.
+    ∷ case (ran 10 0) (1 ∷ 5 ∷ 9 ∷ 0 ∷ 16 ∷ 2 ∷ [])
+    ∷ case (runAnswer town (7 ∷ 7 ∷ []) 10 0 .cost ∷ []) (13104 ∷ [])
+    -- Share 9 with flows 16, 1: 16; flows 18, 1: 16 as well, since 18 is the most question 15 allows; flows 19, 0: 15.
+    ∷ case (tableNumber town (16 ∷ 1 ∷ []) 9 ∷ tableNumber town (18 ∷ 1 ∷ []) 9 ∷ tableNumber town (19 ∷ 0 ∷ []) 9 ∷ []) (16 ∷ 16 ∷ 15 ∷ [])
+    -- Table of p·m − 1: 12. Budget 0: 13, 1,024 accepted, 1,025: 13. No link into the destination: 11.
+    ∷ case (startNumber town (7 ∷ []) ∷ checkNumber strandedTown ∷ []) (12 ∷ 11 ∷ [])
+    ∷ case (runNumber town (7 ∷ 7 ∷ []) 0 ∷ runNumber town (7 ∷ 7 ∷ []) 1024 ∷ runNumber town (7 ∷ 7 ∷ []) 1025 ∷ []) (13 ∷ 0 ∷ 13 ∷ [])
+    ∷ []
+
+-- One lemma, by computation: the test holds of every case; and what the theorems ask of a study, a table, a share and a budget can be
+-- met.
+pub record Computed : Type 0 where
+  pub every-case-holds : holds cases ≡ true
+  pub check : checkNumber town ≡ 0
+  pub start : startNumber town (7 ∷ 7 ∷ []) ≡ 0
+  pub table : tableNumber town (16 ∷ 2 ∷ []) 9 ≡ 0
+  pub run : runNumber town (7 ∷ 7 ∷ []) 10 ≡ 0
+  pub conserving : conserves (networkOf town) 9 (16 ∷ 2 ∷ []) ≡ true
+  pub stranded : checkNumber strandedTown ≡ 11
+
+pub computed : Computed
+unfolding cases case town strandedTown u16 u32 version nodeField linkField destinationField offset size lengthFits versionKnown countsFit sectionsInOrder sizesFit opening refusal nodes links destinations part tail head freeTime rise capacity destination trips sum all first largest tabulate rows totalTrips linkTotal sumAt balances conserves totalsFit step stepTime times leastOf fromHead round rounds distances fitsNext nextLinks walk loadingRow loading staircase linkCost cost leastTimes spentTimes gap started movedTimes qualifies chosen added doubled move afterMoves reaches stops judged lastJudged linkFields destinationNodes tripEntries networkFrom networkOf endsFit timesFit destinationsFit noTripsWithin totalFits hasPath tripsReach tableHolds budgetFits shareFits packedSize outputHolds studyQuestions shareQuestions checkQuestions packQuestions startQuestions runQuestions tableQuestions overwritten checkNumber startNumber startTable tableNumber auditAnswer passAnswer passTable runNumber endingAt runAnswer runTable
+computed =
+    record {
+      every-case-holds = refl;
+      check = refl;
+      start = refl;
+      table = refl;
+      run = refl;
+      conserving = refl;
+      stranded = refl;
+    }

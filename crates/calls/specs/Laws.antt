@@ -1,0 +1,4 @@
+-- Laws of the definitions beside this file. Nothing here needs to be believed: the check proves it.
+pub mod Questions
+pub mod Networks
+pub mod Calls

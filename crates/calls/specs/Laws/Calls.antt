@@ -1,0 +1,127 @@
+-- The answers and tables of the calls, by what their questions answer.
+use Prim.Native.Nat.{ℕ, zero, suc}
+use mathlib.Core.Path.{_≡_, refl, sym, _∙_}
+use mathlib.Core.Bool.{Bool, true, false}
+use mathlib.Core.List.{List}
+use mathlib.Core.Option.{Option}
+use borrow.Author.Tests.{ne-eqb}
+use lib.Dec.{eqb}
+use native.Mathlib.Omega.{arith}
+use Rattle.theory.specs.Network.{Network}
+use Rattle.theory.specs.Cost.{cost, gap}
+use Rattle.theory.specs.Moves.{Shared, started, move, judged, lastJudged}
+use Rattle.calls.specs.Study.{networkOf}
+use Rattle.calls.specs.Pack.{packed}
+use Rattle.calls.specs.declared.Ending.the-variants as ending
+use Rattle.calls.specs.declared.Outcome.the-variants as outcome
+use Rattle.calls.specs.declared.RunAnswer.{RunAnswer}
+use Rattle.calls.specs.declared.PassAnswer.{PassAnswer}
+use Rattle.calls.specs.declared.AuditAnswer.{AuditAnswer}
+use Rattle.calls.specs.Calls.{overwritten, unlessRefused, packNumber, packOutput, startNumber, startTable, tableNumber, auditAnswer, passOutcome, shareAfter, tableAfter, passAnswer, passTable}
+use Rattle.calls.specs.Calls.{runNumber, endingAt, runAnswer, runTable}
+
+-- A refusal: its number, and 0 in every other field.
+abbrev pub refusedAudit : ℕ → AuditAnswer
+refusedAudit number = record { refusal = number; gap = 0; cost = 0 }
+
+abbrev pub refusedPass : ℕ → PassAnswer
+refusedPass number = record { refusal = number; outcome = outcome.Refused; gap = 0; cost = 0; share = 0 }
+
+abbrev pub refusedRun : ℕ → RunAnswer
+refusedRun number = record { refusal = number; ending = ending.Refused; judged = 0; share = 0; gap = 0; cost = 0 }
+
+-- Lent memory after a call, by its number.
+pub kept : (number : ℕ) (after before : List ℕ) → (number ≡ 0 → ⊥) → unlessRefused number after before ≡ before
+kept number after before refused = rw (ne-eqb number 0 refused)
+
+pub written : (number : ℕ) (after before : List ℕ) → number ≡ 0 → unlessRefused number after before ≡ after
+written number after before e = rw e
+
+module _ (file table : List ℕ) (share : ℕ) where
+  abbrev judgedTable : Shared
+  judgedTable = record { table = table; share = share }
+
+  abbrev nextOf : Option Shared
+  nextOf = move (networkOf file) judgedTable
+
+  -- An audit and a pass that are accepted,
+  pub audit-accepted : tableNumber file table share ≡ 0 → auditAnswer file table share ≡ record { refusal = 0; gap = gap (networkOf file) share table; cost = cost (networkOf file) share table }
+  unfolding auditAnswer
+  audit-accepted e = rw (e, auditAnswer)
+
+  pub pass-accepted : tableNumber file table share ≡ 0
+      → passAnswer file table share
+      ≡ record {
+        refusal = 0;
+        outcome = passOutcome nextOf;
+        gap = gap (networkOf file) share table;
+        cost = cost (networkOf file) share table;
+        share = shareAfter share nextOf;
+      }
+  unfolding passAnswer
+  pass-accepted e = rw (e, passAnswer)
+
+  pub pass-table : tableNumber file table share ≡ 0 → passTable file table share ≡ tableAfter table nextOf
+  unfolding passTable
+  pass-table e = written (tableNumber file table share) (tableAfter table nextOf) table e
+
+  -- and refused.
+  pub audit-refused : (number : ℕ) → tableNumber file table share ≡ suc number → auditAnswer file table share ≡ refusedAudit (suc number)
+  unfolding auditAnswer
+  audit-refused number e = rw (e, auditAnswer)
+
+  pub pass-refused : (number : ℕ) → tableNumber file table share ≡ suc number → passAnswer file table share ≡ refusedPass (suc number)
+  unfolding passAnswer
+  pass-refused number e = rw (e, passAnswer)
+
+  pub pass-kept : (tableNumber file table share ≡ 0 → ⊥) → passTable file table share ≡ table
+  unfolding passTable
+  pass-kept refused = kept (tableNumber file table share) (tableAfter table nextOf) table refused
+
+-- A start that is accepted, and refused.
+pub start-written : (file table : List ℕ) → startNumber file table ≡ 0 → startTable file table ≡ overwritten (started (networkOf file) .table) table
+unfolding startTable
+start-written file table e = written (startNumber file table) (overwritten (started (networkOf file) .table) table) table e
+
+pub start-kept : (file table : List ℕ) → (startNumber file table ≡ 0 → ⊥) → startTable file table ≡ table
+unfolding startTable
+start-kept file table refused = kept (startNumber file table) (overwritten (started (networkOf file) .table) table) table refused
+
+module _ (file table : List ℕ) (budget excess : ℕ) where
+  abbrev last : Shared
+  last = lastJudged (networkOf file) budget excess
+
+  -- A run that is accepted, and refused.
+  pub run-accepted : runNumber file table budget ≡ 0
+      → runAnswer file table budget excess
+      ≡ record {
+        refusal = 0;
+        ending = endingAt (networkOf file) excess last;
+        judged = judged (networkOf file) budget excess;
+        share = last .share;
+        gap = gap (networkOf file) (last .share) (last .table);
+        cost = cost (networkOf file) (last .share) (last .table);
+      }
+  unfolding runAnswer
+  run-accepted e = rw (e, runAnswer)
+
+  pub run-written : runNumber file table budget ≡ 0 → runTable file table budget excess ≡ overwritten (last .table) table
+  unfolding runTable
+  run-written e = written (runNumber file table budget) (overwritten (last .table) table) table e
+
+  pub run-refused : (number : ℕ) → runNumber file table budget ≡ suc number → runAnswer file table budget excess ≡ refusedRun (suc number)
+  unfolding runAnswer
+  run-refused number e = rw (e, runAnswer)
+
+  pub run-kept : (runNumber file table budget ≡ 0 → ⊥) → runTable file table budget excess ≡ table
+  unfolding runTable
+  run-kept refused = kept (runNumber file table budget) (overwritten (last .table) table) table refused
+
+-- A pack that is accepted, and refused.
+pub pack-written : (file output : List ℕ) → packNumber file output ≡ 0 → packOutput file output ≡ overwritten (packed file) output
+unfolding packOutput
+pack-written file output e = written (packNumber file output) (overwritten (packed file) output) output e
+
+pub pack-kept : (file output : List ℕ) → (packNumber file output ≡ 0 → ⊥) → packOutput file output ≡ output
+unfolding packOutput
+pack-kept file output refused = kept (packNumber file output) (overwritten (packed file) output) output refused

@@ -1,0 +1,121 @@
+-- What questions 1 to 10 say of the network that a study describes.
+use Prim.Native.Nat.{ℕ, zero, suc, _+_, _*_, _/_, _^_, _-_, _≤_, _<_}
+use native.Mathlib.Nat.{mul-le-mul-left, pow-le-pow-left, le-div-iff-mul-le, le-refl, le-trans}
+use native.Mathlib.Omega.{arith}
+use mathlib.Core.Path.{_≡_, refl, sym, _∙_}
+use mathlib.Core.Bool.{Bool, true, false, not, _&&_}
+use mathlib.Core.List.{List}
+use lib.ListN.{getD}
+use lib.Dec.{leb, ltb, eqb}
+use borrow.Author.Tests.{ltb-true, leb-true, eqb-true, eqb-false, not-true}
+use Rattle.study.specs.Fields.{freeTime, rise, capacity}
+use Rattle.study.specs.Sections.{links}
+use Rattle.study.specs.Questions.{within}
+use Rattle.theory.specs.Finite.{all}
+use Rattle.theory.specs.Network.{Network, Sound, totalTrips}
+use Rattle.theory.specs.Flows.{stepTime}
+use Rattle.theory.specs.Laws.Finite.{all-elim, and-left, and-right}
+use Rattle.calls.specs.Study.{linkFields, destinationNodes, tripEntries, networkFrom, networkOf}
+use Rattle.calls.specs.Questions.{endsFit, timesFit, destinationsFit, noTripsWithin, totalFits}
+use Rattle.calls.specs.Laws.Questions.{Described}
+
+-- A quotient does not fall as the number divided grows.
+pub div-mono : (d x y : ℕ) → 0 < d → x ≤ y → x / d ≤ y / d
+div-mono d x y pos h = le-div-iff-mul-le {k = d} {x = x / d} {y = y} pos .1 (le-trans (le-div-iff-mul-le {k = d} {x = x / d} {y = x} pos .0 (le-refl (x / d))) h)
+
+-- The time at a step does not fall as the step grows, and is at least the free time.
+pub stepTime-rising : (a b r : ℕ) → stepTime a b r ≤ stepTime a b (suc r)
+unfolding stepTime
+stepTime-rising a b r =
+    let up : b * r ^ 4 ≤ b * suc r ^ 4 = mul-le-mul-left b (pow-le-pow-left {n = r} {m = suc r} (omega arith) 4) in
+    omega (arith, div-mono 16777216 (b * r ^ 4) (b * suc r ^ 4) (omega arith) up)
+
+pub stepTime-least : (a b r : ℕ) → a ≤ stepTime a b r
+unfolding stepTime
+stepTime-least a b r = omega arith
+
+-- A number within bounds.
+within-both : (least most x : ℕ) → within least most x ≡ true → (least ≤ x) × (x ≤ most)
+within-both least most x e =
+    (leb-true least x (and-left (leb least x) (leb x most) e), leb-true x most (and-right (leb least x) (leb x most) e))
+
+not-equal : (a b : ℕ) → not (eqb a b) ≡ true → a ≡ b → ⊥
+not-equal a b e = eqb-false a b (not-true (eqb a b) e)
+
+-- The fields of one link, by question 7.
+pub record FieldsFit (free rise capacity : ℕ) : Type 0 where
+  pub free-least : 1 ≤ free
+  pub free-most : free ≤ 16383
+  pub rise-most : rise ≤ 16383
+  pub capacity-least : 1 ≤ capacity
+
+fields-of : (a b c : ℕ) → (within 1 16383 a && within 0 16383 b && leb 1 c) ≡ true → FieldsFit a b c
+fields-of a b c e =
+    let ab = and-left (within 1 16383 a && within 0 16383 b) (leb 1 c) e in
+    let fa = within-both 1 16383 a (and-left (within 1 16383 a) (within 0 16383 b) ab) in
+    let fb = within-both 0 16383 b (and-right (within 1 16383 a) (within 0 16383 b) ab) in
+    record {
+      free-least = fa .0;
+      free-most = fa .1;
+      rise-most = fb .1;
+      capacity-least = leb-true 1 c (and-right (within 1 16383 a && within 0 16383 b) (leb 1 c) e);
+    }
+
+-- The ends of one link, by question 6.
+pub record EndsFit (n tail head : ℕ) : Type 0 where
+  pub tail-node : tail < n
+  pub head-node : head < n
+  pub apart : tail ≡ head → ⊥
+
+ends-of : (n t h : ℕ) → (ltb t n && ltb h n && not (eqb t h)) ≡ true → EndsFit n t h
+ends-of n t h e =
+    let th = and-left (ltb t n && ltb h n) (not (eqb t h)) e in
+    record {
+      tail-node = ltb-true t n (and-left (ltb t n) (ltb h n) th);
+      head-node = ltb-true h n (and-right (ltb t n) (ltb h n) th);
+      apart = not-equal t h (and-right (ltb t n && ltb h n) (not (eqb t h)) e);
+    }
+
+module _ (file : List ℕ) (h : Described file) where
+  pub fields-fit : (l : ℕ) → l < links file → FieldsFit (getD (linkFields freeTime file) l 0) (getD (linkFields rise file) l 0) (getD (linkFields capacity file) l 0)
+  unfolding timesFit
+  fields-fit l p = fields-of _ _ _ (all-elim (links file) _ (h .fields) l p)
+
+  pub ends-fit : (l : ℕ) → l < networkOf file .links → EndsFit (networkOf file .nodes) (networkOf file .tail l) (networkOf file .head l)
+  unfolding endsFit
+  ends-fit l p = ends-of _ _ _ (all-elim (networkOf file .links) _ (h .ends) l p)
+
+  pub destination-node : (k : ℕ) → k < networkOf file .commodities → networkOf file .destination k < networkOf file .nodes
+  unfolding destinationsFit
+  destination-node k p =
+      let g = networkOf file in
+      ltb-true _ _
+      (all-elim (g .commodities) (λ i. ltb (g .destination i) (g .nodes))
+      (and-left (all (g .commodities) (λ i. ltb (g .destination i) (g .nodes)))
+      (all (g .commodities - 1) (λ i. ltb (g .destination i) (g .destination (i + 1))))
+      (h .ascending))
+      k
+      p)
+
+  -- Question 9: no trips begin at their destination.
+  pub no-trips-within : (k : ℕ) → k < networkOf file .commodities → networkOf file .trips k (networkOf file .destination k) ≡ 0
+  unfolding noTripsWithin
+  no-trips-within k p = eqb-true _ _ (all-elim (networkOf file .commodities) _ (h .none-within) k p)
+
+  -- Question 10.
+  pub few-trips : totalTrips (networkOf file) ≤ 65535
+  unfolding totalFits
+  few-trips = leb-true _ _ (h .few)
+
+  -- So the laws of the theory hold of the network.
+  pub sound : Sound (networkOf file)
+  unfolding networkOf networkFrom
+  sound =
+      record {
+        tail-node = λ l p. ends-fit l p .tail-node;
+        head-node = λ l p. ends-fit l p .head-node;
+        some-capacity = λ l p. fields-fit l p .capacity-least;
+        some-time = λ l r p. le-trans (fields-fit l p .free-least) (stepTime-least (getD (linkFields freeTime file) l 0) (getD (linkFields rise file) l 0) r);
+        rising = λ l r p. stepTime-rising (getD (linkFields freeTime file) l 0) (getD (linkFields rise file) l 0) r;
+        destination-node = destination-node;
+      }

@@ -1,0 +1,120 @@
+-- What the numbers of the calls say of the questions: a call answers 0 exactly where every question of its list is answered yes.
+use Prim.Native.Nat.{ℕ}
+use mathlib.Core.Path.{_≡_, refl}
+use mathlib.Core.Bool.{Bool, true, cond}
+use mathlib.Core.List.{List, [], _∷_, _++_}
+use lib.Dec.{eqb}
+use Rattle.study.specs.Fields.{freeTime, rise, capacity}
+use Rattle.study.specs.Sections.{links}
+use Rattle.study.specs.Questions.{Question, firstNo, opening, refusal}
+use Rattle.study.specs.Laws.{numbered, numbered-append, firstNo-append, firstNo-both, all-yes, no-refusal, AllYes, opening-both, after-opening, opening-numbered}
+use Rattle.theory.specs.Flows.{totalsFit, conserves}
+use Rattle.calls.specs.Study.{linkFields, networkOf}
+use Rattle.calls.specs.Questions.{endsFit, timesFit, destinationsFit, noTripsWithin, totalFits, tripsReach, tableHolds, budgetFits, shareFits, outputHolds}
+use Rattle.calls.specs.Questions.{ask, studyQuestions, shareQuestions, checkQuestions, packQuestions, startQuestions, runQuestions, tableQuestions}
+use Rattle.calls.specs.Calls.{checkNumber, packNumber, startNumber, runNumber, tableNumber}
+
+-- A study that passes questions 1 to 10.
+pub record Described (file : List ℕ) : Type 0 where
+  pub opened : refusal file ≡ 0
+  pub ends : endsFit (networkOf file) ≡ true
+  pub fields : timesFit (linkFields freeTime file) (linkFields rise file) (linkFields capacity file) (links file) ≡ true
+  pub ascending : destinationsFit (networkOf file) ≡ true
+  pub none-within : noTripsWithin (networkOf file) ≡ true
+  pub few : totalFits (networkOf file) ≡ true
+
+-- A study that passes questions 1 to 11.
+pub record Passed (file : List ℕ) : Type 0 where
+  pub described : Described file
+  pub reaching : tripsReach (networkOf file) ≡ true
+
+-- A table and a share that pass questions 14 to 16.
+pub record SharePassed (file table : List ℕ) (share : ℕ) : Type 0 where
+  pub share-fits : shareFits share ≡ true
+  pub totals-fit : totalsFit (networkOf file) share table ≡ true
+  pub conserving : conserves (networkOf file) share table ≡ true
+
+check-numbered : (file : List ℕ) → numbered (checkQuestions file) ≡ true
+unfolding checkQuestions studyQuestions
+check-numbered file = numbered-append (opening file) (studyQuestions file) (opening-numbered file) refl
+
+start-numbered : (file table : List ℕ) → numbered (startQuestions file table) ≡ true
+unfolding startQuestions
+start-numbered file table =
+    numbered-append (checkQuestions file) (ask 12 (tableHolds (networkOf file) table) ∷ []) (check-numbered file) refl
+
+-- Check's number is 0 exactly where the study passes questions 1 to 11.
+pub check-passed : (file : List ℕ) → checkNumber file ≡ 0 → Passed file
+unfolding checkNumber checkQuestions studyQuestions
+check-passed file e =
+    let parts = opening-both file (studyQuestions file) e in
+    let yes′ = all-yes (studyQuestions file) refl (parts .1) in
+    record {
+      described =
+          record {
+            opened = parts .0;
+            ends = yes′ .0;
+            fields = yes′ .1 .0;
+            ascending = yes′ .1 .1 .0;
+            none-within = yes′ .1 .1 .1 .0;
+            few = yes′ .1 .1 .1 .1 .0;
+          };
+      reaching = yes′ .1 .1 .1 .1 .1 .0;
+    }
+
+-- Of a study that passes questions 1 to 10, check's number is 0 or 11, by question 11 alone.
+pub described-check : (file : List ℕ) → Described file → checkNumber file ≡ cond (tripsReach (networkOf file)) 0 11
+unfolding checkNumber checkQuestions studyQuestions
+described-check file h =
+    rw (after-opening file (studyQuestions file), h .opened)
+    (rw (h .ends, h .fields, h .ascending, h .none-within, h .few))
+
+pub passed-check : (file : List ℕ) → Passed file → checkNumber file ≡ 0
+passed-check file h = rw (described-check file (h .described), h .reaching)
+
+-- The numbers of the other calls, from check's: a call refuses a study as check does, and puts its own questions after.
+pub start-number : (file table : List ℕ) → startNumber file table ≡ cond (eqb (checkNumber file) 0) (cond (tableHolds (networkOf file) table) 0 12) (checkNumber file)
+unfolding startNumber startQuestions checkNumber
+start-number file table = firstNo-append (checkQuestions file) (ask 12 (tableHolds (networkOf file) table) ∷ []) (check-numbered file)
+
+pub pack-number : (file output : List ℕ) → packNumber file output ≡ cond (eqb (checkNumber file) 0) (cond (outputHolds file output) 0 17) (checkNumber file)
+unfolding packNumber packQuestions checkNumber
+pack-number file output = firstNo-append (checkQuestions file) (ask 17 (outputHolds file output) ∷ []) (check-numbered file)
+
+pub run-number : (file table : List ℕ) (budget : ℕ) → runNumber file table budget ≡ cond (eqb (startNumber file table) 0) (cond (budgetFits budget) 0 13) (startNumber file table)
+unfolding runNumber runQuestions startNumber
+run-number file table budget = firstNo-append (startQuestions file table) (ask 13 (budgetFits budget) ∷ []) (start-numbered file table)
+
+pub table-number : (file table : List ℕ) (share : ℕ) → tableNumber file table share ≡ cond (eqb (startNumber file table) 0) (firstNo (shareQuestions file table share)) (startNumber file table)
+unfolding tableNumber tableQuestions startNumber
+table-number file table share = firstNo-append (startQuestions file table) (shareQuestions file table share) (start-numbered file table)
+
+-- A start, a run, a pass and an audit are accepted exactly where their questions are answered yes.
+pub start-both : (file table : List ℕ) → startNumber file table ≡ 0 → (checkNumber file ≡ 0) × (tableHolds (networkOf file) table ≡ true)
+unfolding startNumber startQuestions checkNumber
+start-both file table e =
+    let parts = firstNo-both (checkQuestions file) (ask 12 (tableHolds (networkOf file) table) ∷ []) (check-numbered file) e in
+    (parts .0, all-yes (ask 12 (tableHolds (networkOf file) table) ∷ []) refl (parts .1) .0)
+
+pub both-start : (file table : List ℕ) → checkNumber file ≡ 0 → tableHolds (networkOf file) table ≡ true → startNumber file table ≡ 0
+both-start file table c t = rw (start-number file table, c, t)
+
+pub run-both : (file table : List ℕ) (budget : ℕ) → runNumber file table budget ≡ 0 → (startNumber file table ≡ 0) × (budgetFits budget ≡ true)
+unfolding runNumber runQuestions startNumber
+run-both file table budget e =
+    let parts = firstNo-both (startQuestions file table) (ask 13 (budgetFits budget) ∷ []) (start-numbered file table) e in
+    (parts .0, all-yes (ask 13 (budgetFits budget) ∷ []) refl (parts .1) .0)
+
+pub table-both : (file table : List ℕ) (share : ℕ) → tableNumber file table share ≡ 0 → (startNumber file table ≡ 0) × SharePassed file table share
+unfolding tableNumber tableQuestions startNumber shareQuestions
+table-both file table share e =
+    let parts = firstNo-both (startQuestions file table) (shareQuestions file table share) (start-numbered file table) e in
+    let yes′ = all-yes (shareQuestions file table share) refl (parts .1) in
+    (parts .0, record { share-fits = yes′ .0; totals-fit = yes′ .1 .0; conserving = yes′ .1 .1 .0 })
+
+share-yes : (file table : List ℕ) (share : ℕ) → SharePassed file table share → firstNo (shareQuestions file table share) ≡ 0
+unfolding shareQuestions
+share-yes file table share h = no-refusal (shareQuestions file table share) (h .share-fits, (h .totals-fit, (h .conserving, tt)))
+
+pub both-table : (file table : List ℕ) (share : ℕ) → startNumber file table ≡ 0 → SharePassed file table share → tableNumber file table share ≡ 0
+both-table file table share s h = rw (table-number file table share, s) (share-yes file table share h)

@@ -1,0 +1,117 @@
+-- Document 01, 'The questions, in order': questions 6 to 17, and the list of each call. Questions 1 to 5 are the file layer's.
+use Prim.Native.Nat.{ℕ, _+_, _*_, _-_}
+use mathlib.Core.Bool.{Bool, true, not, _&&_, _||_}
+use mathlib.Core.List.{List, [], _∷_, _++_}
+use mathlib.Core.Option.{none}
+use lib.ListN.{length, getD, replicate}
+use lib.Dec.{leb, ltb, eqb}
+use Rattle.study.specs.Fields.{tail, head, freeTime, rise, capacity}
+use Rattle.study.specs.Questions.{Question, within, opening}
+use Rattle.study.specs.Sections.{nodes, links, destinations}
+use Rattle.theory.specs.Finite.{all, tabulate}
+use Rattle.theory.specs.Network.{Network, totalTrips}
+use Rattle.theory.specs.Flows.{totalsFit, conserves}
+use Rattle.theory.specs.Routes.{routing, distances, isSome}
+use Rattle.theory.specs.Moves.{tableSize}
+use Rattle.calls.specs.Study.{linkFields, networkOf}
+
+-- 6. Are each link's tail and head below n and different?
+unfoldable pub endsFit : Network → Bool
+endsFit g = all (g .links) (λ l. ltb (g .tail l) (g .nodes) && ltb (g .head l) (g .nodes) && not (eqb (g .tail l) (g .head l)))
+
+-- 7. Are a 1 to 16,383, b 0 to 16,383, c at least 1 on every link?
+unfoldable pub timesFit : List ℕ → List ℕ → List ℕ → ℕ → Bool
+timesFit freeTimes rises capacities m =
+    all m (λ l. within 1 16383 (getD freeTimes l 0) && within 0 16383 (getD rises l 0) && leb 1 (getD capacities l 0))
+
+-- 8. Are the destinations below n and strictly ascending?
+unfoldable pub destinationsFit : Network → Bool
+destinationsFit g =
+    all (g .commodities) (λ k. ltb (g .destination k) (g .nodes))
+    && all (g .commodities - 1) (λ k. ltb (g .destination k) (g .destination (k + 1)))
+
+-- 9. Is D(s,s) zero for every destination?
+unfoldable pub noTripsWithin : Network → Bool
+noTripsWithin g = all (g .commodities) (λ k. eqb (g .trips k (g .destination k)) 0)
+
+-- 10. Is the total of trips, T, at most 65,535?
+unfoldable pub totalFits : Network → Bool
+totalFits g = leb (totalTrips g) 65535
+
+-- Whether a node has a path to a commodity's destination: a distance, whatever the times, here 1 on every link.
+unfoldable pub hasPath : Network → ℕ → List Bool
+hasPath g k =
+    let d = distances (routing g (replicate (g .links) 1) k) in
+    tabulate (g .nodes) (λ j. isSome (getD d j none))
+
+-- 11. Does every node with trips to s have a path to s?
+unfoldable pub tripsReach : Network → Bool
+tripsReach g =
+    all (g .commodities) (λ k.
+    let path = hasPath g k in
+    all (g .nodes) (λ j. eqb (g .trips k j) 0 || getD path j true))
+
+-- 12. Does the flow table hold at least p·m numbers of 32 bits?
+unfoldable pub tableHolds : Network → List ℕ → Bool
+tableHolds g table = leb (tableSize g) (length table)
+
+-- 13. Is the budget 1 to 1,024?
+unfoldable pub budgetFits : ℕ → Bool
+budgetFits budget = within 1 1024 budget
+
+-- 14. Is the share 1 to 1,024?
+unfoldable pub shareFits : ℕ → Bool
+shareFits share = within 1 1024 share
+
+-- The packed size: 32 + 10m + 2p + 2pn bytes.
+unfoldable pub packedSize : List ℕ → ℕ
+packedSize file = 32 + 10 * links file + 2 * destinations file + 2 * destinations file * nodes file
+
+-- 17. Is the output slice at least that long?
+unfoldable pub outputHolds : List ℕ → List ℕ → Bool
+outputHolds file output = leb (packedSize file) (length output)
+
+-- The order of the questions of each call, in one place. A question asked:
+abbrev pub ask : ℕ → Bool → Question
+ask number answer = record { number = number; yes = answer }
+
+-- Questions 6 to 11 of a file that passes 1 to 5;
+unfoldable pub studyQuestions : List ℕ → List Question
+studyQuestions file =
+    let g = networkOf file in
+    ask 6 (endsFit g)
+    ∷ ask 7 (timesFit (linkFields freeTime file) (linkFields rise file) (linkFields capacity file) (links file))
+    ∷ ask 8 (destinationsFit g)
+    ∷ ask 9 (noTripsWithin g)
+    ∷ ask 10 (totalFits g)
+    ∷ ask 11 (tripsReach g)
+    ∷ []
+
+-- questions 14 to 16 of a table and a share.
+unfoldable pub shareQuestions : List ℕ → List ℕ → ℕ → List Question
+shareQuestions file table share =
+    let g = networkOf file in
+    ask 14 (shareFits share)
+    ∷ ask 15 (totalsFit g share table)
+    ∷ ask 16 (conserves g share table)
+    ∷ []
+
+-- Check puts 1 to 11;
+unfoldable pub checkQuestions : List ℕ → List Question
+checkQuestions file = opening file ++ studyQuestions file
+
+-- pack 1 to 11, then 17;
+unfoldable pub packQuestions : List ℕ → List ℕ → List Question
+packQuestions file output = checkQuestions file ++ (ask 17 (outputHolds file output) ∷ [])
+
+-- start 1 to 12;
+unfoldable pub startQuestions : List ℕ → List ℕ → List Question
+startQuestions file table = checkQuestions file ++ (ask 12 (tableHolds (networkOf file) table) ∷ [])
+
+-- run 1 to 13;
+unfoldable pub runQuestions : List ℕ → List ℕ → ℕ → List Question
+runQuestions file table budget = startQuestions file table ++ (ask 13 (budgetFits budget) ∷ [])
+
+-- pass and audit 1 to 12, then 14 to 16.
+unfoldable pub tableQuestions : List ℕ → List ℕ → ℕ → List Question
+tableQuestions file table share = startQuestions file table ++ shareQuestions file table share

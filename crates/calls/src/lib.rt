@@ -1,0 +1,40 @@
+// The answers of document 01's calls, as values. What each call answers, for any bytes, is defined in specs/; this crate has no code.
+
+// How a run ended. A refused run has no ending.
+pub enum Ending {
+    Refused,
+    Reached,
+    Finest,
+    Spent,
+}
+
+// What a pass did. A refused pass did nothing.
+pub enum Outcome {
+    Refused,
+    Moved,
+    Finest,
+}
+
+// In each answer `refusal` is the number of the first question that refused, or 0, and a refusal has 0 in every other field.
+pub struct RunAnswer {
+    pub refusal: u8,
+    pub ending: Ending,
+    pub judged: u32,
+    pub share: u32,
+    pub gap: u64,
+    pub cost: u64,
+}
+
+pub struct PassAnswer {
+    pub refusal: u8,
+    pub outcome: Outcome,
+    pub gap: u64,
+    pub cost: u64,
+    pub share: u32,
+}
+
+pub struct AuditAnswer {
+    pub refusal: u8,
+    pub gap: u64,
+    pub cost: u64,
+}

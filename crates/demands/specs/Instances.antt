@@ -1,0 +1,27 @@
+-- The hypotheses of the demands can be met: the town of two roads meets each of them.
+use Prim.Native.Nat.{ℕ}
+use mathlib.Core.Path.{_≡_, refl}
+use mathlib.Core.List.{List, [], _∷_}
+use Rattle.theory.specs.Flows.{Carries}
+use Rattle.calls.specs.Study.{networkOf}
+use Rattle.calls.specs.Sequence.{Call, afterStart, afterCalls}
+use Rattle.calls.specs.Cases.{town, computed}
+use Rattle.calls.specs.Laws.Questions.{Described, check-passed}
+use Rattle.demands.specs.Demands.{Bounds, Certified, demand-3}
+use Rattle.demands.specs.Studies.{all-permitted}
+
+-- A study that passes questions 1 to 11.
+pub town-described : Described town
+town-described = check-passed town (computed .check) .described
+
+-- A rival: the equilibrium table at share 9.
+pub town-rival : Carries (networkOf town) 9 (16 ∷ 2 ∷ [])
+town-rival = all-permitted town 9 (16 ∷ 2 ∷ []) (computed .conserving)
+
+-- An accepted start, followed by a list of calls of which some are refused.
+pub town-list : Certified town (afterCalls town (afterStart town (7 ∷ 7 ∷ [])) (Call.pass 1 ∷ Call.audit 3 ∷ Call.pass 5 ∷ Call.pass 2 ∷ []))
+town-list = demand-3 .list town (7 ∷ 7 ∷ []) (computed .start) (Call.pass 1 ∷ Call.audit 3 ∷ Call.pass 5 ∷ Call.pass 2 ∷ [])
+
+-- A table that the audit accepts.
+pub town-table : Certified town (record { table = 16 ∷ 2 ∷ []; share = 9 })
+town-table = demand-3 .table town (16 ∷ 2 ∷ []) 9 (computed .table)

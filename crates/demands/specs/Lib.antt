@@ -1,0 +1,10 @@
+-- The three demands as theorems about document 01's definitions: `Demands` states them, the other modules prove them.
+pub mod Demands
+pub mod Refusals
+pub mod Results
+pub mod Sequences
+pub mod RunEndings
+pub mod Packing
+pub mod Studies
+pub mod Tables
+pub mod Instances

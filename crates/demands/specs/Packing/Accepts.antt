@@ -1,0 +1,46 @@
+-- Questions 1 to 5 the other way round: what they ask, as facts about the numbers of a file, is enough for the file to be accepted.
+use Prim.Native.Nat.{ℕ, _≤_}
+use mathlib.Core.Path.{_≡_}
+use mathlib.Core.Bool.{true}
+use mathlib.Core.List.{List}
+use lib.ListN.{length}
+use borrow.Author.Tests.{le-leb, eq-eqb}
+use Rattle.study.specs.Header.{version}
+use Rattle.study.specs.Questions.{lengthFits, versionKnown, countsFit, sectionsInOrder, sizesFit, opening, refusal}
+use Rattle.study.specs.Laws.{CountsFit, InOrder, SizesFit, no-refusal}
+
+module _ (file : List ℕ) where
+  length-yes : 32 ≤ length file → length file ≤ 65536 → lengthFits file ≡ true
+  unfolding lengthFits
+  length-yes least most = rw (le-leb _ _ least, le-leb _ _ most)
+
+  version-yes : version file ≡ 1 → versionKnown file ≡ true
+  unfolding versionKnown
+  version-yes known = rw known
+
+  counts-yes : CountsFit file → countsFit file ≡ true
+  unfolding countsFit
+  counts-yes c =
+      rw (
+        le-leb _ _ (c .nodes .0),
+        le-leb _ _ (c .nodes .1),
+        le-leb _ _ (c .links .0),
+        le-leb _ _ (c .links .1),
+        le-leb _ _ (c .destinations .0),
+        le-leb _ _ (c .destinations .1),
+        le-leb _ _ (c .among-nodes),
+      )
+
+  order-yes : InOrder file → sectionsInOrder file ≡ true
+  unfolding sectionsInOrder
+  order-yes o = rw (le-leb _ _ (o .first), le-leb _ _ (o .links), le-leb _ _ (o .destinations), le-leb _ _ (o .trips))
+
+  sizes-yes : SizesFit file → sizesFit file ≡ true
+  unfolding sizesFit
+  sizes-yes s = rw (eq-eqb _ _ (s .links), eq-eqb _ _ (s .destinations), eq-eqb _ _ (s .trips))
+
+  pub accepts : 32 ≤ length file → length file ≤ 65536 → version file ≡ 1 → CountsFit file → InOrder file → SizesFit file → refusal file ≡ 0
+  unfolding refusal opening
+  accepts least most known counts order sizes =
+      no-refusal (opening file)
+      (length-yes least most, (version-yes known, (counts-yes counts, (order-yes order, (sizes-yes sizes, tt)))))

@@ -1,0 +1,111 @@
+-- Two files that the file layer answers alike describe one study: every field, the network and every call's answer are the same.
+use Prim.Native.Nat.{ℕ, zero, suc}
+use mathlib.Core.Path.{_≡_, refl}
+use mathlib.Core.List.{List}
+use Rattle.study.specs.Questions.{refusal}
+use Rattle.study.specs.Sections.{nodes, links, destinations, linkPart, destinationPart, tripPart}
+use Rattle.study.specs.Fields.{destination, trips}
+use Rattle.study.specs.Laws.{after-opening}
+use Rattle.calls.specs.Study.{linkFields, destinationNodes, tripEntries, networkOf}
+use Rattle.calls.specs.Questions.{packedSize, outputHolds, studyQuestions, shareQuestions, checkQuestions}
+use Rattle.calls.specs.Pack.{packed}
+use Rattle.calls.specs.Laws.Questions.{pack-number, start-number, table-number, run-number}
+use Rattle.calls.specs.Calls.{checkNumber, packNumber, packOutput, startNumber, startTable, tableNumber, auditAnswer, passAnswer, passTable, runNumber, runAnswer, runTable}
+
+-- The file layer answers the same of both files: the refusal of questions 1 to 5, n, m and p, and the three parts.
+pub record SameStudy (a b : List ℕ) : Type 0 where
+  pub same-refusal : refusal a ≡ refusal b
+  pub same-nodes : nodes a ≡ nodes b
+  pub same-links : links a ≡ links b
+  pub same-destinations : destinations a ≡ destinations b
+  pub same-link-part : linkPart a ≡ linkPart b
+  pub same-destination-part : destinationPart a ≡ destinationPart b
+  pub same-trip-part : tripPart a ≡ tripPart b
+
+module _ {a b : List ℕ} (same : SameStudy a b) where
+  -- tail, head, freeTime, rise and capacity of a link
+  pub same-link-field : (field : List ℕ → ℕ → ℕ) (link : ℕ) → field (linkPart a) link ≡ field (linkPart b) link
+  same-link-field field link = rw (same .same-link-part)
+
+  pub same-destination : (k : ℕ) → destination (destinationPart a) k ≡ destination (destinationPart b) k
+  same-destination k = rw (same .same-destination-part)
+
+  pub same-trips : (k node : ℕ) → trips (tripPart a) (nodes a) k node ≡ trips (tripPart b) (nodes b) k node
+  same-trips k node = rw (same .same-trip-part, same .same-nodes)
+
+  pub same-link-fields : (field : List ℕ → ℕ → ℕ) → linkFields field a ≡ linkFields field b
+  unfolding linkFields
+  same-link-fields field = rw (same .same-links, same .same-link-part)
+
+  pub same-network : networkOf a ≡ networkOf b
+  unfolding networkOf linkFields destinationNodes tripEntries
+  same-network =
+      rw (same .same-nodes, same .same-links, same .same-destinations, same .same-link-part, same .same-destination-part, same .same-trip-part)
+
+  pub same-packed : packed a ≡ packed b
+  unfolding packed
+  same-packed =
+      rw (same .same-nodes, same .same-links, same .same-destinations, same .same-link-part, same .same-destination-part, same .same-trip-part)
+
+  pub same-packed-size : packedSize a ≡ packedSize b
+  unfolding packedSize
+  same-packed-size = rw (same .same-nodes, same .same-links, same .same-destinations)
+
+  -- Every call answers the same, and leaves the same in lent memory.
+  pub same-check : checkNumber a ≡ checkNumber b
+  unfolding checkNumber checkQuestions studyQuestions
+  same-check = rw (after-opening a, after-opening b, same .same-refusal, same-network, same .same-links) (simp same-link-fields)
+
+  pub same-pack-number : (output : List ℕ) → packNumber a output ≡ packNumber b output
+  unfolding outputHolds
+  same-pack-number output = rw (pack-number a, pack-number b, same-check, same-packed-size)
+
+  pub same-pack-output : (output : List ℕ) → packOutput a output ≡ packOutput b output
+  unfolding packOutput
+  same-pack-output output = rw (same-pack-number, same-packed)
+
+  pub same-start-number : (table : List ℕ) → startNumber a table ≡ startNumber b table
+  same-start-number table = rw (start-number a, start-number b, same-check, same-network)
+
+  pub same-start-table : (table : List ℕ) → startTable a table ≡ startTable b table
+  unfolding startTable
+  same-start-table table = rw (same-start-number, same-network)
+
+  same-table-number : (table : List ℕ) (share : ℕ) → tableNumber a table share ≡ tableNumber b table share
+  unfolding shareQuestions
+  same-table-number table share = rw (table-number a, table-number b, same-start-number, same-network)
+
+  pub same-audit : (table : List ℕ) (share : ℕ) → auditAnswer a table share ≡ auditAnswer b table share
+  unfolding auditAnswer
+  same-audit table share = by-number (tableNumber b table share) refl
+    where
+      by-number : (number : ℕ) → tableNumber b table share ≡ number → auditAnswer a table share ≡ auditAnswer b table share
+      by-number zero e = rw (same-table-number table share, e, auditAnswer, same-network)
+      by-number (suc number) e = rw (same-table-number table share, e, auditAnswer)
+
+  pub same-pass : (table : List ℕ) (share : ℕ) → passAnswer a table share ≡ passAnswer b table share
+  unfolding passAnswer
+  same-pass table share = by-number (tableNumber b table share) refl
+    where
+      by-number : (number : ℕ) → tableNumber b table share ≡ number → passAnswer a table share ≡ passAnswer b table share
+      by-number zero e = rw (same-table-number table share, e, passAnswer, same-network)
+      by-number (suc number) e = rw (same-table-number table share, e, passAnswer)
+
+  pub same-pass-table : (table : List ℕ) (share : ℕ) → passTable a table share ≡ passTable b table share
+  unfolding passTable
+  same-pass-table table share = rw (same-table-number, same-network)
+
+  same-run-number : (table : List ℕ) (budget : ℕ) → runNumber a table budget ≡ runNumber b table budget
+  same-run-number table budget = rw (run-number a, run-number b, same-start-number)
+
+  pub same-run : (table : List ℕ) (budget excess : ℕ) → runAnswer a table budget excess ≡ runAnswer b table budget excess
+  unfolding runAnswer
+  same-run table budget excess = by-number (runNumber b table budget) refl
+    where
+      by-number : (number : ℕ) → runNumber b table budget ≡ number → runAnswer a table budget excess ≡ runAnswer b table budget excess
+      by-number zero e = rw (same-run-number table budget, e, runAnswer, same-network)
+      by-number (suc number) e = rw (same-run-number table budget, e, runAnswer)
+
+  pub same-run-table : (table : List ℕ) (budget excess : ℕ) → runTable a table budget excess ≡ runTable b table budget excess
+  unfolding runTable
+  same-run-table table budget excess = rw (same-run-number, same-network)

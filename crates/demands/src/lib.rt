@@ -1,0 +1,1 @@
+// Theorems only: the crate has no code. See specs/.

@@ -1,0 +1,92 @@
+-- `study::questions::sizes_fit` meets its contract.
+use borrow.Author.Needs.{needs}
+use borrow.Author.Tests.{eq-eqb, ne-eqb}
+use mathlib.Core.Bool.{Bool, _&&_}
+use mathlib.Core.Logic.{⊎-elim}
+use mathlib.Core.Path.{_≡_, refl, sym, _∙_}
+use Prim.Native.Nat.{_*_}
+use native.Mathlib.Nat.{le-of-lt, mul-le-mul-left}
+use native.Mathlib.Omega.{arith}
+use lib.Dec.{eqb}
+use denote.Ref.{now}
+use Rattle.study.specs.Questions.{sizesFit}
+use Rattle.study.proofs.Flags.{and-yes, and-no}
+use Rattle.study.proofs.questions.sizes_fit.Statement.{statement}
+use Rattle.study.proofs.questions.sizes_fit.Tie as tie
+
+node-field-requires : tie.Need-node-field-requires
+node-field-requires c κs = search needs
+
+link-field-requires : tie.Need-link-field-requires
+link-field-requires c κs = search needs
+
+destination-field-requires : tie.Need-destination-field-requires
+destination-field-requires c κs = search needs
+
+size-requires : tie.Need-size-requires
+size-requires c κs = search needs
+
+size-requires-2 : tie.Need-size-requires-2
+size-requires-2 c κs = search needs
+
+size-requires-3 : tie.Need-size-requires-3
+size-requires-3 c κs = search needs
+
+mul-if1 : tie.Need-mul-if1
+mul-if1 c = search needs
+
+mul-if2 : tie.Need-mul-if2
+mul-if2 c = search needs
+
+mul-result : tie.Need-mul-result
+mul-result c = search needs
+
+mul-result-2 : tie.Need-mul-result-2
+mul-result-2 c =
+    let n = c .before .before .before .before .before .before .before .node-field in
+    let p = c .before .before .before .before .before .destination-field in
+    omega (arith, mul-le-mul-left (2 * p .result) (le-of-lt (n .ensures .1)))
+
+-- The three tests of the code, which are the definition's.
+abbrev links : tie.After-size3 → Bool
+links c = eqb (c .before .before .size .result) (10 * (c .before .before .before .before .link-field .result))
+
+abbrev destinations : tie.After-size3 → Bool
+destinations c = eqb (c .before .size2 .result) (2 * (c .before .before .before .destination-field .result))
+
+abbrev trips : tie.After-size3 → Bool
+trips c =
+    eqb (c .size3 .result)
+    (2 * (c .before .before .before .destination-field .result) * (c .before .before .before .before .before .node-field .result))
+
+tests : (c : tie.After-size3) → links c && destinations c && trips c ≡ sizesFit (now (c .before .before .before .before .before .before .before .args .file))
+unfolding sizesFit
+tests c = cc
+
+-- The flag where the ways of the first `&&` meet.
+two : (c : tie.Joined1) → c .if1 .if2 ≡ links (c .before) && destinations (c .before)
+two c =
+    ⊎-elim (λ w. and-yes _ _ (eq-eqb _ _ (w .0 .taken)) (w .1)) (λ w. and-no _ _ (ne-eqb _ _ (w .0 .left)) (w .1)) (c .if1 .came)
+
+returns : tie.Need-returns
+returns c = and-yes _ _ (sym (two (c .before)) ∙ c .if2 .taken) refl ∙ tests (c .before .before)
+
+returns-2 : tie.Need-returns-2
+returns-2 c = and-no _ _ (sym (two (c .before)) ∙ c .if2 .left) (two (c .before)) ∙ tests (c .before .before)
+
+pub sizes-fit-spec : {M : Type 1} → statement M
+sizes-fit-spec =
+    tie.close
+    (tie.spec
+    node-field-requires
+    link-field-requires
+    destination-field-requires
+    size-requires
+    size-requires-2
+    size-requires-3
+    mul-if1
+    mul-if2
+    mul-result
+    mul-result-2
+    returns
+    returns-2)

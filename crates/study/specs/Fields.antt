@@ -1,0 +1,40 @@
+-- The fields of the three sections, read from a section's own bytes. The crates above cite these names and their laws, and never a place
+-- in the bytes.
+use Prim.Native.Nat.{ℕ, _+_, _*_, _≤_}
+use mathlib.Core.List.{List}
+use lib.ListN.{length}
+use Rattle.study.specs.Bytes.{u16}
+
+-- Links, 10 bytes each, five u16: tail, head, free time a, rise b, capacity c.
+unfoldable pub tail : List ℕ → ℕ → ℕ
+tail linkBytes link = u16 linkBytes (10 * link)
+
+unfoldable pub head : List ℕ → ℕ → ℕ
+head linkBytes link = u16 linkBytes (10 * link + 2)
+
+unfoldable pub freeTime : List ℕ → ℕ → ℕ
+freeTime linkBytes link = u16 linkBytes (10 * link + 4)
+
+unfoldable pub rise : List ℕ → ℕ → ℕ
+rise linkBytes link = u16 linkBytes (10 * link + 6)
+
+unfoldable pub capacity : List ℕ → ℕ → ℕ
+capacity linkBytes link = u16 linkBytes (10 * link + 8)
+
+-- Destinations: p node numbers, u16.
+unfoldable pub destination : List ℕ → ℕ → ℕ
+destination destinationBytes k = u16 destinationBytes (2 * k)
+
+-- Trips: for each destination in order, for each node j from 0, u16 D(j,s). Of n nodes, destination k has the entries from k * n on.
+unfoldable pub trips : List ℕ → ℕ → ℕ → ℕ → ℕ
+trips tripBytes n k node = u16 tripBytes (2 * (k * n + node))
+
+-- What a reader of a field asks of its section: that the bytes of that link, destination or entry are there.
+unfoldable pub HasLink : List ℕ → ℕ → Type 0
+HasLink linkBytes link = 10 * link + 10 ≤ length linkBytes
+
+unfoldable pub HasDestination : List ℕ → ℕ → Type 0
+HasDestination destinationBytes k = 2 * k + 2 ≤ length destinationBytes
+
+unfoldable pub HasTrips : List ℕ → ℕ → ℕ → ℕ → Type 0
+HasTrips tripBytes n k node = 2 * (k * n + node) + 2 ≤ length tripBytes

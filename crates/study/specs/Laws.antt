@@ -1,0 +1,341 @@
+-- What holds of the definitions beside this file, for the crates above: lists of questions, accepted files, the parts and their fields.
+use Prim.Native.Nat.{ℕ, zero, suc, _+_, _*_, _<_, _≤_, _^_}
+use mathlib.Core.Bool.{Bool, true, false, _&&_, cond, and-eq-true-iff}
+use mathlib.Core.List.{List, [], _∷_, _++_}
+use mathlib.Core.Path.{_≡_, refl, sym, ap, _∙_}
+use native.Mathlib.Omega.{arith}
+use lib.Arith.{digits-lt}
+use lib.Dec.{leb, ltb, eqb}
+use lib.ListN.{length, getD, take, drop, length-take, length-drop, List·getD-eq-default}
+use lib.Seq.{getD-take, getD-drop}
+use borrow.Author.Tests.{leb-true, ltb-true, ltb-false, eqb-true, eqb-false, eq-eqb, ne-eqb}
+use Rattle.study.specs.Bytes.{byte, u16, u32}
+use Rattle.study.specs.Header.{nodeField, linkField, destinationField, offset, size}
+use Rattle.study.specs.Questions.{Question, firstNo, within, lengthFits, versionKnown, countsFit, sectionEnd, sectionsInOrder, sizesFit, opening, refusal}
+use Rattle.study.specs.Sections.{ifAccepted, nodes, links, destinations, part, linkPart, destinationPart, tripPart}
+use Rattle.study.specs.Fields.{tail, head, freeTime, rise, capacity, destination, trips, HasLink, HasDestination, HasTrips}
+
+both : (a b : Bool) → a && b ≡ true → (a ≡ true) × (b ≡ true)
+both a b e = and-eq-true-iff a b .0 e
+
+-- ---- lists of questions
+
+-- No question of the list has number 0, which stands for acceptance. Of a list whose numbers are written out this computes.
+abbrev pub numbered : List Question → Bool
+numbered [] = true
+numbered (q ∷ rest) = ltb 0 (q .number) && numbered rest
+
+-- Every answer of the list is yes.
+abbrev pub AllYes : List Question → Type 0
+AllYes [] = Unit
+AllYes (q ∷ rest) = (q .yes ≡ true) × AllYes rest
+
+append-step : (yes : Bool) (number whole front back : ℕ) → 0 < number → whole ≡ cond (eqb front 0) back front → cond yes whole number ≡ cond (eqb (cond yes front number) 0) back (cond yes front number)
+append-step true number whole front back h e = e
+append-step false number whole front back h e = rw (ne-eqb number 0 (λ z. omega arith))
+
+-- The first "no" of two lists, one after the other, is that of the first list, or else that of the second.
+pub firstNo-append : (a b : List Question) → numbered a ≡ true → firstNo (a ++ b) ≡ cond (eqb (firstNo a) 0) (firstNo b) (firstNo a)
+firstNo-append [] b h = refl
+firstNo-append (q ∷ a) b h =
+    let hs = both (ltb 0 (q .number)) (numbered a) h in
+    append-step (q .yes) (q .number) (firstNo (a ++ b)) (firstNo a) (firstNo b) (ltb-true 0 (q .number) (hs .0)) (firstNo-append a b (hs .1))
+
+pub numbered-append : (a b : List Question) → numbered a ≡ true → numbered b ≡ true → numbered (a ++ b) ≡ true
+numbered-append [] b ha hb = hb
+numbered-append (q ∷ a) b ha hb =
+    let hs = both (ltb 0 (q .number)) (numbered a) ha in
+    rw (hs .0) (numbered-append a b (hs .1) hb)
+
+-- Two lists, one after the other, refuse nothing only where neither does.
+pub firstNo-both : (a b : List Question) → numbered a ≡ true → firstNo (a ++ b) ≡ 0 → (firstNo a ≡ 0) × (firstNo b ≡ 0)
+firstNo-both a b h e = by-test (eqb (firstNo a) 0) refl
+  where
+    by-test : (t : Bool) → eqb (firstNo a) 0 ≡ t → (firstNo a ≡ 0) × (firstNo b ≡ 0)
+    by-test true z = (eqb-true _ _ z, sym (rw z at (firstNo-append a b h)) ∙ e)
+    by-test false z = absurd (eqb-false _ _ z (sym (rw z at (firstNo-append a b h)) ∙ e))
+
+yes-step : (yes : Bool) (number rest : ℕ) → 0 < number → cond yes rest number ≡ 0 → (yes ≡ true) × (rest ≡ 0)
+yes-step true number rest h e = (refl, e)
+yes-step false number rest h e = absurd (omega arith)
+
+pub all-yes : (qs : List Question) → numbered qs ≡ true → firstNo qs ≡ 0 → AllYes qs
+all-yes [] h e = tt
+all-yes (q ∷ rest) h e =
+    let hs = both (ltb 0 (q .number)) (numbered rest) h in
+    let r = yes-step (q .yes) (q .number) (firstNo rest) (ltb-true 0 (q .number) (hs .0)) e in
+    (r .0, all-yes rest (hs .1) (r .1))
+
+pub no-refusal : (qs : List Question) → AllYes qs → firstNo qs ≡ 0
+no-refusal [] y = refl
+no-refusal (q ∷ rest) y = rw (y .0) (no-refusal rest (y .1))
+
+-- ---- what each question says
+
+within-true : (least most x : ℕ) → within least most x ≡ true → (least ≤ x) × (x ≤ most)
+within-true least most x e =
+    let h = both (leb least x) (leb x most) e in
+    (leb-true least x (h .0), leb-true x most (h .1))
+
+pub length-fits : (file : List ℕ) → lengthFits file ≡ true → (32 ≤ length file) × (length file ≤ 65536)
+unfolding lengthFits
+length-fits file e = within-true 32 65536 (length file) e
+
+pub record CountsFit (file : List ℕ) : Type 0 where
+  pub nodes : (2 ≤ nodeField file) × (nodeField file ≤ 128)
+  pub links : (1 ≤ linkField file) × (linkField file ≤ 512)
+  pub destinations : (1 ≤ destinationField file) × (destinationField file ≤ 32)
+  pub among-nodes : destinationField file ≤ nodeField file
+
+pub counts-fit : (file : List ℕ) → countsFit file ≡ true → CountsFit file
+unfolding countsFit
+counts-fit file e =
+    let nmp = both _ _ e in
+    let nm = both _ _ (nmp .0) in
+    let n = both _ _ (nm .0) in
+    record {
+      nodes = within-true 2 128 (nodeField file) (n .0);
+      links = within-true 1 512 (linkField file) (n .1);
+      destinations = within-true 1 32 (destinationField file) (nm .1);
+      among-nodes = leb-true _ _ (nmp .1);
+    }
+
+pub record InOrder (file : List ℕ) : Type 0 where
+  pub first : 32 ≤ offset file 0
+  pub links : sectionEnd file 0 ≤ offset file 1
+  pub destinations : sectionEnd file 1 ≤ offset file 2
+  pub trips : sectionEnd file 2 ≤ length file
+
+pub sections-in-order : (file : List ℕ) → sectionsInOrder file ≡ true → InOrder file
+unfolding sectionsInOrder
+sections-in-order file e =
+    let upTo2 = both _ _ e in
+    let upTo1 = both _ _ (upTo2 .0) in
+    let upTo0 = both _ _ (upTo1 .0) in
+    record {
+      first = leb-true _ _ (upTo0 .0);
+      links = leb-true _ _ (upTo0 .1);
+      destinations = leb-true _ _ (upTo1 .1);
+      trips = leb-true _ _ (upTo2 .1);
+    }
+
+-- So every section ends within the file.
+pub ends-within : (file : List ℕ) (section : ℕ) → InOrder file → section < 3 → sectionEnd file section ≤ length file
+ends-within file zero order h = omega arith
+ends-within file (suc zero) order h = omega arith
+ends-within file (suc (suc zero)) order h = order .trips
+ends-within file (suc (suc (suc section))) order h = omega arith
+
+pub record SizesFit (file : List ℕ) : Type 0 where
+  pub links : size file 0 ≡ 10 * linkField file
+  pub destinations : size file 1 ≡ 2 * destinationField file
+  pub trips : size file 2 ≡ 2 * destinationField file * nodeField file
+
+pub sizes-fit : (file : List ℕ) → sizesFit file ≡ true → SizesFit file
+unfolding sizesFit
+sizes-fit file e =
+    let all = both _ _ e in
+    let firstTwo = both _ _ (all .0) in
+    record {
+      links = eqb-true _ _ (firstTwo .0);
+      destinations = eqb-true _ _ (firstTwo .1);
+      trips = eqb-true _ _ (all .1);
+    }
+
+-- ---- accepted files
+
+pub opening-numbered : (file : List ℕ) → numbered (opening file) ≡ true
+unfolding opening
+opening-numbered file = refl
+
+-- A list of questions that begins with questions 1 to 5 refuses a file as these do, and else as the rest of the list does.
+pub after-opening : (file : List ℕ) (more : List Question) → firstNo (opening file ++ more) ≡ cond (eqb (refusal file) 0) (firstNo more) (refusal file)
+unfolding opening refusal
+after-opening file more = firstNo-append (opening file) more refl
+
+pub opening-both : (file : List ℕ) (more : List Question) → firstNo (opening file ++ more) ≡ 0 → (refusal file ≡ 0) × (firstNo more ≡ 0)
+unfolding opening refusal
+opening-both file more e = firstNo-both (opening file) more refl e
+
+module _ {A : Type 0} (file : List ℕ) (value other : A) where
+  pub value-accepted : refusal file ≡ 0 → ifAccepted file value other ≡ value
+  value-accepted e = rw (eq-eqb (refusal file) 0 e)
+
+  pub value-refused : (refusal file ≡ 0 → ⊥) → ifAccepted file value other ≡ other
+  value-refused refused = rw (ne-eqb (refusal file) 0 refused)
+
+-- All that the crates above need of an accepted file's length and counts.
+pub record Accepted (file : List ℕ) : Type 0 where
+  pub length-least : 32 ≤ length file
+  pub length-most : length file ≤ 65536
+  pub nodes-least : 2 ≤ nodes file
+  pub nodes-most : nodes file ≤ 128
+  pub links-least : 1 ≤ links file
+  pub links-most : links file ≤ 512
+  pub destinations-least : 1 ≤ destinations file
+  pub destinations-most : destinations file ≤ 32
+  pub destinations-nodes : destinations file ≤ nodes file
+
+module _ (file : List ℕ) (e : refusal file ≡ 0) where
+  answers : AllYes (opening file)
+  unfolding opening refusal
+  answers = all-yes (opening file) refl e
+
+  counts : CountsFit file
+  unfolding opening
+  counts = counts-fit file (answers .1 .1 .0)
+
+  pub in-order : InOrder file
+  unfolding opening
+  in-order = sections-in-order file (answers .1 .1 .1 .0)
+
+  sizes : SizesFit file
+  unfolding opening
+  sizes = sizes-fit file (answers .1 .1 .1 .1 .0)
+
+  pub nodes-field : nodes file ≡ nodeField file
+  unfolding nodes
+  nodes-field = value-accepted file (nodeField file) 0 e
+
+  pub links-field : links file ≡ linkField file
+  unfolding links
+  links-field = value-accepted file (linkField file) 0 e
+
+  pub destinations-field : destinations file ≡ destinationField file
+  unfolding destinations
+  destinations-field = value-accepted file (destinationField file) 0 e
+
+  pub accepted : Accepted file
+  unfolding opening
+  accepted =
+      let fits = length-fits file (answers .0) in
+      record {
+        length-least = fits .0;
+        length-most = fits .1;
+        nodes-least = omega (arith, nodes-field, counts);
+        nodes-most = omega (arith, nodes-field, counts);
+        links-least = omega (arith, links-field, counts);
+        links-most = omega (arith, links-field, counts);
+        destinations-least = omega (arith, destinations-field, counts);
+        destinations-most = omega (arith, destinations-field, counts);
+        destinations-nodes = omega (arith, destinations-field, nodes-field, counts);
+      }
+
+  pub part-accepted : (section : ℕ) → part file section ≡ take (size file section) (drop (offset file section) file)
+  unfolding part
+  part-accepted section = value-accepted file (take (size file section) (drop (offset file section) file)) [] e
+
+  part-size : (section : ℕ) → section < 3 → length (part file section) ≡ size file section
+  part-size section h =
+      let within = ends-within file section in-order h in
+      rw (part-accepted section) (simp (length-take, length-drop) (omega arith))
+
+-- ---- the parts and their fields, of any file: a refused file has counts 0 and empty parts
+
+module _ (file : List ℕ) where
+  by-answer : {A : Type 0} → (refusal file ≡ 0 → A) → ((refusal file ≡ 0 → ⊥) → A) → A
+  by-answer {A} yes′ no′ = by-test (eqb (refusal file) 0) refl
+    where
+      by-test : (t : Bool) → eqb (refusal file) 0 ≡ t → A
+      by-test true e = yes′ (eqb-true _ _ e)
+      by-test false e = no′ (eqb-false _ _ e)
+
+  pub nodes-refused : (refusal file ≡ 0 → ⊥) → nodes file ≡ 0
+  unfolding nodes
+  nodes-refused refused = value-refused file (nodeField file) 0 refused
+
+  pub links-refused : (refusal file ≡ 0 → ⊥) → links file ≡ 0
+  unfolding links
+  links-refused refused = value-refused file (linkField file) 0 refused
+
+  pub destinations-refused : (refusal file ≡ 0 → ⊥) → destinations file ≡ 0
+  unfolding destinations
+  destinations-refused refused = value-refused file (destinationField file) 0 refused
+
+  pub part-refused : (section : ℕ) → (refusal file ≡ 0 → ⊥) → part file section ≡ []
+  unfolding part
+  part-refused section refused = value-refused file (take (size file section) (drop (offset file section) file)) [] refused
+
+  pub link-length : length (linkPart file) ≡ 10 * links file
+  link-length =
+      by-answer (λ e. omega (arith, part-size file e 0 (omega arith), sizes file e, links-field file e))
+      (λ refused. omega (arith, ap length (part-refused 0 refused), links-refused refused))
+
+  pub destination-length : length (destinationPart file) ≡ 2 * destinations file
+  destination-length =
+      by-answer (λ e. omega (arith, part-size file e 1 (omega arith), sizes file e, destinations-field file e))
+      (λ refused. omega (arith, ap length (part-refused 1 refused), destinations-refused refused))
+
+  pub trip-length : length (tripPart file) ≡ 2 * destinations file * nodes file
+  trip-length =
+      by-answer
+      (λ e. rw (destinations-field file e, nodes-field file e) (part-size file e 2 (omega arith) ∙ sizes file e .trips))
+      (λ refused. rw (part-refused 2 refused, destinations-refused refused) (omega arith))
+
+  pub has-link : (link : ℕ) → link < links file → HasLink (linkPart file) link
+  unfolding HasLink
+  has-link link h = omega (arith, link-length)
+
+  pub has-destination : (k : ℕ) → k < destinations file → HasDestination (destinationPart file) k
+  unfolding HasDestination
+  has-destination k h = omega (arith, destination-length)
+
+  pub has-trips : (k node : ℕ) → k < destinations file → node < nodes file → HasTrips (tripPart file) (nodes file) k node
+  unfolding HasTrips
+  has-trips k node hk hn = omega (arith, trip-length, digits-lt hk hn)
+
+-- ---- ranges
+
+-- Every element of a list of bytes is below 256. A slice of u8 holds such a list.
+abbrev pub AreBytes : List ℕ → Type 0
+AreBytes bytes = (at : ℕ) → byte bytes at < 256
+
+take-bytes : (n : ℕ) (bytes : List ℕ) → AreBytes bytes → AreBytes (take n bytes)
+take-bytes n bytes h at = by-test (ltb at n) refl
+  where
+    by-test : (t : Bool) → ltb at n ≡ t → byte (take n bytes) at < 256
+    by-test true e = rw (getD-take n bytes at 0 (ltb-true at n e)) (h at)
+    by-test false e =
+        rw (List·getD-eq-default (take n bytes) 0 {n = at} (omega (arith, length-take n bytes, ltb-false at n e))) (omega arith)
+
+pub part-bytes : (file : List ℕ) (section : ℕ) → AreBytes file → AreBytes (part file section)
+part-bytes file section h at =
+    by-answer file
+    (λ e. rw (part-accepted file e section) (take-bytes (size file section) (drop (offset file section) file) (λ i. rw getD-drop (h (offset file section + i))) at))
+    (λ refused. rw (part-refused file section refused) (omega arith))
+
+pub u16-range : (bytes : List ℕ) → AreBytes bytes → (at : ℕ) → u16 bytes at < 65536
+unfolding u16
+u16-range bytes h at = omega (arith, h at, h (at + 1))
+
+pub u32-range : (bytes : List ℕ) → AreBytes bytes → (at : ℕ) → u32 bytes at < 2 ^ 32
+unfolding u32
+u32-range bytes h at = omega (arith, u16-range bytes h at, u16-range bytes h (at + 2))
+
+-- So each field of a section of bytes is below 65536.
+pub record LinkRanges (linkBytes : List ℕ) (link : ℕ) : Type 0 where
+  pub tail-range : tail linkBytes link < 65536
+  pub head-range : head linkBytes link < 65536
+  pub freeTime-range : freeTime linkBytes link < 65536
+  pub rise-range : rise linkBytes link < 65536
+  pub capacity-range : capacity linkBytes link < 65536
+
+module _ (bytes : List ℕ) (h : AreBytes bytes) where
+  pub link-ranges : (link : ℕ) → LinkRanges bytes link
+  unfolding tail head freeTime rise capacity
+  link-ranges link =
+      record {
+        tail-range = u16-range bytes h (10 * link);
+        head-range = u16-range bytes h (10 * link + 2);
+        freeTime-range = u16-range bytes h (10 * link + 4);
+        rise-range = u16-range bytes h (10 * link + 6);
+        capacity-range = u16-range bytes h (10 * link + 8);
+      }
+
+  pub destination-range : (k : ℕ) → destination bytes k < 65536
+  unfolding destination
+  destination-range k = u16-range bytes h (2 * k)
+
+  pub trips-range : (n k node : ℕ) → trips bytes n k node < 65536
+  unfolding trips
+  trips-range n k node = u16-range bytes h (2 * (k * n + node))

@@ -1,0 +1,69 @@
+-- Document 01, 'The questions, in order': questions 1 to 5, which are put to the bytes of the file alone.
+use Prim.Native.Nat.{ℕ, _+_, _*_}
+use mathlib.Core.Bool.{Bool, _&&_, cond}
+use mathlib.Core.List.{List, [], _∷_}
+use lib.ListN.{length}
+use lib.Dec.{leb, eqb}
+use Rattle.study.specs.Header.{version, nodeField, linkField, destinationField, offset, size}
+
+-- A question of document 01: its number, and whether the answer is yes.
+pub record Question : Type 0 where
+  pub number : ℕ
+  pub yes : Bool
+
+-- A "no" refuses with that number, and the first "no" counts. Where every answer is yes the number is 0.
+abbrev pub firstNo : List Question → ℕ
+firstNo [] = 0
+firstNo (q ∷ rest) = cond (q .yes) (firstNo rest) (q .number)
+
+abbrev pub within : ℕ → ℕ → ℕ → Bool
+within least most x = leb least x && leb x most
+
+-- 1. Is the file 32 to 65,536 bytes long?
+unfoldable pub lengthFits : List ℕ → Bool
+lengthFits file = within 32 65536 (length file)
+
+-- 2. Is the version 1?
+unfoldable pub versionKnown : List ℕ → Bool
+versionKnown file = eqb (version file) 1
+
+-- 3. Is n 2 to 128, m 1 to 512, p 1 to 32, and p at most n?
+unfoldable pub countsFit : List ℕ → Bool
+countsFit file =
+    within 2 128 (nodeField file)
+    && within 1 512 (linkField file)
+    && within 1 32 (destinationField file)
+    && leb (destinationField file) (nodeField file)
+
+-- Where a section ends: the sum of its offset and its length, which may pass 2 ^ 32.
+abbrev pub sectionEnd : List ℕ → ℕ → ℕ
+sectionEnd file section = offset file section + size file section
+
+-- 4. Is the first offset at least 32, does each section end at or before the next offset, and the last within the file?
+unfoldable pub sectionsInOrder : List ℕ → Bool
+sectionsInOrder file =
+    leb 32 (offset file 0)
+    && leb (sectionEnd file 0) (offset file 1)
+    && leb (sectionEnd file 1) (offset file 2)
+    && leb (sectionEnd file 2) (length file)
+
+-- 5. Are the lengths 10m, 2p and 2pn?
+unfoldable pub sizesFit : List ℕ → Bool
+sizesFit file =
+    eqb (size file 0) (10 * linkField file)
+    && eqb (size file 1) (2 * destinationField file)
+    && eqb (size file 2) (2 * destinationField file * nodeField file)
+
+-- Questions 1 to 5, in order. Every call's list of questions begins with these.
+unfoldable pub opening : List ℕ → List Question
+opening file =
+    record { number = 1; yes = lengthFits file }
+    ∷ record { number = 2; yes = versionKnown file }
+    ∷ record { number = 3; yes = countsFit file }
+    ∷ record { number = 4; yes = sectionsInOrder file }
+    ∷ record { number = 5; yes = sizesFit file }
+    ∷ []
+
+-- The number of the first of questions 1 to 5 that refuses the file, or 0.
+unfoldable pub refusal : List ℕ → ℕ
+refusal file = firstNo (opening file)

@@ -1,0 +1,66 @@
+// The fields of a section, read from the section's own bytes.
+ghost use Prim.Native.Nat.{_+_, _*_, _≤_};
+ghost use mathlib.Core.Path.{_≡_};
+ghost use Rattle.study.specs.Bytes.{u16 as u16Of};
+ghost use Rattle.study.specs.Fields.{HasLink, HasDestination, HasTrips, freeTime};
+ghost use Rattle.study.specs.Fields.{tail as tailOf, head as headOf, rise as riseOf, capacity as capacityOf};
+ghost use Rattle.study.specs.Fields.{destination as destinationOf, trips as tripsOf};
+use crate::bytes::u16_at;
+
+pub fn tail(links: &[u8], link: usize) -> u16
+    requires { ⌜ HasLink (now links) link ⌝ }
+    ensures { λ r. ⌜ r ≡ tailOf (now (links .entry)) link ⌝ }
+{
+    link_field(links, link, 0)
+}
+
+pub fn head(links: &[u8], link: usize) -> u16
+    requires { ⌜ HasLink (now links) link ⌝ }
+    ensures { λ r. ⌜ r ≡ headOf (now (links .entry)) link ⌝ }
+{
+    link_field(links, link, 2)
+}
+
+pub fn free_time(links: &[u8], link: usize) -> u16
+    requires { ⌜ HasLink (now links) link ⌝ }
+    ensures { λ r. ⌜ r ≡ freeTime (now (links .entry)) link ⌝ }
+{
+    link_field(links, link, 4)
+}
+
+pub fn rise(links: &[u8], link: usize) -> u16
+    requires { ⌜ HasLink (now links) link ⌝ }
+    ensures { λ r. ⌜ r ≡ riseOf (now (links .entry)) link ⌝ }
+{
+    link_field(links, link, 6)
+}
+
+pub fn capacity(links: &[u8], link: usize) -> u16
+    requires { ⌜ HasLink (now links) link ⌝ }
+    ensures { λ r. ⌜ r ≡ capacityOf (now (links .entry)) link ⌝ }
+{
+    link_field(links, link, 8)
+}
+
+pub fn destination(destinations: &[u8], k: usize) -> u16
+    requires { ⌜ HasDestination (now destinations) k ⌝ }
+    ensures { λ r. ⌜ r ≡ destinationOf (now (destinations .entry)) k ⌝ }
+{
+    u16_at(destinations, 2 * k)
+}
+
+// The trips from a node to destination k, in a study of n nodes.
+pub fn trips_from(trips: &[u8], n: usize, k: usize, node: usize) -> u16
+    requires { ⌜ HasTrips (now trips) n k node ⌝ }
+    ensures { λ r. ⌜ r ≡ tripsOf (now (trips .entry)) n k node ⌝ }
+{
+    u16_at(trips, 2 * (k * n + node))
+}
+
+// The field of a link that stands `place` bytes on in its ten.
+fn link_field(links: &[u8], link: usize, place: usize) -> u16
+    requires { ⌜ (HasLink (now links) link) × (place ≤ 8) ⌝ }
+    ensures { λ r. ⌜ r ≡ u16Of (now (links .entry)) (10 * link + place) ⌝ }
+{
+    u16_at(links, 10 * link + place)
+}

@@ -1,0 +1,74 @@
+// What an accepted file holds: n, m and p, and each section as a part of the bytes, never a copy.
+// Of a refused file the counts are 0 and the parts are empty.
+ghost use Prim.Native.Nat.{_+_, _*_, _<_};
+ghost use mathlib.Core.Path.{_≡_};
+ghost use Rattle.study.specs.Bytes.{u16 as u16Of};
+ghost use Rattle.study.specs.Sections.{ifAccepted, nodes, part, linkPart, destinationPart, tripPart};
+ghost use Rattle.study.specs.Sections.{links as linksOf, destinations as destinationsOf};
+use crate::bytes::u16_at;
+use crate::header::offset;
+use crate::header::section_end;
+use crate::questions::refusal;
+
+// n of document 01.
+pub fn node_count(file: &[u8]) -> usize
+    ensures { λ r. ⌜ r ≡ nodes (now (file .entry)) ⌝ }
+{
+    count(file, 0)
+}
+
+// m of document 01.
+pub fn link_count(file: &[u8]) -> usize
+    ensures { λ r. ⌜ r ≡ linksOf (now (file .entry)) ⌝ }
+{
+    count(file, 1)
+}
+
+// p of document 01.
+pub fn destination_count(file: &[u8]) -> usize
+    ensures { λ r. ⌜ r ≡ destinationsOf (now (file .entry)) ⌝ }
+{
+    count(file, 2)
+}
+
+pub fn links(file: &[u8]) -> &[u8]
+    ensures { λ r. ⌜ now r ≡ linkPart (now (file .entry)) ⌝ }
+{
+    section(file, 0)
+}
+
+pub fn destinations(file: &[u8]) -> &[u8]
+    ensures { λ r. ⌜ now r ≡ destinationPart (now (file .entry)) ⌝ }
+{
+    section(file, 1)
+}
+
+pub fn trips(file: &[u8]) -> &[u8]
+    ensures { λ r. ⌜ now r ≡ tripPart (now (file .entry)) ⌝ }
+{
+    section(file, 2)
+}
+
+// n, m and p stand one after the other in the header, from byte 2 on.
+fn count(file: &[u8], number: usize) -> usize
+    requires { ⌜ number < 3 ⌝ }
+    ensures { λ r. ⌜ r ≡ ifAccepted (now (file .entry)) (u16Of (now (file .entry)) (2 + 2 * number)) 0 ⌝ }
+{
+    if refusal(file) != 0 {
+        return 0;
+    }
+    u16_at(file, 2 + 2 * number) as usize
+}
+
+// The bytes from the section's offset on, as many as its length says.
+fn section(file: &[u8], number: usize) -> &[u8]
+    requires { ⌜ number < 3 ⌝ }
+    ensures { λ r. ⌜ now r ≡ part (now (file .entry)) number ⌝ }
+{
+    if refusal(file) != 0 {
+        return &file[..0];
+    }
+    let start = offset(file, number) as usize;
+    let end = section_end(file, number) as usize;
+    &file[start..end]
+}

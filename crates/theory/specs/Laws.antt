@@ -1,0 +1,29 @@
+-- The laws of the definitions above. Nothing here needs to be believed: the check proves it.
+-- Sums, searches and lists; conservation and potentials:
+pub mod Finite
+pub mod Cases
+pub mod Conserving
+pub mod Potentials
+-- paths, distances, next links and loadings:
+pub mod Paths
+pub mod Rounds
+pub mod Consistent
+pub mod Distances
+pub mod Reach
+pub mod Next
+pub mod Walks
+pub mod Routings
+pub mod Loading
+pub mod Unreachable
+-- the bound, the choice of j, moves and runs:
+pub mod LeastTimes
+pub mod Inequalities
+pub mod Times
+pub mod Tangent
+pub mod Bound
+pub mod Tables
+pub mod Choice
+pub mod Moves
+pub mod Descent
+pub mod Runs
+pub mod Local

@@ -1,0 +1,32 @@
+-- Ways of telling cases apart and keeping the equation.
+use Prim.Native.Nat.{ℕ}
+use native.Mathlib.Decide.{ℕ-discrete}
+use mathlib.Core.Path.{_≡_, refl, sym, _∙_}
+use mathlib.Core.Bool.{Bool, true, false, true≢false}
+use mathlib.Core.Option.{Option, none, some, Option·none-ne-some}
+
+-- A distance is none, or some number.
+pub on-option : {C : Type 0} (o : Option ℕ) → (o ≡ none → C) → ((x : ℕ) → o ≡ some x → C) → C
+on-option none f g = f refl
+on-option (some x) f g = g x refl
+
+-- A test is true or false.
+pub on-test : {C : Type 0} (b : Bool) → (b ≡ true → C) → (b ≡ false → C) → C
+on-test true f g = f refl
+on-test false f g = g refl
+
+-- Two numbers are equal or not.
+pub on-equal : {C : Type 0} (a b : ℕ) → (a ≡ b → C) → ((a ≡ b → ⊥) → C) → C
+on-equal {C} a b f g = go (ℕ-discrete a b)
+  where
+    go : Dec (a ≡ b) → C
+    go (yes e) = f e
+    go (no n) = g n
+
+-- Nothing is both none and some number.
+pub none-some : {C : Type 0} {o : Option ℕ} {x : ℕ} → o ≡ none → o ≡ some x → C
+none-some {x} e f = absurd (Option·none-ne-some x (sym e ∙ f))
+
+-- No test is both true and false.
+pub true-false : {C : Type 0} {b : Bool} → b ≡ true → b ≡ false → C
+true-false e f = absurd (true≢false (sym e ∙ f))

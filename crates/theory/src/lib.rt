@@ -1,0 +1,1 @@
+// Definitions and laws only: the crate has no code. See specs/.
