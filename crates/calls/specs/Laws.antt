@@ -2,3 +2,5 @@
 pub mod Questions
 pub mod Networks
 pub mod Calls
+pub mod Reach
+pub mod Tables

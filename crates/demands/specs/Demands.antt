@@ -22,6 +22,7 @@ use Rattle.calls.specs.Calls.{checkNumber, packNumber, packOutput, startNumber,
 use Rattle.calls.specs.Sequence.{Call, afterStart, afterCalls}
 use Rattle.calls.specs.declared.Ending.the-variants as ending
 use Rattle.calls.specs.Laws.Questions.{Described, check-passed, start-both, table-both}
+use Rattle.calls.specs.Laws.Networks.{share-range}
 use Rattle.calls.specs.Laws.Calls.{refusedAudit, audit-accepted, pack-kept}
 use Rattle.demands.specs.Packing.{pack-reads-back, pack-twice}
 use Rattle.demands.specs.Packing.Same.{SameStudy}
@@ -29,8 +30,8 @@ use Rattle.demands.specs.Refusals.{first-failing, PassRefused, RunRefuse
 use Rattle.demands.specs.Results.{Fresh, start-fresh, run-fresh, start-balances, run-balances, auditable-balances}
 use Rattle.demands.specs.RunEndings.{reached-exactly, counted}
 use Rattle.demands.specs.Sequences.{start-auditable, calls-auditable}
-use Rattle.demands.specs.Studies.{unreachable-exactly}
-use Rattle.demands.specs.Tables.{share-range, table-bound}
+use Rattle.demands.specs.Unreachable.{unreachable-exactly}
+use Rattle.calls.specs.Laws.Tables.{table-bound}
 
 -- Demand 1. What fails one of its call's questions is refused under the number of the first it fails, with every other number zero and
 -- all lent memory unchanged; all else is accepted. (The number of each call is `firstNo` of its list in `calls/specs/Questions.antt`. That

@@ -8,7 +8,7 @@ use Rattle.calls.specs.Sequence.{Call, afterStart, afterCalls}
 use Rattle.calls.specs.Cases.{town, computed}
 use Rattle.calls.specs.Laws.Questions.{Described, check-passed}
 use Rattle.demands.specs.Demands.{Bounds, Certified, demand-3}
-use Rattle.demands.specs.Studies.{all-permitted}
+use Rattle.calls.specs.Laws.Reach.{all-permitted}
 
 -- A study that passes questions 1 to 11.
 pub town-described : Described town

@@ -5,6 +5,5 @@ pub mod Results
 pub mod Sequences
 pub mod RunEndings
 pub mod Packing
-pub mod Studies
-pub mod Tables
+pub mod Unreachable
 pub mod Instances

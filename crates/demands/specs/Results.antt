@@ -10,13 +10,12 @@ use lib.Seq.{take-at, drop-at}
 use Rattle.theory.specs.Network.{Network}
 use Rattle.theory.specs.Moves.{Shared, tableSize, started, move, afterMoves, judged, lastJudged}
 use Rattle.theory.specs.Laws.Conserving.{Balanced, conserves-balanced}
-use Rattle.theory.specs.Laws.Runs.{tables-have}
 use Rattle.calls.specs.Study.{networkOf}
 use Rattle.calls.specs.Calls.{overwritten, startNumber, startTable, tableNumber, passAnswer, passTable, runNumber, runAnswer, runTable}
 use Rattle.calls.specs.Sequence.{Call, afterStart, afterCall}
 use Rattle.calls.specs.Laws.Questions.{Passed, SharePassed, check-passed, start-both, run-both, table-both}
 use Rattle.calls.specs.Laws.Calls.{start-written, pass-accepted, pass-table, run-accepted, run-written}
-use Rattle.demands.specs.Tables.{started-length, moved-length, run-passes, overwritten-passes}
+use Rattle.calls.specs.Laws.Tables.{started-length, run-length, run-passes, overwritten-passes}
 use Rattle.demands.specs.Sequences.{start-auditable, call-auditable}
 
 -- A table that the audit's questions accept balances at every node other than the destination: what leaves equals what enters plus the
@@ -47,10 +46,6 @@ module _ (file table : List ℕ) where
   unfolding afterStart
   start-balances s = auditable-balances file (startTable file table) 1 (start-auditable file table s)
 
-  run-length : Passed file → (i : ℕ) → length (afterMoves (networkOf file) i .table) ≡ tableSize (networkOf file)
-  run-length study =
-      tables-have (networkOf file) (λ x. length (x .table) ≡ tableSize (networkOf file)) (started-length file study) (λ x x′ p e. moved-length file study x x′ e)
-
 module _ (file table : List ℕ) (budget excess : ℕ) where
   run-study : runNumber file table budget ≡ 0 → Passed file
   run-study r = check-passed file (start-both file table (run-both file table budget r .0) .0)
@@ -61,7 +56,7 @@ module _ (file table : List ℕ) (budget excess : ℕ) where
   run-fresh r =
       rw (run-written file table budget excess r)
       (overwritten-fresh (tableSize (networkOf file)) (lastJudged (networkOf file) budget excess .table) table
-      (run-length file table (run-study r) (pred (judged (networkOf file) budget excess))))
+      (run-length file (run-study r) (pred (judged (networkOf file) budget excess))))
 
   -- The answer of a run does not depend on the table's contents at all.
   pub run-same-answer : (other : List ℕ) → runNumber file table budget ≡ 0 → runNumber file other budget ≡ 0
@@ -77,4 +72,4 @@ module _ (file table : List ℕ) (budget excess : ℕ) where
       let i = pred (judged g budget excess) in
       rw (run-accepted file table budget excess r, run-written file table budget excess r)
       (conserves-balanced g (afterMoves g i .share) (overwritten (afterMoves g i .table) table)
-      (overwritten-passes file study (afterMoves g i .table) table (afterMoves g i .share) (run-length file table study i) (run-passes file study i) .conserving))
+      (overwritten-passes file study (afterMoves g i .table) table (afterMoves g i .share) (run-length file study i) (run-passes file study i) .conserving))

@@ -12,14 +12,13 @@ use Rattle.theory.specs.Network.{Network, totalTrips}
 use Rattle.theory.specs.Cost.{gap}
 use Rattle.theory.specs.Moves.{Shared, move, moves, reaches, stops, judged, lastJudged}
 use Rattle.theory.specs.Laws.Cases.{on-test}
-use Rattle.theory.specs.Laws.Finite.{and-left}
 use Rattle.theory.specs.Laws.Runs.{Judged, judged-has, last-stops, stops-by}
 use Rattle.calls.specs.Study.{networkOf}
-use Rattle.calls.specs.Questions.{budgetFits}
 use Rattle.calls.specs.Calls.{runNumber, endingAt, runAnswer}
 use Rattle.calls.specs.declared.Ending.{Ending}
 use Rattle.calls.specs.declared.Ending.the-variants as ending
 use Rattle.calls.specs.Laws.Questions.{run-both}
+use Rattle.calls.specs.Laws.Networks.{budget-range}
 use Rattle.calls.specs.Laws.Calls.{run-accepted}
 
 -- 'Reached' is the first case of an ending, and no other case.
@@ -27,10 +26,6 @@ reached-when : (a b : Bool) → (cond a ending.Reached (cond b ending.Spent endi
 reached-when true b = (λ e. refl, λ e. refl)
 reached-when false true = (λ e. let z : _≡_ {A = ℕ} 0 1 = cc in absurd (omega arith), λ e. absurd (true≢false (sym e)))
 reached-when false false = (λ e. let z : _≡_ {A = ℕ} 0 1 = cc in absurd (omega arith), λ e. absurd (true≢false (sym e)))
-
-budget-range : (budget : ℕ) → budgetFits budget ≡ true → 1 ≤ budget
-unfolding budgetFits
-budget-range budget e = leb-true 1 budget (and-left (leb 1 budget) (leb budget 1024) e)
 
 ending-reached : (g : Network) (excess : ℕ) (x : Shared)
     → (endingAt g excess x ≡ ending.Reached) ↔ (gap g (x .share) (x .table) ≤ excess * x .share * totalTrips g)
@@ -50,7 +45,7 @@ module _ (file table : List ℕ) (budget excess : ℕ) (r : runNumber file table
   pub counted : Judged (networkOf file) budget excess (runAnswer file table budget excess .judged)
   counted =
       rw (run-accepted file table budget excess r)
-      (judged-has (networkOf file) budget excess (budget-range budget (run-both file table budget r .1)))
+      (judged-has (networkOf file) budget excess (budget-range budget (run-both file table budget r .1) .0))
 
 -- Where the last judged table stops the run, the ending is not 'spent'.
 not-spent : (g : Network) (excess : ℕ) (x : Shared) → stops g excess x ≡ true → endingAt g excess x ≡ ending.Spent → ⊥

@@ -1,30 +1,20 @@
 -- Demand 3's list of calls: whatever passes and audits follow a start, the table passes the audit's questions at the share reached.
 use Prim.Native.Nat.{ℕ, zero, suc, _+_, _*_, _≤_, _<_}
-use native.Mathlib.Nat.{le-of-eq}
 use native.Mathlib.Omega.{arith}
 use mathlib.Core.Path.{_≡_, refl, sym, _∙_, ap}
 use mathlib.Core.Bool.{Bool, true, false, cond}
 use mathlib.Core.List.{List, [], _∷_}
 use mathlib.Core.Option.{Option, none, some}
 use lib.ListN.{length}
-use lib.Dec.{leb, eqb, eqb·suc-zero}
-use borrow.Author.Tests.{leb-true, le-leb}
+use lib.Dec.{eqb·suc-zero}
 use Rattle.theory.specs.Moves.{Shared, tableSize, started, move}
 use Rattle.calls.specs.Study.{networkOf}
-use Rattle.calls.specs.Questions.{tableHolds}
 use Rattle.calls.specs.Calls.{overwritten, startNumber, startTable, tableNumber, shareAfter, tableAfter, passAnswer, passTable}
 use Rattle.calls.specs.Sequence.{Call, afterStart, afterCall, afterCalls}
 use Rattle.calls.specs.Laws.Questions.{Passed, SharePassed, check-passed, start-both, both-start, table-both, both-table}
+use Rattle.calls.specs.Laws.Networks.{holds-length, length-holds}
 use Rattle.calls.specs.Laws.Calls.{refusedPass, start-written, pass-accepted, pass-table, pass-refused, pass-kept}
-use Rattle.demands.specs.Tables.{started-passes, started-length, moved-passes, moved-length, overwritten-passes, overwritten-length}
-
-holds-length : (file table : List ℕ) → tableHolds (networkOf file) table ≡ true → tableSize (networkOf file) ≤ length table
-unfolding tableHolds
-holds-length file table e = leb-true (tableSize (networkOf file)) (length table) e
-
-length-holds : (file table : List ℕ) → tableSize (networkOf file) ≤ length table → tableHolds (networkOf file) table ≡ true
-unfolding tableHolds
-length-holds file table p = le-leb (tableSize (networkOf file)) (length table) p
+use Rattle.calls.specs.Laws.Tables.{started-passes, started-length, moved-passes, moved-length, overwritten-passes, overwritten-length}
 
 module _ (file : List ℕ) where
   -- A table written over a lent one that passes question 12 passes the audit's questions, if it passes 14 to 16 at its share.
@@ -32,10 +22,10 @@ module _ (file : List ℕ) where
       → tableNumber file (overwritten new old) share ≡ 0
   overwritten-accepted new old share s size p =
       let parts = start-both file old s in
-      let long = holds-length file old (parts .1) in
+      let long = holds-length (networkOf file) old (parts .1) in
       let kept-length = overwritten-length new old (omega arith) in
       both-table file (overwritten new old) share
-      (both-start file (overwritten new old) (parts .0) (length-holds file (overwritten new old) (omega arith)))
+      (both-start file (overwritten new old) (parts .0) (length-holds (networkOf file) (overwritten new old) (omega arith)))
       (overwritten-passes file (check-passed file (parts .0)) new old share size p)
 
   -- The audit's questions pass of a table at a share.

@@ -1,22 +1,23 @@
--- What questions 1 to 10 say of the network that a study describes.
+-- What the questions say of numbers, tables and the network that a study describes.
 use Prim.Native.Nat.{ℕ, zero, suc, _+_, _*_, _/_, _^_, _-_, _≤_, _<_}
 use native.Mathlib.Nat.{mul-le-mul-left, pow-le-pow-left, le-div-iff-mul-le, le-refl, le-trans}
 use native.Mathlib.Omega.{arith}
 use mathlib.Core.Path.{_≡_, refl, sym, _∙_}
 use mathlib.Core.Bool.{Bool, true, false, not, _&&_}
 use mathlib.Core.List.{List}
-use lib.ListN.{getD}
+use lib.ListN.{length, getD}
 use lib.Dec.{leb, ltb, eqb}
-use borrow.Author.Tests.{ltb-true, leb-true, eqb-true, eqb-false, not-true}
+use borrow.Author.Tests.{ltb-true, leb-true, le-leb, eqb-true, eqb-false, not-true}
 use Rattle.study.specs.Fields.{freeTime, rise, capacity}
 use Rattle.study.specs.Sections.{links}
 use Rattle.study.specs.Questions.{within}
 use Rattle.theory.specs.Finite.{all}
 use Rattle.theory.specs.Network.{Network, Sound, totalTrips}
 use Rattle.theory.specs.Flows.{stepTime}
-use Rattle.theory.specs.Laws.Finite.{all-elim, and-left, and-right}
+use Rattle.theory.specs.Moves.{tableSize}
+use Rattle.theory.specs.Laws.Finite.{all-elim, and-left, and-right, both}
 use Rattle.calls.specs.Study.{linkFields, destinationNodes, tripEntries, networkFrom, networkOf}
-use Rattle.calls.specs.Questions.{endsFit, timesFit, destinationsFit, noTripsWithin, totalFits}
+use Rattle.calls.specs.Questions.{endsFit, timesFit, destinationsFit, noTripsWithin, totalFits, tableHolds, budgetFits, shareFits}
 use Rattle.calls.specs.Laws.Questions.{Described}
 
 -- A quotient does not fall as the number divided grows.
@@ -41,6 +42,29 @@ within-both least most x e =
 
 not-equal : (a b : ℕ) → not (eqb a b) ≡ true → a ≡ b → ⊥
 not-equal a b e = eqb-false a b (not-true (eqb a b) e)
+
+-- Question 14 says that a share is 1 to 1,024,
+pub share-range : (share : ℕ) → shareFits share ≡ true → (1 ≤ share) × (share ≤ 1024)
+unfolding shareFits
+share-range share e = within-both 1 1024 share e
+
+pub range-share : (share : ℕ) → 1 ≤ share → share ≤ 1024 → shareFits share ≡ true
+unfolding shareFits
+range-share share low high = both (leb 1 share) (leb share 1024) (le-leb 1 share low) (le-leb share 1024 high)
+
+-- question 13 that a budget is,
+pub budget-range : (budget : ℕ) → budgetFits budget ≡ true → (1 ≤ budget) × (budget ≤ 1024)
+unfolding budgetFits
+budget-range budget e = within-both 1 1024 budget e
+
+-- and question 12 that a table holds p·m numbers.
+pub holds-length : (g : Network) (table : List ℕ) → tableHolds g table ≡ true → tableSize g ≤ length table
+unfolding tableHolds
+holds-length g table e = leb-true (tableSize g) (length table) e
+
+pub length-holds : (g : Network) (table : List ℕ) → tableSize g ≤ length table → tableHolds g table ≡ true
+unfolding tableHolds
+length-holds g table p = le-leb (tableSize g) (length table) p
 
 -- The fields of one link, by question 7.
 pub record FieldsFit (free rise capacity : ℕ) : Type 0 where

@@ -7,15 +7,13 @@ use mathlib.Core.Bool.{Bool, true, false, cond}
 use mathlib.Core.List.{List, [], _∷_, _++_}
 use mathlib.Core.Option.{Option, none, some}
 use lib.ListN.{length, getD, take, drop, length-append, length-drop, List·getD-append}
-use lib.Dec.{leb, eqb}
-use borrow.Author.Tests.{leb-true, le-leb}
 use Rattle.theory.specs.Finite.{tabulate}
 use Rattle.theory.specs.Network.{Network, Sound, totalTrips}
 use Rattle.theory.specs.Flows.{conserves, Carries, totalsFit, times, total}
 use Rattle.theory.specs.Routes.{routing, loading}
 use Rattle.theory.specs.Cost.{cost, gap}
 use Rattle.theory.specs.Moves.{Shared, tableSize, started, added, doubled, move, afterMoves}
-use Rattle.theory.specs.Laws.Finite.{getD-tabulate, and-left, and-right, both}
+use Rattle.theory.specs.Laws.Finite.{getD-tabulate}
 use Rattle.theory.specs.Laws.Local.{conserves-same, totalsFit-same}
 use Rattle.theory.specs.Laws.Routings.{Timed, times-timed, routing-consistent}
 use Rattle.theory.specs.Laws.Loading.{length-loading, loading-carries, loading-total, loading-totals-fit}
@@ -23,25 +21,14 @@ use Rattle.theory.specs.Laws.Bound.{bound}
 use Rattle.theory.specs.Laws.Tables.{length-added, length-doubled}
 use Rattle.theory.specs.Laws.Moves.{Pass, moved, move-share, move-carries, move-fits}
 use Rattle.theory.specs.Laws.Runs.{tables-have}
 use Rattle.calls.specs.Study.{networkOf}
-use Rattle.calls.specs.Questions.{shareFits, tableHolds}
 use Rattle.calls.specs.Calls.{overwritten}
 use Rattle.calls.specs.Laws.Questions.{Passed, SharePassed}
-use Rattle.calls.specs.Laws.Networks.{sound}
-use Rattle.demands.specs.Studies.{all-permitted, served}
-
--- A share within question 14.
-pub share-range : (share : ℕ) → shareFits share ≡ true → (1 ≤ share) × (share ≤ 1024)
-unfolding shareFits
-share-range share e =
-    (leb-true 1 share (and-left (leb 1 share) (leb share 1024) e), leb-true share 1024 (and-right (leb 1 share) (leb share 1024) e))
-
-range-share : (share : ℕ) → 1 ≤ share → share ≤ 1024 → shareFits share ≡ true
-unfolding shareFits
-range-share share low high = both (leb 1 share) (leb share 1024) (le-leb 1 share low) (le-leb share 1024 high)
+use Rattle.calls.specs.Laws.Networks.{share-range, range-share, sound}
+use Rattle.calls.specs.Laws.Reach.{all-permitted, served}
 
 -- The numbers that a call writes over the first p·m numbers of a table are what the definitions read of it.
-overwritten-front : (new old : List ℕ) (i : ℕ) → i < length new → getD new i 0 ≡ getD (overwritten new old) i 0
+pub overwritten-front : (new old : List ℕ) (i : ℕ) → i < length new → getD new i 0 ≡ getD (overwritten new old) i 0
 unfolding overwritten
 overwritten-front new old i p = sym (List·getD-append new (drop (length new) old) 0 i p)
 
@@ -109,6 +96,10 @@ module _ (file : List ℕ) (h : Passed file) where
   pub run-passes : (i : ℕ) → SharePassed file (afterMoves g i .table) (afterMoves g i .share)
   unfolding started
   run-passes = tables-have g (λ x. SharePassed file (x .table) (x .share)) started-passes (λ x x′ p e. moved-passes x x′ p e)
+
+  pub run-length : (i : ℕ) → length (afterMoves g i .table) ≡ tableSize g
+  run-length =
+      tables-have g (λ x. length (x .table) ≡ tableSize g) started-length (λ x x′ p e. moved-length x x′ e)
 
   -- Written over the first numbers of a longer table, a table passes as it did before.
   pub overwritten-passes : (new old : List ℕ) (share : ℕ) → length new ≡ tableSize g → SharePassed file new share → SharePassed file (overwritten new old) share

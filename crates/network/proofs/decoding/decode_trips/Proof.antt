@@ -1,0 +1,50 @@
+-- `network::decode_trips` meets its contract.
+use borrow.Author.Needs.{needs}
+use denote.Ref.{now}
+use mathlib.Core.Path.{_≡_, ap, _∙_}
+use native.Mathlib.Nat.{mul-le-mul-right}
+use native.Mathlib.Omega.{arith}
+use Prim.Native.Nat.{_≤_, _+_, _-_}
+use Rattle.theory.specs.Finite.{rows}
+use Rattle.network.specs.Decoded.{padded, entriesIn, HasRows}
+use Rattle.network.specs.Laws.Decoding.{padded-none}
+use Rattle.network.proofs.decoding.decode_trips.Statement.{statement}
+use Rattle.network.proofs.decoding.decode_trips.Tie as tie
+
+abbrev Inv-loop : tie.InvT-loop
+Inv-loop trips p n entries₀ k₀ entries k = (k ≤ p) × (entries ≡ padded 4096 (entriesIn trips n k))
+
+abbrev μ-loop : tie.MeasureT-loop
+μ-loop trips p n entries₀ k₀ entries k = p - k
+
+loop-holds : tie.Need-loop-holds Inv-loop μ-loop
+unfolding entriesIn rows
+loop-holds c = (search needs, padded-none 4096)
+
+decode-row-requires : tie.Need-decode-row-requires Inv-loop μ-loop
+unfolding HasRows
+decode-row-requires c κs =
+    let start = c .before .before .before .before in
+    let k = c .before .before .loop .k in
+    let within = mul-le-mul-right {m = k + 1} {n = start .args .p} (start .args .n) (omega arith) in
+    (omega arith, start .pre .1 k (search needs), c .before .before .loop .inv .1)
+
+add-k : tie.Need-add-k Inv-loop μ-loop
+add-k c = search needs
+
+loop-less : tie.Need-loop-less Inv-loop μ-loop
+loop-less c = search needs
+
+loop-again : tie.Need-loop-again Inv-loop μ-loop
+loop-again c = (search needs, c .decode-row .ensures)
+
+returns : tie.Need-returns Inv-loop μ-loop
+returns c =
+    let start = c .before .before .before in
+    let last : c .before .loop .k ≡ start .args .p = omega arith in
+    c .before .loop .inv .1 ∙ ap (λ k. padded 4096 (entriesIn (now (start .args .trips)) (start .args .n) k)) last
+
+pub decode-trips-spec : {M : Type 1} → statement M
+decode-trips-spec =
+    tie.close
+    (tie.spec Inv-loop μ-loop loop-holds decode-row-requires add-k loop-less loop-again returns)

@@ -1,0 +1,6 @@
+-- The laws of the definitions above.
+pub mod Decoding
+pub mod Questions
+pub mod Reach
+pub mod Answers
+pub mod Packing

@@ -1,0 +1,17 @@
+// Document 01: the study as a network. Decoding, questions 6 to 11, check and pack. Nothing here
+// knows of flow tables or shares.
+mod checking;
+mod decoding;
+mod numbers;
+mod packing;
+mod questions;
+mod reach;
+
+pub use checking::check;
+pub use checking::study_refusal;
+pub use decoding::Links;
+pub use decoding::decode_destinations;
+pub use decoding::decode_links;
+pub use decoding::decode_trips;
+pub use packing::pack;
+pub use questions::total_trips;

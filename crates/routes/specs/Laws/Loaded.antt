@@ -1,0 +1,134 @@
+-- Where the next links are the definition's, what is sent along them is the loading.
+use Prim.Native.Nat.{ℕ, zero, suc, _+_, _*_, _≤_, _<_, _^_}
+use native.Mathlib.Nat.{mul-le-mul-left}
+use native.Mathlib.Omega.{arith}
+use mathlib.Core.Path.{_≡_, refl, sym, _∙_, ap}
+use mathlib.Core.List.{List, _++_, map}
+use mathlib.Core.Logic.{⊎-elim}
+use mathlib.Core.Option.{Option, none, some}
+use lib.ListN.{length, getD, drop, length-map, List·getD-map, List·getD-eq-default}
+use borrow.Author.Tests.{ne-eqb}
+use Rattle.theory.specs.Finite.{sum}
+use Rattle.theory.specs.Routes.{Routing, distances, distance, fitsNext, nextLinks, walk, occurrences}
+use Rattle.theory.specs.Laws.Cases.{on-option}
+use Rattle.theory.specs.Laws.Finite.{order, sum-cong, sum-mono, sum-term, first-some, tabulate-cong}
+use Rattle.theory.specs.Laws.Next.{length-next, next-first, next-without-path}
+use Rattle.theory.specs.Laws.Walks.{walkFrom, walk-once}
+use Rattle.theory.specs.Laws.Loading.{loaded as flow, row-loaded}
+use Rattle.routes.specs.Search.{routingFrom, noLink, linkMark, linkMarks, loaded}
+use Rattle.routes.specs.Given.{Searchable}
+use Rattle.routes.specs.Along.{linkOf, walkAlong, flowAlong, sentAlong, loadedAlong, Followable, Loadable}
+use Rattle.routes.specs.Laws.Padded.{getD-default, length-padded}
+use Rattle.routes.specs.Laws.Found.{well-formed}
+use Rattle.routes.specs.Laws.Next.{link-marks-at}
+use Rattle.routes.specs.Laws.Along.{walk-stops}
+
+-- Walks go by what the next links are, place by place.
+walk-cong : (head : ℕ → ℕ) (a b : List (Option ℕ)) → ((j : ℕ) → getD a j none ≡ getD b j none) → (most j : ℕ) → walk head a most j ≡ walk head b most j
+unfolding walk
+walk-cong head a b same zero j = refl
+walk-cong head a b same (suc most) j =
+    on-option (getD b j none)
+    (λ e. rw (walk, same j, e))
+    (λ l e. rw (walk, same j, e, walk-cong head a b same most (head l)))
+
+-- A mark of a next link stands for the link.
+module _ (q : Routing) (few-nodes : q .nodes ≤ 128) (few-links : q .links ≤ 512) where
+  length-marks : length (linkMarks q) ≡ 128
+  unfolding linkMarks linkMark
+  length-marks = length-padded linkMark (nextLinks q) (q .nodes) (length-next q) few-nodes
+
+  next-below : (j l : ℕ) → j < q .nodes → getD (nextLinks q) j none ≡ some l → l < q .links
+  next-below j l h e = first-some (q .links) (fitsNext q (distances q) j) l (sym (next-first q j h) ∙ e) .below
+
+  link-of : (j : ℕ) → j < 128 → linkOf (getD (linkMarks q) j 0) ≡ getD (nextLinks q) j none
+  unfolding linkOf linkMark
+  link-of j h =
+      ⊎-elim
+      (λ b.
+      on-option (getD (nextLinks q) j none)
+      (λ e. rw (link-marks-at q few-nodes j h, e))
+      (λ l e. rw (link-marks-at q few-nodes j h, e, ne-eqb l noLink (λ f. omega (arith, next-below j l b e)))))
+      (λ b. rw (link-marks-at q few-nodes j h, List·getD-eq-default (nextLinks q) none {n = j} (omega (arith, length-next q))))
+      (order j (q .nodes))
+
+  links-of : (j : ℕ) → getD (map linkOf (linkMarks q)) j none ≡ getD (nextLinks q) j none
+  unfolding linkOf
+  links-of j =
+      ⊎-elim
+      (λ b.
+      List·getD-map linkOf (linkMarks q) j noLink
+      ∙ ap linkOf (getD-default (linkMarks q) j noLink 0 (omega (arith, length-marks)))
+      ∙ link-of j b)
+      (λ b.
+      List·getD-eq-default (map linkOf (linkMarks q)) none (omega (arith, length-map (linkMarks q) linkOf, length-marks))
+      ∙ sym (List·getD-eq-default (nextLinks q) none (omega (arith, length-next q))))
+      (order j 128)
+
+module _ {n m : ℕ} {tails heads times : List ℕ} {s : ℕ} (g : Searchable n m tails heads times s)
+    {next : List ℕ} (next≡ : next ≡ linkMarks (routingFrom n m tails heads times s)) where
+  pub followable : Followable n m heads next
+  unfolding routingFrom linkMark
+  followable =
+      rw next≡
+      (record {
+        few-nodes = g .few-nodes;
+        few-links = g .few-links;
+        size = length-marks (routingFrom n m tails heads times s) (g .few-nodes) (g .few-links);
+        head-node = g .head-node;
+        next-link = λ j h some-link.
+            let at = link-marks-at (routingFrom n m tails heads times s) (g .few-nodes) j (omega (arith, g .few-nodes)) in
+            on-option (getD (nextLinks (routingFrom n m tails heads times s)) j none)
+            (λ e. absurd (some-link (at ∙ ap linkMark e)))
+            (λ l e. rw (at, e) (next-below (routingFrom n m tails heads times s) (g .few-nodes) (g .few-links) j l h e));
+      })
+
+  walk-along : (j : ℕ) → walkAlong heads next n j ≡ walkFrom (routingFrom n m tails heads times s) j
+  unfolding routingFrom walkAlong
+  walk-along j =
+      rw next≡
+      (walk-cong (λ l. getD heads l 0) (map linkOf (linkMarks (routingFrom n m tails heads times s))) (nextLinks (routingFrom n m tails heads times s))
+      (links-of (routingFrom n m tails heads times s) (g .few-nodes) (g .few-links)) n j)
+
+  flow-along : (trips : ℕ → ℕ) (l : ℕ) → flowAlong n heads next trips n l ≡ flow (routingFrom n m tails heads times s) trips l
+  unfolding routingFrom flowAlong flow
+  flow-along trips l = sum-cong n _ _ (λ j h. ap (λ path. trips j * occurrences l path) (walk-along j))
+
+  -- The loaded row is the definition's.
+  pub loaded-along : (trips : ℕ → ℕ) (weight : ℕ) (row : List ℕ)
+      → loadedAlong n m heads next trips weight row ≡ loaded (routingFrom n m tails heads times s) trips weight row
+  unfolding routingFrom sentAlong loaded
+  loaded-along trips weight row =
+      ap (λ front. front ++ drop m row)
+      (tabulate-cong m _ _ (λ l h. ap (λ x. getD row l 0 + weight * x) (flow-along trips l ∙ sym (row-loaded (routingFrom n m tails heads times s) trips l h))))
+
+  -- A walk uses a link at most once, and a node without a path has no walk.
+  once : (j l : ℕ) → j < n → occurrences l (walkAlong heads next n j) ≤ 1
+  unfolding routingFrom linkMark
+  once j l h =
+      on-option (distance (routingFrom n m tails heads times s) j) without
+      (λ y e. rw (walk-along j) (walk-once (routingFrom n m tails heads times s) (well-formed g) j y h e l))
+    where
+      without : distance (routingFrom n m tails heads times s) j ≡ none → occurrences l (walkAlong heads next n j) ≤ 1
+      without e =
+          let at = link-marks-at (routingFrom n m tails heads times s) (g .few-nodes) j (omega (arith, g .few-nodes)) in
+          let no-next : getD next j 0 ≡ noLink = rw next≡ (at ∙ ap linkMark (next-without-path (routingFrom n m tails heads times s) j h e)) in
+          rw (walk-stops followable h n no-next) (omega arith)
+
+  -- So no link takes more than all trips, and a loading can be added wherever all trips can be added to each number.
+  pub loadable : {trips : List ℕ} {weight : ℕ} {row : List ℕ} → n ≤ length trips → m ≤ length row
+      → weight * sum n (λ j. getD trips j 0) < 2 ^ 32
+      → ((l : ℕ) → l < m → getD row l 0 + weight * sum n (λ j. getD trips j 0) < 2 ^ 32)
+      → Loadable n m heads next trips weight row
+  unfolding flowAlong
+  loadable {trips} {weight} {row} has-trips has-links small fits =
+      record {
+        followable = followable;
+        has-links = has-links;
+        has-trips = has-trips;
+        amount-fits = λ j h. omega (arith, mul-le-mul-left weight (sum-term n (λ j. getD trips j 0) j h));
+        fits = λ l h. omega (arith, fits l h, mul-le-mul-left weight (at-most l));
+      }
+    where
+      at-most : (l : ℕ) → sum n (λ j. getD trips j 0 * occurrences l (walkAlong heads next n j)) ≤ sum n (λ j. getD trips j 0)
+      at-most l = sum-mono n _ _ (λ j h. omega (arith, mul-le-mul-left (getD trips j 0) (once j l h)))

@@ -1,0 +1,305 @@
+-- A least-time search by scans: what it sets out with, what one link changes, and what a scan and a sweep of scans do.
+use Prim.Native.Nat.{ℕ, zero, suc, _+_, _*_, _≤_, _<_}
+use native.Mathlib.Nat.{le-refl}
+use native.Mathlib.Omega.{arith}
+use mathlib.Core.Path.{_≡_, refl, sym, _∙_, ap}
+use mathlib.Core.List.{List}
+use mathlib.Core.Logic.{inl, inr, ⊎-elim}
+use lib.ListN.{length, getD, set, length-set, length-replicate, getD-replicate}
+use lib.Seq.{getD-set-same, getD-set-other}
+use borrow.Author.Count.{below-more}
+use borrow.Author.Tests.{lt-ltb, le-ltb}
+use Rattle.theory.specs.Finite.{sum}
+use Rattle.theory.specs.Laws.Cases.{on-equal}
+use Rattle.theory.specs.Laws.Finite.{below-suc, order, sum-cong}
+use Rattle.routes.specs.Search.{unreached, noLink}
+use Rattle.routes.specs.Given.{Searchable, longest}
+use Rattle.routes.specs.Chains.{Linked}
+use Rattle.routes.specs.Marks.{allUnreached, total, reach, reached, relaxed, Attained, Searching, Scanning, Scanned, Scans, Swept}
+use Rattle.routes.specs.Laws.Chains.{chain-begins, chain-goes, chain-ends, chain-map}
+
+-- A sum over a list of which one element is another.
+module _ (f : ℕ → ℕ) (d : List ℕ) (t v : ℕ) (inside : t < length d) where
+  sum-set : (n : ℕ) → t < n → sum n (λ i. f (getD (set d t v) i 0)) + f (getD d t 0) ≡ sum n (λ i. f (getD d i 0)) + f v
+  unfolding sum
+  sum-set zero h = absurd (omega arith)
+  sum-set (suc n) h = ⊎-elim (λ p. below p (sum-set n p)) here (below-suc n t h)
+    where
+      below : t < n → sum n (λ i. f (getD (set d t v) i 0)) + f (getD d t 0) ≡ sum n (λ i. f (getD d i 0)) + f v
+          → sum n (λ i. f (getD (set d t v) i 0)) + f (getD (set d t v) n 0) + f (getD d t 0) ≡ sum n (λ i. f (getD d i 0)) + f (getD d n 0) + f v
+      below p rest = omega (arith, rest, ap f (getD-set-other d t n v 0 (λ e. omega (arith, p, e))))
+
+      here : t ≡ n → sum n (λ i. f (getD (set d t v) i 0)) + f (getD (set d t v) n 0) + f (getD d t 0) ≡ sum n (λ i. f (getD d i 0)) + f (getD d n 0) + f v
+      here e =
+          let others = sum-cong n (λ i. f (getD (set d t v) i 0)) (λ i. f (getD d i 0))
+          (λ i p. ap f (getD-set-other d t i v 0 (λ q. omega (arith, p, q, e)))) in
+          let at-t : f (getD (set d t v) n 0) ≡ f v = ap f (ap (λ i. getD (set d t v) i 0) (sym e) ∙ getD-set-same d t v 0 inside) in
+          omega (arith, others, at-t, ap (λ i. f (getD d i 0)) e)
+
+-- The sum of all marks falls with one of them.
+total-falls : (d : List ℕ) (t v : ℕ) → t < length d → t < 128 → v < getD d t 0 → total (set d t v) + 1 ≤ total d
+unfolding total
+total-falls d t v inside h less = omega (arith, sum-set (λ y. y) d t v inside 128 h)
+
+-- One link: it lowers its tail's mark, or leaves all marks as they are.
+module _ (d : List ℕ) (tail head time v y : ℕ) (v≡ : v ≡ time + getD d head 0) (y≡ : y ≡ getD d tail 0) where
+  pub relaxed-lower : v < y → set d tail v ≡ relaxed d tail head time
+  unfolding relaxed
+  relaxed-lower h = rw (v≡, lt-ltb (time + getD d head 0) (getD d tail 0) (omega arith))
+
+  pub relaxed-same : y ≤ v → d ≡ relaxed d tail head time
+  unfolding relaxed
+  relaxed-same h = rw (le-ltb (time + getD d head 0) (getD d tail 0) (omega arith))
+
+module _ {n m : ℕ} {tails heads times : List ℕ} {s : ℕ} (g : Searchable n m tails heads times s) where
+  -- A search sets out with all nodes marked unreached but the destination, which is at 0.
+  length-unreached : length allUnreached ≡ 128
+  unfolding allUnreached
+  length-unreached = length-replicate 128 unreached
+
+  at-unreached : (j : ℕ) → j < 128 → getD allUnreached j 0 ≡ unreached
+  unfolding allUnreached
+  at-unreached j h = getD-replicate 128 j unreached 0 h
+
+  inside : s < length allUnreached
+  inside = omega (arith, length-unreached)
+
+  at-destination : getD (set allUnreached s 0) s 0 ≡ 0
+  at-destination = getD-set-same allUnreached s 0 0 inside
+
+  elsewhere : (j : ℕ) → j < 128 → (j ≡ s → ⊥) → getD (set allUnreached s 0) j 0 ≡ unreached
+  elsewhere j h away = getD-set-other allUnreached s j 0 0 away ∙ at-unreached j h
+
+  one-reached : 1 ≤ reached (set allUnreached s 0)
+  unfolding reached
+  one-reached =
+      let a = sum-set reach allUnreached s 0 inside 128 (omega arith) in
+      let b : reach (getD allUnreached s 0) ≡ 0 = ap reach (at-unreached s (omega arith)) in
+      omega arith
+
+  pub sets-out : Searching m tails heads times n s (set allUnreached s 0)
+  sets-out =
+      record {
+        size = length-set allUnreached s 0 ∙ length-unreached;
+        destination = at-destination;
+        marked = λ j h. on-equal j s (λ e. rw e (omega (arith, at-destination))) (λ away. omega (arith, elsewhere j h away));
+        outside = λ j h k. elsewhere j k (λ e. omega arith);
+        attained = λ j h away r. absurd (omega (arith, elsewhere j (omega arith) away));
+        bounded = λ j h r.
+            on-equal j s (λ e. rw e (omega (arith, at-destination, one-reached))) (λ away. absurd (omega (arith, elsewhere j h away)));
+      }
+
+  -- A link l from t to k with time x that gives its tail less than its mark.
+  module _ {d : List ℕ} (w : Searching m tails heads times n s d) {l t k x : ℕ} (h : l < m)
+      (t≡ : getD tails l 0 ≡ t) (k≡ : getD heads l 0 ≡ k) (x≡ : getD times l 0 ≡ x) (less : x + getD d k 0 < getD d t 0)
+      {d′ : List ℕ} (d≡ : d′ ≡ set d t (x + getD d k 0)) where
+    t-node : t < n
+    t-node = omega (arith, g .tail-node l h)
+
+    k-node : k < n
+    k-node = omega (arith, g .head-node l h)
+
+    tail-mark : getD d t 0 ≤ unreached
+    tail-mark = w .marked t (omega (arith, t-node))
+
+    at-tail : getD d′ t 0 ≡ x + getD d k 0
+    at-tail = rw d≡ (getD-set-same d t (x + getD d k 0) 0 (omega (arith, t-node, w .size)))
+
+    off-tail : (j : ℕ) → (j ≡ t → ⊥) → getD d′ j 0 ≡ getD d j 0
+    off-tail j away = rw d≡ (getD-set-other d t j (x + getD d k 0) 0 away)
+
+    -- No mark rises,
+    lower-no-more : (j : ℕ) → getD d′ j 0 ≤ getD d j 0
+    lower-no-more j = on-equal j t (λ e. rw e (omega (arith, at-tail))) (λ away. omega (arith, off-tail j away))
+
+    -- and the tail is one more node that is reached, unless it was before.
+    reached-then : reached d′ + reach (getD d t 0) ≡ reached d + 1
+    unfolding reached
+    reached-then =
+        let a = sum-set reach d t (x + getD d k 0) (omega (arith, t-node, w .size)) 128 (omega (arith, t-node)) in
+        let b : reach (x + getD d k 0) ≡ 1 = omega (arith, tail-mark) in
+        omega (arith, ap reached d≡)
+
+    attained-then : (j : ℕ) → j < n → (j ≡ s → ⊥) → getD d′ j 0 < unreached → Attained m tails heads times d′ j
+    attained-then j b away r = on-equal j t here there
+      where
+        here : j ≡ t → Attained m tails heads times d′ j
+        here e =
+            record {
+              link = l;
+              below = h;
+              leaves = t≡ ∙ sym e;
+              head-reached = rw k≡ (omega (arith, lower-no-more k, tail-mark));
+              at-least = rw (k≡, x≡, e) (omega (arith, lower-no-more k, at-tail));
+            }
+
+        there : (j ≡ t → ⊥) → Attained m tails heads times d′ j
+        there off =
+            let a = w .attained j b away (omega (arith, off-tail j off)) in
+            record {
+              link = a .link;
+              below = a .below;
+              leaves = a .leaves;
+              head-reached = omega (arith, lower-no-more (getD heads (a .link) 0), a .head-reached);
+              at-least = omega (arith, lower-no-more (getD heads (a .link) 0), a .at-least, off-tail j off);
+            }
+
+    bounded-then : (j : ℕ) → j < 128 → getD d′ j 0 < unreached → getD d′ j 0 + longest ≤ longest * reached d′
+    bounded-then j b r = on-equal j t here there
+      where
+        here : j ≡ t → getD d′ j 0 + longest ≤ longest * reached d′
+        here e =
+            ⊎-elim
+            (λ (first : getD d t 0 ≡ unreached).
+            let head-bound = w .bounded k (omega (arith, k-node)) (omega (arith, tail-mark)) in
+            rw e (omega (arith, at-tail, reached-then, g .short-time l h)))
+            (λ (again : getD d t 0 < unreached). rw e (omega (arith, at-tail, reached-then, w .bounded t (omega (arith, t-node)) again)))
+            (⊎-elim (λ p. inr p) (λ p. inl (omega (arith, p, tail-mark))) (order (getD d t 0) unreached))
+
+        there : (j ≡ t → ⊥) → getD d′ j 0 + longest ≤ longest * reached d′
+        there off = omega (arith, off-tail j off, reached-then, w .bounded j b (omega (arith, off-tail j off)))
+
+    lower-searching : Searching m tails heads times n s d′
+    lower-searching =
+        record {
+          size = ap length d≡ ∙ length-set d t (x + getD d k 0) ∙ w .size;
+          destination = omega (arith, lower-no-more s, w .destination);
+          marked = λ j b. omega (arith, lower-no-more j, w .marked j b);
+          outside = λ j b c. off-tail j (λ e. omega (arith, e, t-node)) ∙ w .outside j b c;
+          attained = attained-then;
+          bounded = bounded-then;
+        }
+
+  -- What a relaxed link makes of the marks of a search.
+  record Relaxing (d : List ℕ) (l k : ℕ) (d′ : List ℕ) : Type 0 where
+    searching : Searching m tails heads times n s d′
+    no-more : (j : ℕ) → getD d′ j 0 ≤ getD d j 0
+    kept : getD d′ k 0 ≡ getD d k 0
+    settled : getD d′ (getD tails l 0) 0 ≤ getD times l 0 + getD d′ k 0
+
+  relaxing : {d : List ℕ} → Searching m tails heads times n s d → (l k : ℕ) → l < m → getD heads l 0 ≡ k
+      → Relaxing d l k (relaxed d (getD tails l 0) k (getD times l 0))
+  relaxing {d} w l k h k≡ = ⊎-elim lower same (order (getD times l 0 + getD d k 0) (getD d (getD tails l 0) 0))
+    where
+      lower : getD times l 0 + getD d k 0 < getD d (getD tails l 0) 0 → Relaxing d l k (relaxed d (getD tails l 0) k (getD times l 0))
+      lower less =
+          let d≡ = sym (relaxed-lower d (getD tails l 0) k (getD times l 0) _ _ refl refl less) in
+          let away : k ≡ getD tails l 0 → ⊥ = λ e. let same-mark = ap (λ i. getD d i 0) e in omega arith in
+          let kept = off-tail w h refl k≡ refl less d≡ k away in
+          record {
+            searching = lower-searching w h refl k≡ refl less d≡;
+            no-more = lower-no-more w h refl k≡ refl less d≡;
+            kept = kept;
+            settled = omega (arith, at-tail w h refl k≡ refl less d≡);
+          }
+
+      same : getD d (getD tails l 0) 0 ≤ getD times l 0 + getD d k 0 → Relaxing d l k (relaxed d (getD tails l 0) k (getD times l 0))
+      same settled =
+          rw (← relaxed-same d (getD tails l 0) k (getD times l 0) _ _ refl refl settled)
+          (record { searching = w; no-more = λ j. le-refl (getD d j 0); kept = refl; settled = settled })
+
+  -- A scan of node k begins with no link relaxed,
+  module _ {firsts nexts : List ℕ} (chains : Linked m heads firsts nexts) {k : ℕ} {d₀ : List ℕ} where
+    pub scan-begins : {l : ℕ} → Searching m tails heads times n s d₀ → k < 128 → l ≡ getD firsts k 0 → Scanning m tails heads times n s k d₀ d₀ l
+    scan-begins w h e =
+        record { searching = w; no-more = λ j. le-refl (getD d₀ j 0); kept = refl; settled = chain-begins (g .few-links) chains h e }
+
+    module _ {d : List ℕ} {l : ℕ} (at : Scanning m tails heads times n s k d₀ d l) where
+      -- ends past the last,
+      pub scan-ends : l ≡ noLink → Scanned m tails heads times n s k d₀ d
+      scan-ends e =
+          record {
+            searching = at .searching;
+            no-more = at .no-more;
+            kept = at .kept;
+            settled = chain-ends (g .few-links) chains (at .settled) e;
+          }
+
+      module _ (some-link : l ≡ noLink → ⊥) {i : ℕ} (i≡ : i ≡ l) where
+        -- is otherwise at a link of the network,
+        pub scan-at : (i < 512) × (getD tails i 0 < 128)
+        scan-at =
+            let (below, enters) = at .settled .on-chain some-link in
+            let i-below : i < m = omega arith in
+            (omega (arith, g .few-links), omega (arith, g .tail-node i i-below, g .few-nodes))
+
+        -- and goes on to a higher one.
+        pub scan-goes : {t : ℕ} {d′ : List ℕ} {l′ : ℕ} → t ≡ getD tails i 0 → d′ ≡ relaxed d t k (getD times i 0) → l′ ≡ getD nexts i 0
+            → (l < l′) × Scanning m tails heads times n s k d₀ d′ l′
+        scan-goes {d′} t≡ d≡ l≡ =
+            let (below, enters) = at .settled .on-chain some-link in
+            let r : Relaxing d l k d′ = rw (d≡, t≡, i≡) (relaxing (at .searching) l k below enters) in
+            let passed =
+            chain-map {Q = λ a. getD d′ (getD tails a 0) 0 ≤ getD times a 0 + getD d′ k 0} (at .settled)
+            (λ a b c. omega (arith, r .no-more (getD tails a 0), r .kept)) in
+            let (higher, there) = chain-goes (g .few-links) chains passed some-link (r .settled) i≡ l≡ in (
+              higher,
+              record {
+                searching = r .searching;
+                no-more = λ j. omega (arith, r .no-more j, at .no-more j);
+                kept = r .kept ∙ at .kept;
+                settled = there;
+              },
+            )
+
+  -- Before the first sweep no node is scanned.
+  pub scans-none : Scans m tails heads times n s (set allUnreached s 0) allUnreached
+  scans-none =
+      record {
+        searching = sets-out;
+        size = length-unreached;
+        above = λ j h. omega (arith, sets-out .marked j h, at-unreached j h);
+        settled = λ l h.
+            omega (
+              arith,
+              sets-out .marked (getD tails l 0) (omega (arith, g .tail-node l h, g .few-nodes)),
+              at-unreached (getD heads l 0) (omega (arith, g .head-node l h, g .few-nodes)),
+            );
+      }
+
+  module _ {d p : List ℕ} where
+    -- A sweep begins with no node,
+    pub sweep-begins : Scans m tails heads times n s d p → Swept m tails heads times n s 0 p d p 0
+    sweep-begins w = record { scans = w; falls = omega arith; quiet = λ e j h. absurd (omega arith); few = le-refl 0 }
+
+    module _ {k c : ℕ} {p₀ : List ℕ} (w : Swept m tails heads times n s k p₀ d p c) where
+      -- passes over a node whose mark has not fallen since its last scan,
+      pub sweep-skips : getD p k 0 ≤ getD d k 0 → Swept m tails heads times n s (k + 1) p₀ d p c
+      sweep-skips same =
+          record { scans = w .scans; falls = w .falls; quiet = λ e. below-more _ k (w .quiet e) same; few = omega (arith, w .few) }
+
+      -- and scans any other.
+      pub sweep-scans : {d′ : List ℕ} → k < n → getD d k 0 < getD p k 0 → Scanned m tails heads times n s k d d′
+          → Swept m tails heads times n s (k + 1) p₀ d′ (set p k (getD d k 0)) (c + 1)
+      sweep-scans {d′} h less r =
+          record {
+            scans = record { searching = r .searching; size = length-set p k (getD d k 0) ∙ w .scans .size; above = above-then; settled = settled-then };
+            falls = omega (arith, w .falls, total-falls p k (getD d k 0) inside-p (omega (arith, g .few-nodes)) less);
+            quiet = λ e. absurd (omega arith);
+            few = omega (arith, w .few);
+          }
+        where
+          inside-p : k < length p
+          inside-p = omega (arith, w .scans .size, g .few-nodes)
+
+          here : getD (set p k (getD d k 0)) k 0 ≡ getD d k 0
+          here = getD-set-same p k (getD d k 0) 0 inside-p
+
+          off : (j : ℕ) → (j ≡ k → ⊥) → getD (set p k (getD d k 0)) j 0 ≡ getD p j 0
+          off j away = getD-set-other p k j (getD d k 0) 0 away
+
+          above-then : (j : ℕ) → j < 128 → getD d′ j 0 ≤ getD (set p k (getD d k 0)) j 0
+          above-then j b =
+              on-equal j k (λ e. rw e (omega (arith, here, r .no-more k)))
+              (λ away. omega (arith, off j away, r .no-more j, w .scans .above j b))
+
+          settled-then : (l : ℕ) → l < m → getD d′ (getD tails l 0) 0 ≤ getD times l 0 + getD (set p k (getD d k 0)) (getD heads l 0) 0
+          settled-then l b =
+              on-equal (getD heads l 0) k
+              (λ e. rw e (omega (arith, here, r .kept, r .settled l b e)))
+              (λ away. omega (arith, off (getD heads l 0) away, r .no-more (getD tails l 0), w .scans .settled l b))
+
+      -- Where no node was scanned, no link gives its tail less than its mark.
+      pub sweep-settled : k ≡ n → c ≡ 0 → (l : ℕ) → l < m → getD d (getD tails l 0) 0 ≤ getD times l 0 + getD d (getD heads l 0) 0
+      sweep-settled all none-scanned l h =
+          omega (arith, w .scans .settled l h, w .quiet none-scanned (getD heads l 0) (omega (arith, g .head-node l h)))

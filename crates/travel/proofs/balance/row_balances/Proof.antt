@@ -1,0 +1,136 @@
+-- `row_balances` meets its contract. The invariant: the nodes passed balance. The measure is what is left of the nodes.
+-- Assumes nothing.
+use Prim.Native.Nat.{_*_, _-_, _≤_, _<_}
+use native.Mathlib.Nat.{mul-le-mul}
+use native.Mathlib.Omega.{arith}
+use mathlib.Core.Path.{_≡_, sym}
+use mathlib.Core.Bool.{true}
+use mathlib.Core.Logic.{⊎-elim}
+use lib.ListN.{getD}
+use borrow.Author.Needs.{needs}
+use Rattle.travel.specs.Links.{rowBalances}
+use Rattle.travel.specs.Ranges.{mostFlow}
+use Rattle.travel.specs.Laws.Sums.{sums-most}
+use Rattle.travel.specs.Laws.Balance.{balances-none, balances-there, balances-more, balances-fails}
+use Rattle.travel.proofs.balance.row_balances.Statement.{statement}
+use Rattle.travel.proofs.balance.row_balances.Tie as tie
+
+abbrev Inv-loop : tie.InvT-loop
+Inv-loop row tails heads trips n m destination share out into j₀ j = (j ≤ n) × (rowBalances j m tails heads trips destination share row ≡ true)
+
+abbrev μ-loop : tie.MeasureT-loop
+μ-loop row tails heads trips n m destination share out into j₀ j = n - j
+
+abbrev start : tie.At-loop Inv-loop μ-loop → tie.Start Inv-loop μ-loop
+start c = c .before .before .before .before .before
+
+-- D(j,s), W × D(j,s), and the flow into a node.
+trips-most : (c : tie.After-shared-slice-known3 Inv-loop μ-loop) →
+    getD (start (c .before .before .before) .args .trips .now) (c .before .before .before .loop .j) 0 ≤ 65535
+trips-most c = omega (arith, c .shared-slice-known3 .given (c .before .before .before .loop .j))
+
+sent-most : (c : tie.After-shared-slice-known3 Inv-loop μ-loop) →
+    start (c .before .before .before) .args .share * getD (start (c .before .before .before) .args .trips .now) (c .before .before .before .loop .j) 0 ≤ mostFlow
+sent-most c = mul-le-mul {n₂ = 1024} (search needs) (trips-most c)
+
+into-most : (c : tie.At-loop Inv-loop μ-loop) → c .loop .j < 128 → getD (c .before .sums-at2 .result) (c .loop .j) 0 ≤ 512 * 4294967295
+into-most c p =
+    let x = start c .args in
+    let row-most = c .before .before .before .before .shared-slice-known .given in
+    omega (
+      arith,
+      c .before .sums-at2 .ensures .at (c .loop .j) p,
+      sums-most (x .heads .now) (x .row .now) (x .m) 4294967295 (c .loop .j) (λ i. omega (arith, row-most i)),
+    )
+
+sums-at-requires : tie.Need-sums-at-requires Inv-loop μ-loop
+sums-at-requires c κs =
+    let fit = c .before .before .pre .0 in
+    (search needs, search needs, (λ l p. omega (arith, fit .tails-fit l p)))
+
+sums-at-requires-2 : tie.Need-sums-at-requires-2 Inv-loop μ-loop
+sums-at-requires-2 c κs =
+    let fit = c .before .before .before .pre .0 in
+    (search needs, search needs, (λ l p. omega (arith, fit .heads-fit l p)))
+
+loop-holds : tie.Need-loop-holds Inv-loop μ-loop
+loop-holds c = (search needs, balances-none _ _ _ _ _ _ _)
+
+mul-sent : tie.Need-mul-sent Inv-loop μ-loop
+mul-sent c = search needs
+
+shared-slice-read-sent : tie.Need-shared-slice-read-sent Inv-loop μ-loop
+shared-slice-read-sent c = search needs
+
+cast-sent : tie.Need-cast-sent Inv-loop μ-loop
+cast-sent c = omega (arith, trips-most c)
+
+mul-sent-2 : tie.Need-mul-sent-2 Inv-loop μ-loop
+mul-sent-2 c = omega (arith, sent-most c, trips-most c)
+
+mul-if2 : tie.Need-mul-if2 Inv-loop μ-loop
+mul-if2 c = search needs
+
+array-read-if2 : tie.Need-array-read-if2 Inv-loop μ-loop
+array-read-if2 c = search needs
+
+mul-if2-2 : tie.Need-mul-if2-2 Inv-loop μ-loop
+mul-if2-2 c = search needs
+
+array-read-if2-2 : tie.Need-array-read-if2-2 Inv-loop μ-loop
+array-read-if2-2 c = search needs
+
+add-if2 : tie.Need-add-if2 Inv-loop μ-loop
+add-if2 c = omega (arith, sent-most c, trips-most c, into-most (c .before .before .before) (omega arith))
+
+returns : tie.Need-returns Inv-loop μ-loop
+returns c =
+    let at-loop = c .before .before .before .before in
+    let outs = at-loop .before .before .sums-at .ensures in
+    let ins = at-loop .before .sums-at2 .ensures in
+    sym (balances-fails _ _ _ _ _ _ _ _ _ outs ins (at-loop .loop .j) (omega arith) _ (omega arith) (c .before .before .if1 .taken) (c .if2 .taken))
+
+add-j : tie.Need-add-j Inv-loop μ-loop
+add-j c = search needs
+
+loop-less : tie.Need-loop-less Inv-loop μ-loop
+loop-less c = search needs
+
+loop-again : tie.Need-loop-again Inv-loop μ-loop
+loop-again c =
+    let at-loop = c .before .before in
+    let outs = at-loop .before .before .sums-at .ensures in
+    let ins = at-loop .before .sums-at2 .ensures in
+    let so-far = at-loop .loop .inv .1 in (
+      search needs,
+      ⊎-elim (λ w. balances-more _ _ _ _ _ _ _ _ _ outs ins (at-loop .loop .j) (omega arith) so-far (w .2 .left)) (λ w. balances-there _ _ _ _ _ _ _ (at-loop .loop .j) so-far (w .left)) (c .if1 .came),
+    )
+
+returns-2 : tie.Need-returns-2 Inv-loop μ-loop
+returns-2 c =
+    let end : c .before .loop .j ≡ c .before .before .before .before .before .before .args .n = omega arith in
+    sym (rw end at (c .before .loop .inv .1))
+
+pub row-balances-spec : {M : Type 1} → statement M
+row-balances-spec =
+    tie.close
+    (tie.spec
+    Inv-loop
+    μ-loop
+    sums-at-requires
+    sums-at-requires-2
+    loop-holds
+    mul-sent
+    shared-slice-read-sent
+    cast-sent
+    mul-sent-2
+    mul-if2
+    array-read-if2
+    mul-if2-2
+    array-read-if2-2
+    add-if2
+    returns
+    add-j
+    loop-less
+    loop-again
+    returns-2)

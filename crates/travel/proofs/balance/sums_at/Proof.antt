@@ -1,0 +1,106 @@
+-- `sums_at` meets its contract. The invariant: the sums are those of the links passed. The measure is what is left of the links.
+-- Assumes nothing.
+use Prim.Native.Nat.{_-_, _≤_, _<_}
+use native.Mathlib.Omega.{arith}
+use mathlib.Core.Path.{_≡_}
+use lib.ListN.{getD}
+use borrow.Author.Needs.{needs}
+use Rattle.travel.specs.Ranges.{SumsAt}
+use Rattle.travel.specs.Laws.Sums.{sums-none, sums-more, sums-most}
+use Rattle.travel.proofs.balance.sums_at.Statement.{statement}
+use Rattle.travel.proofs.balance.sums_at.Tie as tie
+
+abbrev Inv-loop : tie.InvT-loop
+Inv-loop row ends m sums₀ l₀ sums l = (l ≤ m) × SumsAt l ends row sums
+
+abbrev μ-loop : tie.MeasureT-loop
+μ-loop row ends m sums₀ l₀ sums l = m - l
+
+-- The end of the link of a turn is a node.
+end-fits : (c : tie.In-loop Inv-loop μ-loop) → getD (c .before .before .args .ends .now) (c .before .loop .l) 0 < 128
+end-fits c = c .before .before .pre .2 (c .before .loop .l) (omega arith)
+
+loop-holds : tie.Need-loop-holds Inv-loop μ-loop
+loop-holds c = (search needs, sums-none (c .args .ends .now) (c .args .row .now))
+
+mul-node : tie.Need-mul-node Inv-loop μ-loop
+mul-node c = search needs
+
+element-copy-out-node : tie.Need-element-copy-out-node Inv-loop μ-loop
+element-copy-out-node c = search needs
+
+cast-node : tie.Need-cast-node Inv-loop μ-loop
+cast-node c = omega (arith, end-fits (c .before))
+
+mul-sums : tie.Need-mul-sums Inv-loop μ-loop
+mul-sums c = search needs
+
+shared-slice-read-sums : tie.Need-shared-slice-read-sums Inv-loop μ-loop
+shared-slice-read-sums c = search needs
+
+cast-sums : tie.Need-cast-sums Inv-loop μ-loop
+cast-sums c = omega (arith, c .shared-slice-known .given (c .before .before .before .loop .l))
+
+mul-sums-2 : tie.Need-mul-sums-2 Inv-loop μ-loop
+mul-sums-2 c = omega (arith, end-fits (c .before .before))
+
+array-read-sums : tie.Need-array-read-sums Inv-loop μ-loop
+array-read-sums c = end-fits (c .before .before)
+
+add-sums : tie.Need-add-sums Inv-loop μ-loop
+add-sums c =
+    let at-loop = c .before .before .before in
+    let ends = at-loop .before .args .ends .now in
+    let row = at-loop .before .args .row .now in
+    let l = at-loop .loop .l in
+    omega (
+      arith,
+      at-loop .loop .inv .1 .at (getD ends l 0) (end-fits (c .before .before)),
+      sums-most ends row l 4294967295 (getD ends l 0) (λ i. omega (arith, c .shared-slice-known .given i)),
+      c .shared-slice-known .given l,
+    )
+
+array-write-sums : tie.Need-array-write-sums Inv-loop μ-loop
+array-write-sums c = end-fits (c .before .before)
+
+add-l : tie.Need-add-l Inv-loop μ-loop
+add-l c = search needs
+
+loop-less : tie.Need-loop-less Inv-loop μ-loop
+loop-less c = search needs
+
+loop-again : tie.Need-loop-again Inv-loop μ-loop
+loop-again c =
+    let at-loop = c .before .before .before in
+    let ends = at-loop .before .args .ends .now in
+    let row = at-loop .before .args .row .now in (
+      search needs,
+      sums-more ends row (at-loop .loop .l) (at-loop .loop .sums) (end-fits (c .before .before)) (at-loop .loop .inv .1),
+    )
+
+returns : tie.Need-returns Inv-loop μ-loop
+returns c =
+    let end : c .before .loop .l ≡ c .before .before .args .m = omega arith in
+    rw end at (c .before .loop .inv .1)
+
+pub sums-at-spec : {M : Type 1} → statement M
+sums-at-spec =
+    tie.close
+    (tie.spec
+    Inv-loop
+    μ-loop
+    loop-holds
+    mul-node
+    element-copy-out-node
+    cast-node
+    mul-sums
+    shared-slice-read-sums
+    cast-sums
+    mul-sums-2
+    array-read-sums
+    add-sums
+    array-write-sums
+    add-l
+    loop-less
+    loop-again
+    returns)

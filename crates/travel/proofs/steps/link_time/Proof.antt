@@ -1,0 +1,18 @@
+-- `link_time` meets its contract. Assumes nothing.
+use mathlib.Core.Path.{_∙_, ap}
+use borrow.Author.Needs.{needs}
+use Rattle.theory.specs.Flows.{stepTime}
+use Rattle.travel.proofs.steps.link_time.Statement.{statement}
+use Rattle.travel.proofs.steps.link_time.Tie as tie
+
+step-of-requires : tie.Need-step-of-requires
+step-of-requires c κs = search needs
+
+time-at-requires : tie.Need-time-at-requires
+time-at-requires c κs = search needs
+
+returns : tie.Need-returns
+returns c = (c .time-at .ensures .0 ∙ ap (stepTime _ _) (c .before .step-of .ensures .0), c .time-at .ensures .1)
+
+pub link-time-spec : {M : Type 1} → statement M
+link-time-spec = tie.close (tie.spec step-of-requires time-at-requires returns)

@@ -1,0 +1,107 @@
+-- Arrays of 512 numbers of which the first m count and the others are 0.
+use Prim.Native.Nat.{ℕ, _+_, _-_, _≤_, _<_}
+use native.Mathlib.Omega.{arith}
+use mathlib.Core.Path.{_≡_, refl, sym, _∙_, ap}
+use mathlib.Core.List.{List, _++_}
+use mathlib.Core.Logic.{⊎-elim}
+use lib.ListN.{length, getD, set, take, replicate, length-append, length-replicate, length-set, getD-replicate, List·getD-append, List·getD-eq-default}
+use lib.Seq.{take-at, getD-append-add, ext-getD, getD-set-same, getD-set-other}
+use Rattle.theory.specs.Finite.{tabulate}
+use Rattle.theory.specs.Laws.Finite.{length-tabulate, getD-tabulate, order, below-suc}
+use Rattle.travel.specs.Links.{padded}
+use Rattle.travel.specs.Ranges.{RowAdded}
+
+getD-zeros : (n i : ℕ) → getD {A = ℕ} (replicate n 0) i 0 ≡ 0
+getD-zeros n i =
+    ⊎-elim (λ p. getD-replicate n i 0 0 p)
+    (λ p. List·getD-eq-default (replicate n 0) 0 (omega (arith, length-replicate {A = ℕ} n 0)))
+    (order i n)
+
+-- For 512 stands an arbitrary number, so that nothing computes 512 zeros.
+module _ (n m : ℕ) (f : ℕ → ℕ) where
+  size : m ≤ n → length (tabulate m f ++ replicate (n - m) 0) ≡ n
+  size h =
+      omega
+      (arith, length-append (tabulate m f) (replicate (n - m) 0), length-tabulate m f, length-replicate {A = ℕ} (n - m) 0)
+
+  counted : (l : ℕ) → l < m → getD (tabulate m f ++ replicate (n - m) 0) l 0 ≡ f l
+  counted l p =
+      List·getD-append (tabulate m f) (replicate (n - m) 0) 0 l (omega (arith, length-tabulate m f)) ∙ getD-tabulate m f 0 l p
+
+  rest : (l : ℕ) → m ≤ l → getD (tabulate m f ++ replicate (n - m) 0) l 0 ≡ 0
+  rest l p =
+      let place : l ≡ length (tabulate m f) + (l - m) = omega (arith, length-tabulate m f) in
+      rw place (getD-append-add (tabulate m f) (replicate (n - m) 0) (l - m) 0 ∙ getD-zeros (n - m) (l - m))
+
+-- How long the array is, and what stands in it.
+
+pub length-padded : (m : ℕ) (f : ℕ → ℕ) → m ≤ 512 → length (padded m f) ≡ 512
+unfolding padded
+length-padded m f h = size 512 m f h
+
+pub getD-padded : (m : ℕ) (f : ℕ → ℕ) (l : ℕ) → l < m → getD (padded m f) l 0 ≡ f l
+unfolding padded
+getD-padded m f l p = counted 512 m f l p
+
+pub getD-padded-rest : (m : ℕ) (f : ℕ → ℕ) (l : ℕ) → m ≤ l → getD (padded m f) l 0 ≡ 0
+unfolding padded
+getD-padded-rest m f l p = rest 512 m f l p
+
+pub take-padded : (m : ℕ) (f : ℕ → ℕ) → take m (padded m f) ≡ tabulate m f
+unfolding padded
+take-padded m f = take-at (tabulate m f) _ m (length-tabulate m f)
+
+-- An array with these numbers is that one.
+pub padded-is : (m : ℕ) (f : ℕ → ℕ) (xs : List ℕ) → m ≤ 512 → length xs ≡ 512 → ((l : ℕ) → l < m → getD xs l 0 ≡ f l) →
+    ((l : ℕ) → m ≤ l → getD xs l 0 ≡ 0) → xs ≡ padded m f
+padded-is m f xs h long here past =
+    ext-getD 0 xs (padded m f) (long ∙ sym (length-padded m f h)) (λ l p.
+    ⊎-elim (λ q. here l q ∙ sym (getD-padded m f l q)) (λ q. past l q ∙ sym (getD-padded-rest m f l q)) (order l m))
+
+pub padded-cong : (m : ℕ) (f g : ℕ → ℕ) → m ≤ 512 → ((l : ℕ) → l < m → f l ≡ g l) → padded m f ≡ padded m g
+padded-cong m f g h same =
+    padded-is m g (padded m f) h (length-padded m f h) (λ l p. getD-padded m f l p ∙ same l p) (getD-padded-rest m f)
+
+-- Zeros alone.
+pub padded-none : (f : ℕ → ℕ) → replicate 512 0 ≡ padded 0 f
+unfolding padded tabulate
+padded-none f = refl
+
+pub padded-zeros : (m : ℕ) (f : ℕ → ℕ) → m ≤ 512 → ((l : ℕ) → l < m → f l ≡ 0) → replicate 512 0 ≡ padded m f
+padded-zeros m f h zero = padded-none f ∙ padded-is m f (padded 0 f) h (length-padded 0 f (omega arith)) (λ l p. none l ∙ sym (zero l p)) (λ l p. none l)
+  where
+    none : (l : ℕ) → getD (padded 0 f) l 0 ≡ 0
+    none l = getD-padded-rest 0 f l (omega arith)
+
+-- The next number, written after those that count.
+pub padded-more : (l : ℕ) (f : ℕ → ℕ) (xs : List ℕ) (x : ℕ) → l < 512 → xs ≡ padded l f → x ≡ f l → set xs l x ≡ padded (l + 1) f
+padded-more l f xs x h so-far this =
+    padded-is (l + 1) f (set xs l x) (omega arith) (length-set xs l x ∙ long) here past
+  where
+    long : length xs ≡ 512
+    long = ap length so-far ∙ length-padded l f (omega arith)
+
+    other : (i : ℕ) → (i ≡ l → ⊥) → getD (set xs l x) i 0 ≡ getD (padded l f) i 0
+    other i p = getD-set-other xs l i x 0 p ∙ ap (λ ys. getD ys i 0) so-far
+
+    at : (i : ℕ) → i ≡ l → getD (set xs l x) i 0 ≡ f i
+    at i e = rw e (getD-set-same xs l x 0 (omega (arith, long)) ∙ this)
+
+    here : (i : ℕ) → i < l + 1 → getD (set xs l x) i 0 ≡ f i
+    here i p = ⊎-elim (λ q. other i (λ e. omega arith) ∙ getD-padded l f i q) (at i) (below-suc l i (omega arith))
+
+    past : (i : ℕ) → l + 1 ≤ i → getD (set xs l x) i 0 ≡ 0
+    past i p = other i (λ e. omega arith) ∙ getD-padded-rest l f i (omega arith)
+
+-- A row added to the array.
+pub padded-added : (m : ℕ) (f g : ℕ → ℕ) (row after : List ℕ) → m ≤ 512 → RowAdded m row (padded m f) after →
+    ((l : ℕ) → l < m → g l ≡ f l + getD row l 0) → after ≡ padded m g
+padded-added m f g row after h sum same =
+    padded-is m g after h (sum .size ∙ length-padded m f h)
+    (λ l p. sum .added l p ∙ ap (λ x. x + getD row l 0) (getD-padded m f l p) ∙ sym (same l p))
+    (λ l p. sum .kept l p ∙ getD-padded-rest m f l p)
+
+-- Numbers that are at most `most` where they count are so everywhere.
+pub padded-within : (m : ℕ) (f : ℕ → ℕ) (most : ℕ) → ((l : ℕ) → l < m → f l ≤ most) → (l : ℕ) → getD (padded m f) l 0 ≤ most
+padded-within m f most h l =
+    ⊎-elim (λ p. rw (getD-padded m f l p) (h l p)) (λ p. rw (getD-padded-rest m f l p) (omega arith)) (order l m)

@@ -1,0 +1,84 @@
+-- Steps and times: their ranges, and that a time does not fall as the step grows.
+use Prim.Native.Nat.{ℕ, _*_, _/_, _^_, _≤_, _<_}
+use native.Mathlib.Nat.{min-le-left, min-le-right, le-trans, mul-le-mul, mul-le-mul-left, mul-le-mul-right, pow-le-pow-left, le-div-iff-mul-le, div-mul-le-self, zero-div, pow-suc, pow-zero}
+use native.Mathlib.Omega.{arith}
+use mathlib.Core.Path.{_≡_}
+use mathlib.Core.List.{List}
+use lib.ListN.{getD}
+use Rattle.theory.specs.Flows.{step, stepTime}
+use Rattle.travel.specs.Links.{listTime}
+use Rattle.travel.specs.Ranges.{LinksFit, mostTime, mostFlow}
+
+-- As the code has it.
+pub fourth-power : (r : ℕ) → r ^ 4 ≡ r * r * (r * r)
+fourth-power r = rw (pow-suc r 3, pow-suc r 2, pow-suc r 1, pow-suc r 0, pow-zero) (omega arith)
+
+pub square-most : (r : ℕ) → r ≤ 256 → r * r ≤ 65536
+square-most r h = mul-le-mul h h
+
+pub fourth-most : (r : ℕ) → r ≤ 256 → r * r * (r * r) ≤ 4294967296
+fourth-most r h = mul-le-mul (square-most r h) (square-most r h)
+
+pub rise-most : (b r : ℕ) → b ≤ 16383 → r ≤ 256 → b * (r * r * (r * r)) ≤ 16383 * 4294967296
+rise-most b r hb h = mul-le-mul hb (fourth-most r h)
+
+-- The width of a tread, c·W.
+pub width-some : (c w : ℕ) → 1 ≤ c → 1 ≤ w → 1 ≤ c * w
+width-some c w hc hw = mul-le-mul hc hw
+
+pub width-most : (c w : ℕ) → c ≤ 65535 → w ≤ 1024 → c * w ≤ mostFlow
+width-most c w hc hw = mul-le-mul hc hw
+
+-- A quotient does not fall as the number that is divided grows.
+div-mono : (k : ℕ) {x y : ℕ} → 1 ≤ k → x ≤ y → x / k ≤ y / k
+div-mono k {x} {y} h p = le-div-iff-mul-le {k = k} {x = x / k} {y = y} h .1 (le-trans (div-mul-le-self x k) p)
+
+-- Times.
+
+pub stepTime-mono : (a b : ℕ) {q r : ℕ} → q ≤ r → stepTime a b q ≤ stepTime a b r
+unfolding stepTime
+stepTime-mono a b {q} {r} h =
+    let high : b * q ^ 4 / 16777216 ≤ b * r ^ 4 / 16777216 = div-mono 16777216 (omega arith) (mul-le-mul-left b (pow-le-pow-left h 4)) in
+    omega arith
+
+pub stepTime-least : (a b r : ℕ) → a ≤ stepTime a b r
+unfolding stepTime
+stepTime-least a b r = omega arith
+
+top-time : (a b : ℕ) → a ≤ 16383 → b ≤ 16383 → stepTime a b 256 ≤ mostTime
+unfolding stepTime
+top-time a b ha hb = omega arith
+
+pub stepTime-most : (a b r : ℕ) → a ≤ 16383 → b ≤ 16383 → r ≤ 256 → stepTime a b r ≤ mostTime
+stepTime-most a b r ha hb hr = le-trans (stepTime-mono a b hr) (top-time a b ha hb)
+
+-- Steps.
+
+pub step-most : (c w s : ℕ) → step c w s ≤ 256
+unfolding step
+step-most c w s = min-le-left 256 (64 * s / (c * w))
+
+-- An empty road has step 0.
+pub step-empty : (c w : ℕ) → step c w 0 ≡ 0
+unfolding step
+step-empty c w = rw zero-div
+
+-- The treads below a step, each c·W wide, are within 64·S.
+pub step-within : (c w s : ℕ) → step c w s * (c * w) ≤ 64 * s
+unfolding step
+step-within c w s =
+    le-trans (mul-le-mul-right (c * w) (min-le-right 256 (64 * s / (c * w)))) (div-mul-le-self (64 * s) (c * w))
+
+-- The time of a link whose fields stand in lists.
+module _ (m : ℕ) (freeTimes rises capacities : List ℕ) (fit : LinksFit m freeTimes rises capacities) (share : ℕ) (flows : List ℕ) (l : ℕ) (h : l < m) where
+  pub listTime-least : 1 ≤ listTime freeTimes rises capacities share flows l
+  unfolding listTime
+  listTime-least =
+      le-trans (fit .link l h .some-time)
+      (stepTime-least (getD freeTimes l 0) (getD rises l 0) (step (getD capacities l 0) share (getD flows l 0)))
+
+  pub listTime-most : listTime freeTimes rises capacities share flows l ≤ mostTime
+  unfolding listTime
+  listTime-most =
+      stepTime-most (getD freeTimes l 0) (getD rises l 0) (step (getD capacities l 0) share (getD flows l 0))
+      (fit .link l h .time-fits) (fit .link l h .rise-fits) (step-most (getD capacities l 0) share (getD flows l 0))

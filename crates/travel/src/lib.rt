@@ -1,0 +1,16 @@
+// Totals of a table, times and cost of links, and the sums behind the gap and the choice of j. Fields
+// and totals of up to 512 links stand in arrays, of which the first m count. Nothing here knows of
+// paths or of the study's bytes.
+mod balance;
+mod choice;
+mod costs;
+mod steps;
+mod table;
+
+pub use balance::row_balances;
+pub use choice::chosen;
+pub use costs::cost;
+pub use costs::product;
+pub use steps::times;
+pub use table::totals;
+pub use table::totals_fit;

@@ -1,0 +1,58 @@
+// Steps and times of links.
+ghost use Prim.Native.Nat.{_≤_};
+ghost use mathlib.Core.Path.{_≡_};
+ghost use Rattle.theory.specs.Flows.{step, stepTime};
+ghost use Rattle.travel.specs.Links.{padded, listTime};
+ghost use Rattle.travel.specs.Ranges.{LinkFits, LinksFit, ShareFits, Within, TimesFit, mostFlow, mostTime};
+
+// Step r: the smaller of 256 and floor(64·S / (c·W)).
+pub fn step_of(capacity: u16, share: u32, flow: u64) -> u64
+    requires { ⌜ (1 ≤ capacity) × ShareFits share × (flow ≤ mostFlow) ⌝ }
+    ensures { λ r. ⌜ (r ≡ step capacity share flow) × (r ≤ 256) ⌝ }
+{
+    let width = capacity as u64 * share as u64;
+    let treads = 64 * flow / width;
+    if treads < 256 {
+        return treads;
+    }
+    256
+}
+
+// Time at a step: a + floor(b·r⁴ / 2²⁴).
+pub fn time_at(free: u16, rise: u16, step: u64) -> u64
+    requires { ⌜ (free ≤ 16383) × (rise ≤ 16383) × (step ≤ 256) ⌝ }
+    ensures { λ r. ⌜ (r ≡ stepTime free rise step) × (r ≤ mostTime) ⌝ }
+{
+    let square = step * step;
+    free as u64 + rise as u64 * (square * square) / 16777216
+}
+
+// Time of a link with a flow, at a share.
+pub fn link_time(free: u16, rise: u16, capacity: u16, share: u32, flow: u64) -> u64
+    requires { ⌜ LinkFits free rise capacity × ShareFits share × (flow ≤ mostFlow) ⌝ }
+    ensures { λ r. ⌜ (r ≡ stepTime free rise (step capacity share flow)) × (r ≤ mostTime) ⌝ }
+{
+    time_at(free, rise, step_of(capacity, share, flow))
+}
+
+// The times of m links with the flows of an array, at a share.
+pub fn times(
+    free: &[u16; 512],
+    rises: &[u16; 512],
+    capacities: &[u16; 512],
+    totals: &[u64; 512],
+    m: usize,
+    share: u32,
+) -> [u32; 512]
+    requires { ⌜ LinksFit m (now free) (now rises) (now capacities) × ShareFits share × Within m mostFlow (now totals) ⌝ }
+    ensures { λ r. ⌜ (r ≡ padded m (listTime (now (free .entry)) (now (rises .entry)) (now (capacities .entry)) share (now (totals .entry)))) × TimesFit m r ⌝ }
+{
+    let mut result = [0u32; 512];
+    let mut l = 0;
+    while l < m {
+        let time = link_time(free[l], rises[l], capacities[l], share, totals[l]);
+        result[l] = time as u32;
+        l += 1;
+    }
+    result
+}

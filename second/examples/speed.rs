@@ -1,0 +1,107 @@
+//! Times of the calls on a few studies: `cargo run --release --example speed`.
+//!
+//! Each time is the shortest of many tries, in microseconds. Passes and audits
+//! are of the table a run ends with.
+
+use std::hint::black_box;
+use std::time::{Duration, Instant};
+
+use second::draft::{Dice, Draft, DraftLink, Plan, grid};
+use second::{audit, check, pass, run, start};
+
+/// Shortest time of a call over half a second of tries, in microseconds.
+fn shortest<T>(mut call: impl FnMut() -> T) -> f64 {
+    let mut best = Duration::MAX;
+    let begin = Instant::now();
+    while begin.elapsed() < Duration::from_millis(500) {
+        let now = Instant::now();
+        black_box(call());
+        best = best.min(now.elapsed());
+    }
+    best.as_secs_f64() * 1e6
+}
+
+/// One line of times for one study.
+fn show(name: &str, draft: &Draft) {
+    let file = draft.file();
+    let mut table = vec![0; draft.table_length()];
+    let answer = run(&file, &mut table, 1_024, 0);
+    assert_eq!(answer.refusal, 0);
+
+    let mut other = table.clone();
+    let copying = shortest(|| other.copy_from_slice(black_box(&table)));
+    let checking = shortest(|| check(black_box(&file)));
+    let starting = shortest(|| start(&file, &mut other));
+    let passing = shortest(|| {
+        other.copy_from_slice(&table);
+        pass(&file, &mut other, answer.share)
+    });
+    let auditing = shortest(|| audit(&file, &table, answer.share));
+    let running = shortest(|| run(&file, &mut other, 1_024, 0));
+    println!(
+        "{name:20} {:3} {:3} {:2} {:5} {checking:8.2} {starting:8.2} {:8.2} {auditing:8.2} {running:10.1} {:5} {:8.2}",
+        draft.nodes,
+        draft.links.len(),
+        draft.destinations.len(),
+        draft.total(),
+        passing - copying,
+        answer.judged,
+        running / f64::from(answer.judged),
+    );
+}
+
+/// A study on links given, with trips from everywhere to `destinations` nodes.
+fn study(dice: &mut Dice, nodes: u16, links: &[DraftLink], destinations: u64, trips: u64) -> Draft {
+    let plan = Plan {
+        nodes: (2, 2),
+        links: (1, 1),
+        destinations,
+        time: 1,
+        capacity: 1,
+        trips,
+        tenths: 10,
+    };
+    loop {
+        let draft = plan.with_links(dice, nodes, links.to_vec());
+        if draft.destinations.len() as u64 == destinations {
+            return draft;
+        }
+    }
+}
+
+fn main() {
+    println!(
+        "{:20} {:>3} {:>3} {:>2} {:>5} {:>8} {:>8} {:>8} {:>8} {:>10} {:>5} {:>8}",
+        "study", "n", "m", "p", "T", "check", "start", "pass", "audit", "run", "judged", "a table"
+    );
+    let mut dice = Dice::new(7);
+    show("town", &Draft::town());
+    let links = grid(&mut dice, 6, 4, 76, 60, 900);
+    show("grid 6 by 4", &study(&mut dice, 24, &links, 24, 60));
+    for destinations in [1, 8, 32] {
+        let trips = (480 / destinations).min(90);
+        for capacity in [300, 800, 3_000] {
+            let mut links = grid(&mut dice, 16, 8, 512, 300, capacity);
+            while links.len() < 512 {
+                links.push(dice.pick(&links));
+            }
+            let draft = study(&mut dice, 128, &links, destinations, trips);
+            show(&format!("grid 16 by 8, {capacity}"), &draft);
+        }
+        let links = Plan {
+            nodes: (128, 128),
+            links: (512, 512),
+            destinations: 1,
+            time: 300,
+            capacity: 400,
+            trips: 1,
+            tenths: 1,
+        }
+        .draft(&mut dice)
+        .links;
+        show(
+            "random",
+            &study(&mut dice, 128, &links, destinations, trips),
+        );
+    }
+}

@@ -1,0 +1,237 @@
+//! The six public calls.
+
+use crate::assignment::{Assignment, Move};
+use crate::format::{MOST_LINKS, Sections};
+use crate::network::{Adjacency, Study};
+use crate::questions::{LARGEST_BUDGET, LARGEST_SHARE, Question};
+use crate::tables::{ask_conservation, ask_length, ask_totals};
+
+/// A pass moved the table.
+pub const MOVED: u8 = 1;
+/// A pass found no move.
+pub const FINEST: u8 = 2;
+
+/// A run ended within its excess.
+pub const REACHED: u8 = 1;
+/// A run ended at a table without a move.
+pub const RUN_FINEST: u8 = 2;
+/// A run ended with its budget.
+pub const SPENT: u8 = 3;
+
+/// What a pass answers.
+#[derive(Clone, Copy, Debug, Default, PartialEq, Eq)]
+pub struct PassAnswer {
+    /// The first question answered "no", or 0.
+    pub refusal: u8,
+    /// 0 refused, 1 moved, 2 finest.
+    pub outcome: u8,
+    /// Gap of the judged table.
+    pub gap: u64,
+    /// Cost of the judged table.
+    pub cost: u64,
+    /// Share after the pass.
+    pub share: u32,
+}
+
+/// What a run answers.
+#[derive(Clone, Copy, Debug, Default, PartialEq, Eq)]
+pub struct RunAnswer {
+    /// The first question answered "no", or 0.
+    pub refusal: u8,
+    /// 0 refused, 1 reached, 2 finest, 3 spent.
+    pub ending: u8,
+    /// Tables judged.
+    pub judged: u32,
+    /// Share of the last judged table.
+    pub share: u32,
+    /// Gap of the last judged table.
+    pub gap: u64,
+    /// Cost of the last judged table.
+    pub cost: u64,
+}
+
+/// What an audit answers.
+#[derive(Clone, Copy, Debug, Default, PartialEq, Eq)]
+pub struct AuditAnswer {
+    /// The first question answered "no", or 0.
+    pub refusal: u8,
+    /// Gap of the table.
+    pub gap: u64,
+    /// Cost of the table.
+    pub cost: u64,
+}
+
+/// The number that answers a call with nothing else to tell.
+fn number(result: Result<(), Question>) -> u8 {
+    result.map_or_else(Question::number, |()| 0)
+}
+
+/// Is this an accepted study? Questions 1 to 11.
+pub fn check(file: &[u8]) -> u8 {
+    number(Study::read(file).map(drop))
+}
+
+/// Writes an accepted study without gaps. Questions 1 to 11, then 17.
+pub fn pack(file: &[u8], output: &mut [u8]) -> u8 {
+    number(try_pack(file, output))
+}
+
+fn try_pack(file: &[u8], output: &mut [u8]) -> Result<(), Question> {
+    let sections = Sections::find(file)?;
+    Study::decode(&sections)?;
+    Question::OutputLength.ask(output.len() >= sections.packed_length())?;
+    sections.write_packed(output);
+    Ok(())
+}
+
+/// Writes the loading at empty roads. Questions 1 to 12.
+pub fn start(file: &[u8], table: &mut [u32]) -> u8 {
+    number(try_start(file, table))
+}
+
+fn try_start(file: &[u8], table: &mut [u32]) -> Result<(), Question> {
+    let study = Study::read(file)?;
+    let used = ask_length(&study, table.len())?;
+    let adjacency = Adjacency::of(&study);
+    start_table(&study, &adjacency, &mut table[..used]);
+    Ok(())
+}
+
+/// Fills a table of p·m numbers with the loading at empty roads, and hands
+/// back the assignment it was made with, which still has empty roads.
+fn start_table<'a>(
+    study: &'a Study,
+    adjacency: &'a Adjacency,
+    table: &mut [u32],
+) -> Assignment<'a> {
+    let mut empty = Assignment::new(study, adjacency, 1, [0; MOST_LINKS]);
+    empty.find_times();
+    empty.find_loading();
+    table.fill(0);
+    empty.add_loading(1, table);
+    empty
+}
+
+/// Judges a table and moves it. Questions 1 to 12, then 14 to 16.
+pub fn pass(file: &[u8], table: &mut [u32], share: u32) -> PassAnswer {
+    try_pass(file, table, share).unwrap_or_else(|question| PassAnswer {
+        refusal: question.number(),
+        ..PassAnswer::default()
+    })
+}
+
+fn try_pass(file: &[u8], table: &mut [u32], share: u32) -> Result<PassAnswer, Question> {
+    let study = Study::read(file)?;
+    let used = ask_length(&study, table.len())?;
+    let table = &mut table[..used];
+    let adjacency = Adjacency::of(&study);
+    let mut assignment = accept(&study, &adjacency, table, share)?;
+
+    assignment.find_times();
+    assignment.find_loading();
+    let gap = assignment.gap_from_loading();
+    let cost = assignment.cost();
+    let chosen = assignment.choose_move();
+    if let Some(chosen) = chosen {
+        assignment.make_move(chosen, table);
+    }
+    Ok(PassAnswer {
+        refusal: 0,
+        outcome: if chosen.is_some() { MOVED } else { FINEST },
+        gap,
+        cost,
+        share: assignment.share(),
+    })
+}
+
+/// Puts questions 14 to 16 to a lent table of p·m numbers.
+fn accept<'a>(
+    study: &'a Study,
+    adjacency: &'a Adjacency,
+    table: &[u32],
+    share: u32,
+) -> Result<Assignment<'a>, Question> {
+    Question::Share.ask((1..=LARGEST_SHARE).contains(&share))?;
+    let totals = ask_totals(study, table, share)?;
+    ask_conservation(study, adjacency, table, share)?;
+    Ok(Assignment::new(study, adjacency, share, totals))
+}
+
+/// Starts, then judges and moves until one of the three endings. Questions 1
+/// to 13.
+pub fn run(file: &[u8], table: &mut [u32], budget: u32, excess: u16) -> RunAnswer {
+    try_run(file, table, budget, excess).unwrap_or_else(|question| RunAnswer {
+        refusal: question.number(),
+        ..RunAnswer::default()
+    })
+}
+
+fn try_run(
+    file: &[u8],
+    table: &mut [u32],
+    budget: u32,
+    excess: u16,
+) -> Result<RunAnswer, Question> {
+    let study = Study::read(file)?;
+    let used = ask_length(&study, table.len())?;
+    Question::Budget.ask((1..=LARGEST_BUDGET).contains(&budget))?;
+    let table = &mut table[..used];
+    let adjacency = Adjacency::of(&study);
+
+    let mut assignment = start_table(&study, &adjacency, table);
+    assignment.take_loading();
+    assignment.find_times();
+    assignment.find_loading();
+    // At most 65,535 · 1,024 · 65,535 with the share, well within 64 bits.
+    let allowed_by_share = u64::from(excess) * u64::from(study.total);
+    let mut judged = 0;
+    let (ending, gap) = loop {
+        judged += 1;
+        let gap = assignment.gap_from_loading();
+        if gap <= allowed_by_share * u64::from(assignment.share()) {
+            break (REACHED, gap);
+        }
+        let Some(chosen) = assignment.choose_move() else {
+            break (RUN_FINEST, gap);
+        };
+        if judged == budget {
+            break (SPENT, gap);
+        }
+        assignment.make_move(chosen, table);
+        // Doubling both flow and share changes no time, and with no time no
+        // distance and no loading.
+        if chosen != Move::Double {
+            assignment.find_times();
+            assignment.find_loading();
+        }
+    };
+    Ok(RunAnswer {
+        refusal: 0,
+        ending,
+        judged,
+        share: assignment.share(),
+        gap,
+        cost: assignment.cost(),
+    })
+}
+
+/// The gap and cost of a lent table. Questions 1 to 12, then 14 to 16.
+pub fn audit(file: &[u8], table: &[u32], share: u32) -> AuditAnswer {
+    try_audit(file, table, share).unwrap_or_else(|question| AuditAnswer {
+        refusal: question.number(),
+        ..AuditAnswer::default()
+    })
+}
+
+fn try_audit(file: &[u8], table: &[u32], share: u32) -> Result<AuditAnswer, Question> {
+    let study = Study::read(file)?;
+    let used = ask_length(&study, table.len())?;
+    let adjacency = Adjacency::of(&study);
+    let mut assignment = accept(&study, &adjacency, &table[..used], share)?;
+    assignment.find_times();
+    Ok(AuditAnswer {
+        refusal: 0,
+        gap: assignment.gap_from_distances(),
+        cost: assignment.cost(),
+    })
+}

@@ -1,0 +1,342 @@
+//! Least times: distances and next links, for several destinations at once.
+//!
+//! The searches for different destinations run over the same links with the
+//! same times. So up to [`LANES`] of them go side by side, one in each lane of
+//! a row of numbers: taking over what a link offers its tail is one addition
+//! and one minimum for the whole row, a few instructions without a branch.
+//! Dijkstra's method, which settles one node of one destination after the
+//! other, looks at fewer links, but for many destinations takes several times
+//! as long over them. It serves where only one or two are left.
+
+use crate::format::{MOST_LINKS, MOST_NODES};
+use crate::network::{Adjacency, ByLink, ByNode, at_link, at_node};
+
+/// How many destinations are searched side by side.
+pub const LANES: usize = 8;
+
+/// So many are searched one after the other instead.
+const FEW: usize = 2;
+
+/// One number for each lane.
+type Lanes = [i32; LANES];
+
+/// Stands for no distance. It is more than any distance there can be, which
+/// is that of 127 links of 16,383 + 256 · 16,383 each and stays below 2²⁹,
+/// and it still fits with one more link's time on top.
+const FAR: i32 = 1 << 30;
+
+/// Stands for no next link.
+const NO_LINK: u16 = u16::MAX;
+
+/// A link as its tail sees it.
+#[derive(Clone, Copy, Default)]
+struct Leg {
+    time: i32,
+    head: u8,
+}
+
+/// A distance or time above a node, in one word: the least of several is that
+/// of the least distance, and tells whose it is.
+#[derive(Clone, Copy, PartialEq, Eq, PartialOrd, Ord)]
+struct Label(u64);
+
+impl Label {
+    #[inline(always)]
+    fn new(time: u32, node: u8) -> Self {
+        Label(u64::from(time) << 32 | u64::from(node))
+    }
+
+    #[inline(always)]
+    fn distance(self) -> i32 {
+        (self.0 >> 32) as i32
+    }
+
+    #[inline(always)]
+    fn node(self) -> u8 {
+        self.0 as u8
+    }
+
+    /// The tail's label by way of a link whose head has this one. The link's
+    /// own label has its time and its tail.
+    #[inline(always)]
+    fn back_over(self, link: Label) -> Label {
+        Label((self.0 & !0 << 32) + link.0)
+    }
+}
+
+/// The times of all links, ready for the searches.
+pub struct Times {
+    /// In the order of the lists of links out of nodes.
+    out: ByLink<Leg>,
+    /// In the order of the lists of links into nodes: time and tail.
+    into: ByLink<Label>,
+}
+
+impl Times {
+    /// For a network; the times are yet to be set.
+    pub fn new(adjacency: &Adjacency) -> Self {
+        Times {
+            out: adjacency.out.others.map(|head| Leg { time: 0, head }),
+            into: [Label(0); MOST_LINKS],
+        }
+    }
+
+    /// Takes over new times, by link.
+    #[inline]
+    pub fn set(&mut self, adjacency: &Adjacency, times: &[u32]) {
+        let lists = &adjacency.out;
+        for (leg, &link) in self.out[..times.len()].iter_mut().zip(&lists.links) {
+            leg.time = times[usize::from(link)] as i32;
+        }
+        let lists = &adjacency.into;
+        let into = self.into[..times.len()].iter_mut();
+        for ((label, &link), &tail) in into.zip(&lists.links).zip(&lists.others) {
+            *label = Label::new(times[usize::from(link)], tail);
+        }
+    }
+}
+
+/// The nodes with a path to one of the goals, those with the fewest links to
+/// go first.
+pub fn nodes_before(goals: &[u8], adjacency: &Adjacency) -> Vec<u8> {
+    let mut met = [false; MOST_NODES];
+    let mut nodes = Vec::with_capacity(MOST_NODES);
+    let mut meet = |node: u8, nodes: &mut Vec<u8>| {
+        if !std::mem::replace(&mut met[at_node(node)], true) {
+            nodes.push(node);
+        }
+    };
+    for &goal in goals {
+        meet(goal, &mut nodes);
+    }
+    let mut done = 0;
+    while let Some(&node) = nodes.get(done) {
+        done += 1;
+        for &tail in adjacency.into.others_of(node) {
+            meet(tail, &mut nodes);
+        }
+    }
+    nodes
+}
+
+/// Distances and next links of up to [`LANES`] destinations.
+pub struct Trees {
+    /// The destination of each lane.
+    destinations: Vec<u8>,
+    /// The nodes with a path to one of the destinations, near ones first, or
+    /// roughly so: the order matters only to the speed of the search.
+    nodes: Vec<u8>,
+    /// By node, then by lane.
+    distances: ByNode<Lanes>,
+    /// By lane, then by node.
+    next_links: Vec<ByNode<u16>>,
+}
+
+impl Trees {
+    /// Trees for at most [`LANES`] destinations, yet to be searched. The
+    /// nearer the destinations are to one another, the faster the search.
+    pub fn new(destinations: Vec<u8>, adjacency: &Adjacency) -> Self {
+        assert!(destinations.len() <= LANES);
+        Trees {
+            nodes: nodes_before(&destinations, adjacency),
+            distances: [[FAR; LANES]; MOST_NODES],
+            next_links: vec![[NO_LINK; MOST_NODES]; destinations.len()],
+            destinations,
+        }
+    }
+
+    /// The nodes with a path to one of the destinations.
+    #[inline]
+    pub fn nodes(&self) -> &[u8] {
+        &self.nodes
+    }
+
+    /// The tree of one lane.
+    #[inline]
+    pub fn tree(&self, lane: usize) -> Tree<'_> {
+        Tree {
+            nodes: &self.nodes,
+            next_links: &self.next_links[lane],
+        }
+    }
+
+    /// A node's distance in a lane, if it has one.
+    #[inline(always)]
+    pub fn distance(&self, lane: usize, node: u8) -> Option<u32> {
+        let distance = self.distances[at_node(node)][lane];
+        (distance != FAR).then_some(distance as u32)
+    }
+
+    /// Finds all distances.
+    pub fn find_distances(&mut self, times: &Times, adjacency: &Adjacency) {
+        if self.destinations.len() <= FEW {
+            for lane in 0..self.destinations.len() {
+                self.search_one(lane, times, adjacency);
+            }
+        } else {
+            self.search_all(times, adjacency);
+        }
+    }
+
+    /// Finds the distances of one lane by Dijkstra's method, against the
+    /// links.
+    ///
+    /// The labels of nodes that are met but not settled stand in a short list
+    /// without order; with so few nodes, running over it for the least label
+    /// beats keeping it as a heap. A settled node's label stays: whatever is
+    /// settled after it is no nearer, and every link takes time.
+    fn search_one(&mut self, lane: usize, times: &Times, adjacency: &Adjacency) {
+        const UNMET: Label = Label((FAR as u64) << 32);
+        let mut labels = [UNMET; MOST_NODES];
+        let mut met = [UNMET; MOST_NODES];
+        let mut met_count = 0;
+        let mut place: ByNode<u8> = [0; MOST_NODES]; // of each met node in the list
+
+        let mut nearest = Label::new(0, self.destinations[lane]);
+        labels[at_node(nearest.node())] = nearest;
+        loop {
+            for &link in &times.into[adjacency.into.range(nearest.node())] {
+                let label = nearest.back_over(link);
+                let tail = at_node(link.node());
+                if label < labels[tail] {
+                    if labels[tail] == UNMET {
+                        place[tail] = met_count as u8;
+                        met_count += 1;
+                    }
+                    met[at_node(place[tail])] = label;
+                    labels[tail] = label;
+                }
+            }
+            let Some(&least) = met[..met_count].iter().min() else {
+                break;
+            };
+            nearest = least;
+            // The last of the list fills the gap.
+            met_count -= 1;
+            let last = met[met_count];
+            let gap = place[at_node(nearest.node())];
+            met[at_node(gap)] = last;
+            place[at_node(last.node())] = gap;
+        }
+        for (distances, label) in self.distances.iter_mut().zip(labels) {
+            distances[lane] = label.distance();
+        }
+    }
+
+    /// Finds the distances of all lanes side by side.
+    ///
+    /// Every node takes the least of what its links offer, where a link
+    /// offers its time plus its head's distance so far. That goes on, to and
+    /// fro over the nodes, until no node has a reason to look again: a node
+    /// is stale when one of its heads has come nearer since it looked last.
+    /// At every moment each distance is that of some path, and in the end
+    /// each is the least of what the links offer; as every link takes time,
+    /// only the least times are like that.
+    fn search_all(&mut self, times: &Times, adjacency: &Adjacency) {
+        self.sort_nodes();
+        let mut stale = [false; MOST_NODES];
+        self.distances = [[FAR; LANES]; MOST_NODES];
+        for (lane, &destination) in self.destinations.iter().enumerate() {
+            self.distances[at_node(destination)][lane] = 0;
+            for &tail in adjacency.into.others_of(destination) {
+                stale[at_node(tail)] = true;
+            }
+        }
+
+        let mut look = |node: u8| -> bool {
+            if !std::mem::take(&mut stale[at_node(node)]) {
+                return false;
+            }
+            let mut least = self.distances[at_node(node)];
+            for leg in &times.out[adjacency.out.range(node)] {
+                let beyond = &self.distances[at_node(leg.head)];
+                for lane in 0..LANES {
+                    least[lane] = least[lane].min(beyond[lane] + leg.time);
+                }
+            }
+            let nearer = least != self.distances[at_node(node)];
+            if nearer {
+                self.distances[at_node(node)] = least;
+                for &tail in adjacency.into.others_of(node) {
+                    stale[at_node(tail)] = true;
+                }
+            }
+            nearer
+        };
+        // When nothing comes nearer in one sweep, that sweep has seen to all
+        // stale nodes and made no new ones.
+        loop {
+            let nodes = self.nodes.iter();
+            if !nodes.fold(false, |any, &node| look(node) | any) {
+                break;
+            }
+            let nodes = self.nodes.iter().rev();
+            if !nodes.fold(false, |any, &node| look(node) | any) {
+                break;
+            }
+        }
+    }
+
+    /// Sorts the nodes by the distances of the last search, those of the first
+    /// lane. From one search to the next the order changes little, and
+    /// inserting is the fastest way to put it right.
+    fn sort_nodes(&mut self) {
+        for end in 1..self.nodes.len() {
+            let node = self.nodes[end];
+            let distance = self.distances[at_node(node)][0];
+            let mut place = end;
+            while place > 0 && self.distances[at_node(self.nodes[place - 1])][0] > distance {
+                self.nodes[place] = self.nodes[place - 1];
+                place -= 1;
+            }
+            self.nodes[place] = node;
+        }
+    }
+
+    /// Finds all next links, once the distances are found.
+    ///
+    /// The links are taken from the highest number down, so that the lowest
+    /// one that fits stays. Nothing fits at a destination, nor where there is
+    /// no path, because every link takes time.
+    pub fn find_next_links(&mut self, times: &Times, adjacency: &Adjacency) {
+        for &node in &self.nodes {
+            let own = &self.distances[at_node(node)];
+            let range = adjacency.out.range(node);
+            let legs = times.out[range.clone()].iter();
+            let mut lowest = [i32::from(NO_LINK); LANES];
+            for (leg, &link) in legs.zip(&adjacency.out.links[range]).rev() {
+                let beyond = &self.distances[at_node(leg.head)];
+                for lane in 0..LANES {
+                    if beyond[lane] + leg.time == own[lane] {
+                        lowest[lane] = i32::from(link);
+                    }
+                }
+            }
+            for (links, link) in self.next_links.iter_mut().zip(lowest) {
+                links[at_node(node)] = link as u16;
+            }
+        }
+    }
+}
+
+/// The next links towards one destination.
+#[derive(Clone, Copy)]
+pub struct Tree<'a> {
+    nodes: &'a [u8],
+    next_links: &'a ByNode<u16>,
+}
+
+impl<'a> Tree<'a> {
+    /// All nodes that have a next link, and perhaps some that have none.
+    #[inline]
+    pub fn nodes(&self) -> &'a [u8] {
+        self.nodes
+    }
+
+    /// A node's next link, if it has one.
+    #[inline(always)]
+    pub fn next_link(&self, node: u8) -> Option<usize> {
+        let link = self.next_links[at_node(node)];
+        (link != NO_LINK).then_some(at_link(link))
+    }
+}

@@ -1,0 +1,46 @@
+//! Equilibrium assignment of trips to a road network.
+//!
+//! The second implementation of document 01, the scope. Its answers are
+//! compared with the first implementation's, call by call, and its speed is
+//! the yardstick for the first one's.
+//!
+//! The layers, from the bottom up:
+//!
+//! | module          | what it knows                                         |
+//! |-----------------|-------------------------------------------------------|
+//! | [`questions`]   | the seventeen questions and their numbers             |
+//! | [`mod@format`]  | the bytes of a study file (questions 1 to 5)          |
+//! | [`network`]     | the decoded study (questions 6 to 11), who meets whom |
+//! | [`staircase`]   | a link's time and the area under its staircase        |
+//! | [`tables`]      | lent flow tables (questions 12, 15 and 16)            |
+//! | [`least_times`] | distances and next links to one destination           |
+//! | [`loading`]     | sending trips along next links                        |
+//! | [`assignment`]  | judging a table and moving it                         |
+//! | [`calls`]       | the six public calls                                  |
+//! | [`mod@listing`] | what the program `assign` prints                      |
+//!
+//! [`draft`], [`cases`] and [`stream`] make studies, lists of calls and
+//! recordings of them for comparison.
+
+#![forbid(unsafe_code)]
+#![warn(missing_docs)]
+
+pub mod assignment;
+pub mod calls;
+pub mod cases;
+pub mod draft;
+pub mod format;
+pub mod least_times;
+pub mod listing;
+pub mod loading;
+pub mod network;
+pub mod questions;
+pub mod staircase;
+pub mod stream;
+pub mod tables;
+
+pub use calls::{
+    AuditAnswer, FINEST, MOVED, PassAnswer, REACHED, RUN_FINEST, RunAnswer, SPENT, audit, check,
+    pack, pass, run, start,
+};
+pub use listing::listing;

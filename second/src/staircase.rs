@@ -1,0 +1,210 @@
+//! A link's time and the area under its staircase.
+
+use crate::questions::LARGEST_TOTAL;
+
+/// Steps are 64ths of capacity.
+pub const STEPS_AT_CAPACITY: u32 = 64;
+/// From this step on the time stays level.
+pub const LAST_STEP: u32 = 256;
+/// The rise is divided by 64⁴ = 2²⁴.
+const RISE_SHIFT: u32 = 24;
+/// The largest free time and the largest rise.
+const LARGEST_TIME: u16 = 16_383;
+
+/// r⁴ for the steps below the last one, each less than 2³².
+const FOURTH_POWERS: [u32; LAST_STEP as usize] = {
+    let mut powers = [0; LAST_STEP as usize];
+    let mut step = 0;
+    while step < LAST_STEP {
+        powers[step as usize] = step.pow(4);
+        step += 1;
+    }
+    powers
+};
+
+/// What a link's time depends on besides its flow.
+#[derive(Clone, Copy, Debug, Default, PartialEq, Eq)]
+pub struct Road {
+    /// Free time a, hundredths of a minute.
+    pub free: u16,
+    /// Rise b, the time added at capacity.
+    pub rise: u16,
+    /// Capacity c, trips.
+    pub capacity: u16,
+}
+
+impl Road {
+    /// Question 7 for this link.
+    #[inline]
+    pub fn fits(self) -> bool {
+        (1..=LARGEST_TIME).contains(&self.free) && self.rise <= LARGEST_TIME && self.capacity >= 1
+    }
+
+    /// Time t on step r, r at most 256.
+    #[inline(always)]
+    pub fn time_on(self, step: u32) -> u32 {
+        let square = u64::from(step * step);
+        let rise = (u64::from(self.rise) * (square * square)) >> RISE_SHIFT;
+        u32::from(self.free) + rise as u32
+    }
+
+    /// Step r at a total flow of `flow` in `share`ths of a trip, share at least 1.
+    ///
+    /// Exact for all numbers of 64 bits.
+    pub fn step(self, flow: u64, share: u64) -> u32 {
+        let reach = u128::from(flow) * u128::from(STEPS_AT_CAPACITY);
+        let tread = u128::from(share) * u128::from(self.capacity);
+        (reach / tread).min(u128::from(LAST_STEP)) as u32
+    }
+
+    /// Time t at a total flow of `flow` in `share`ths of a trip, share at least 1.
+    pub fn time(self, flow: u64, share: u64) -> u32 {
+        self.time_on(self.step(flow, share))
+    }
+
+    /// Area under the staircase from 0 to 64·S.
+    ///
+    /// `flow` is at most `share` × 65,535 and `share` at most 1,024, as
+    /// questions 14 and 15 make sure: the staircase runs no further than 2³²,
+    /// its height is below 2²³, and 512 such areas still fit 64 bits.
+    pub fn area(self, flow: u32, share: u32) -> u64 {
+        debug_assert!(flow <= share * LARGEST_TOTAL);
+        let reach = u64::from(flow) * u64::from(STEPS_AT_CAPACITY);
+        let tread = u64::from(self.capacity) * u64::from(share);
+        let whole = (reach / tread).min(u64::from(LAST_STEP));
+
+        let rise = u64::from(self.rise);
+        let risen: u64 = FOURTH_POWERS[..whole as usize]
+            .iter()
+            .map(|&power| (rise * u64::from(power)) >> RISE_SHIFT)
+            .sum();
+        let heights = u64::from(self.free) * whole + risen;
+        heights * tread + u64::from(self.time_on(whole as u32)) * (reach - whole * tread)
+    }
+}
+
+/// A link's road with 64/c beside it, so that a step is found by multiplying.
+#[derive(Clone, Copy, Default)]
+pub struct Gauge {
+    road: Road,
+    steps_per_trip: f64,
+}
+
+/// The part of a trip that one of a table's numbers counts, 1/W, a trace too
+/// large.
+#[derive(Clone, Copy)]
+pub struct Part(f64);
+
+impl Part {
+    /// One `share`th of a trip.
+    ///
+    /// The trace, one part in 2⁴⁰, lifts every computed quotient above the
+    /// errors of rounding; `Gauge::step` tells why it does no harm.
+    #[inline]
+    pub fn of_trip(share: u32) -> Self {
+        const TRACE: f64 = 1.0 / (1_u64 << 40) as f64;
+        Part((1.0 + TRACE) / f64::from(share))
+    }
+}
+
+impl Gauge {
+    /// The gauge of a road.
+    #[inline]
+    pub fn of(road: Road) -> Self {
+        Gauge {
+            road,
+            steps_per_trip: f64::from(STEPS_AT_CAPACITY) / f64::from(road.capacity),
+        }
+    }
+
+    /// Step r, for flows of at most share × 65,535 and shares of at most 1,024.
+    ///
+    /// Let x = 64·S / (c·W), and q its whole part. Computed below is
+    /// y = x · (1 + 2⁻⁴⁰) · (1 + e), where e, from four roundings, is less
+    /// than 2⁻⁵⁰ either way. So y is at least x, and at least q. And y − x is
+    /// less than x · 2⁻³⁹ = 64·S · 2⁻³⁹ / (c·W) < 1 / (c·W), because 64·S is
+    /// below 2³²; but x is a fraction over c·W, at most q + 1 − 1 / (c·W). So
+    /// y is less than q + 1, and its whole part is q too.
+    #[inline(always)]
+    fn step(self, flow: u32, part: Part) -> u32 {
+        let steps = f64::from(flow) * (self.steps_per_trip * part.0);
+        (steps as u32).min(LAST_STEP)
+    }
+
+    /// Time t, for flows of at most share × 65,535 and shares of at most 1,024.
+    #[inline(always)]
+    pub fn time(self, flow: u32, part: Part) -> u32 {
+        self.road.time_on(self.step(flow, part))
+    }
+}
+
+#[cfg(test)]
+mod tests {
+    use super::*;
+
+    /// The gauge against whole-number division, on both sides of every edge.
+    #[test]
+    fn the_gauge_is_exact() {
+        let mut tried = 0_u64;
+        for capacity in (1..=300).chain((301..=65_535).step_by(617)).chain([65_535]) {
+            let road = Road {
+                free: 1,
+                rise: 16_383,
+                capacity,
+            };
+            let gauge = Gauge::of(road);
+            for share in [
+                1, 2, 3, 5, 7, 9, 10, 49, 63, 64, 96, 511, 512, 641, 1_000, 1_021, 1_023, 1_024,
+            ] {
+                let part = Part::of_trip(share);
+                let most = share * LARGEST_TOTAL;
+                let mut try_flow = |flow: u64| {
+                    if flow <= u64::from(most) {
+                        let exact = road.step(flow, u64::from(share));
+                        assert_eq!(gauge.step(flow as u32, part), exact);
+                        tried += 1;
+                    }
+                };
+                for step in 0..=258 {
+                    // The least flow on this step.
+                    let edge = (step * u64::from(capacity) * u64::from(share)).div_ceil(64);
+                    for flow in edge.saturating_sub(1)..=edge + 1 {
+                        try_flow(flow);
+                    }
+                }
+                try_flow(u64::from(most));
+            }
+        }
+        assert!(tried > 1_000_000);
+    }
+
+    #[test]
+    fn the_area_is_the_treads_one_by_one() {
+        for (free, rise, capacity) in [
+            (10, 10, 2),
+            (15, 0, 1),
+            (16_383, 16_383, 1),
+            (3, 9_999, 700),
+        ] {
+            let road = Road {
+                free,
+                rise,
+                capacity,
+            };
+            for share in [1, 9, 64, 1_024] {
+                for flow in [0, 1, 16, 511, 2_800 * share, 65_535 * share] {
+                    let tread = u64::from(capacity) * u64::from(share);
+                    let mut left = 64 * u64::from(flow);
+                    let mut area = 0;
+                    for step in 0..256 {
+                        let here = left.min(tread);
+                        area += here * u64::from(road.time_on(step));
+                        left -= here;
+                    }
+                    area += left * u64::from(road.time_on(256));
+                    assert_eq!(road.area(flow, share), area);
+                }
+            }
+        }
+    }
+}

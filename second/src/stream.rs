@@ -1,0 +1,386 @@
+//! Recorded calls: their stream of bytes, and the lines of their answers.
+//!
+//! # The stream
+//!
+//! All numbers are little-endian. Call follows call without padding:
+//!
+//! ```text
+//! u8   kind: 1 check, 2 pack, 3 start, 4 pass, 5 run, 6 audit;
+//!      0 ends the stream, and nothing follows it
+//! u32  length of the file in bytes, F
+//!      F bytes of the file
+//! u32  length of what is lent, L: for a pack, the output's bytes; for a
+//!      start, pass, run or audit, the table's numbers; 0 for a check
+//!      L bytes (pack), or L numbers u32 (start, pass, run, audit)
+//! u32  share    (0 where the call takes none)
+//! u32  budget   (0 where the call takes none)
+//! u16  excess   (0 where the call takes none)
+//! ```
+//!
+//! A length of 0xFFFF_FFFF is followed by no bytes or numbers. As F it means
+//! the same file as in the call before. As L it means the table as the call
+//! before left it, its length included; it is used only where the call before
+//! is a start, pass, run or audit too.
+//!
+//! # The answers
+//!
+//! One line of text for each call, its numbers separated by single spaces:
+//!
+//! ```text
+//! check <refusal> <digest>
+//! pack <refusal> <digest>
+//! start <refusal> <digest>
+//! pass <refusal> <outcome> <gap> <cost> <share> <digest>
+//! run <refusal> <ending> <judged> <share> <gap> <cost> <digest>
+//! audit <refusal> <gap> <cost> <digest>
+//! ```
+//!
+//! Outcome: 0 refused, 1 moved, 2 finest. Ending: 0 refused, 1 reached,
+//! 2 finest, 3 spent. The digest is the 64-bit FNV-1a digest of all that was
+//! lent, as the call leaves it, in 16 hexadecimal digits: the output's bytes
+//! of a pack, the table's numbers as little-endian bytes of a start, pass,
+//! run or audit (all of them, also those after the first p·m), no bytes at
+//! all of a check.
+
+use crate::calls::{self, AuditAnswer, PassAnswer, RunAnswer};
+use crate::format::{u16_at, u32_at};
+
+/// The length that stands for "as the call before left it".
+const SAME: u32 = u32::MAX;
+
+/// Which call.
+#[derive(Clone, Copy, Debug, PartialEq, Eq)]
+#[repr(u8)]
+pub enum Kind {
+    /// Check.
+    Check = 1,
+    /// Pack.
+    Pack = 2,
+    /// Start.
+    Start = 3,
+    /// Pass.
+    Pass = 4,
+    /// Run.
+    Run = 5,
+    /// Audit.
+    Audit = 6,
+}
+
+impl Kind {
+    /// All kinds.
+    pub const ALL: [Kind; 6] = [
+        Kind::Check,
+        Kind::Pack,
+        Kind::Start,
+        Kind::Pass,
+        Kind::Run,
+        Kind::Audit,
+    ];
+
+    /// The word a line of answers begins with.
+    pub fn word(self) -> &'static str {
+        match self {
+            Kind::Check => "check",
+            Kind::Pack => "pack",
+            Kind::Start => "start",
+            Kind::Pass => "pass",
+            Kind::Run => "run",
+            Kind::Audit => "audit",
+        }
+    }
+
+    /// Whether the call is lent a flow table.
+    pub fn has_table(self) -> bool {
+        !matches!(self, Kind::Check | Kind::Pack)
+    }
+}
+
+/// What a call is lent.
+#[derive(Clone, Debug, PartialEq, Eq)]
+pub enum Lent {
+    /// Nothing, as a check.
+    Nothing,
+    /// The table as the call before left it.
+    Same,
+    /// This table.
+    Table(Vec<u32>),
+    /// This output.
+    Output(Vec<u8>),
+}
+
+/// One recorded call.
+#[derive(Clone, Debug, PartialEq, Eq)]
+pub struct Call {
+    /// Which call.
+    pub kind: Kind,
+    /// The file, or none for the same file as in the call before.
+    pub file: Option<Vec<u8>>,
+    /// What is lent.
+    pub lent: Lent,
+    /// Share, for a pass or an audit.
+    pub share: u32,
+    /// Budget, for a run.
+    pub budget: u32,
+    /// Excess, for a run.
+    pub excess: u16,
+}
+
+/// Writes calls as a stream.
+pub fn write_calls(calls: &[Call]) -> Vec<u8> {
+    let mut stream = Vec::new();
+    for call in calls {
+        stream.push(call.kind as u8);
+        match &call.file {
+            None => stream.extend(SAME.to_le_bytes()),
+            Some(file) => {
+                stream.extend((file.len() as u32).to_le_bytes());
+                stream.extend(file);
+            }
+        }
+        match &call.lent {
+            Lent::Nothing => stream.extend(0_u32.to_le_bytes()),
+            Lent::Same => stream.extend(SAME.to_le_bytes()),
+            Lent::Table(table) => {
+                stream.extend((table.len() as u32).to_le_bytes());
+                stream.extend(table.iter().flat_map(|number| number.to_le_bytes()));
+            }
+            Lent::Output(output) => {
+                stream.extend((output.len() as u32).to_le_bytes());
+                stream.extend(output);
+            }
+        }
+        stream.extend(call.share.to_le_bytes());
+        stream.extend(call.budget.to_le_bytes());
+        stream.extend(call.excess.to_le_bytes());
+    }
+    stream.push(0);
+    stream
+}
+
+/// Reads a stream, or tells what is wrong with it.
+pub fn read_calls(stream: &[u8]) -> Result<Vec<Call>, String> {
+    let mut rest = stream;
+    let mut take = |length: usize| -> Result<&[u8], String> {
+        let (here, after) = rest
+            .split_at_checked(length)
+            .ok_or_else(|| "the stream ends within a call".to_string())?;
+        rest = after;
+        Ok(here)
+    };
+    let mut calls: Vec<Call> = Vec::new();
+    loop {
+        let byte = take(1)?[0];
+        if byte == 0 {
+            break;
+        }
+        let kind = *Kind::ALL
+            .get(usize::from(byte) - 1)
+            .ok_or_else(|| format!("there is no kind {byte}"))?;
+        let length = u32_at(take(4)?, 0);
+        let file = if length != SAME {
+            Some(take(length as usize)?.to_vec())
+        } else if calls.is_empty() {
+            return Err("the first call has no file".to_string());
+        } else {
+            None
+        };
+        let length = u32_at(take(4)?, 0);
+        let lent = if length == SAME {
+            if !kind.has_table() || !calls.last().is_some_and(|call| call.kind.has_table()) {
+                return Err("there is no table to take over".to_string());
+            }
+            Lent::Same
+        } else if kind == Kind::Check {
+            if length != 0 {
+                return Err("a check is lent nothing".to_string());
+            }
+            Lent::Nothing
+        } else if kind == Kind::Pack {
+            Lent::Output(take(length as usize)?.to_vec())
+        } else {
+            let numbers = take(4 * length as usize)?.chunks_exact(4);
+            Lent::Table(numbers.map(|bytes| u32_at(bytes, 0)).collect())
+        };
+        let share = u32_at(take(4)?, 0);
+        let budget = u32_at(take(4)?, 0);
+        let excess = u16_at(take(2)?, 0);
+        calls.push(Call {
+            kind,
+            file,
+            lent,
+            share,
+            budget,
+            excess,
+        });
+    }
+    if rest.is_empty() {
+        Ok(calls)
+    } else {
+        Err("the stream goes on after its end".to_string())
+    }
+}
+
+/// The six calls, whoever answers them.
+pub trait Calls {
+    /// Check.
+    fn check(&self, file: &[u8]) -> u8;
+    /// Pack.
+    fn pack(&self, file: &[u8], output: &mut [u8]) -> u8;
+    /// Start.
+    fn start(&self, file: &[u8], table: &mut [u32]) -> u8;
+    /// Pass.
+    fn pass(&self, file: &[u8], table: &mut [u32], share: u32) -> PassAnswer;
+    /// Run.
+    fn run(&self, file: &[u8], table: &mut [u32], budget: u32, excess: u16) -> RunAnswer;
+    /// Audit.
+    fn audit(&self, file: &[u8], table: &[u32], share: u32) -> AuditAnswer;
+}
+
+/// The calls of this library.
+pub struct Second;
+
+impl Calls for Second {
+    fn check(&self, file: &[u8]) -> u8 {
+        calls::check(file)
+    }
+
+    fn pack(&self, file: &[u8], output: &mut [u8]) -> u8 {
+        calls::pack(file, output)
+    }
+
+    fn start(&self, file: &[u8], table: &mut [u32]) -> u8 {
+        calls::start(file, table)
+    }
+
+    fn pass(&self, file: &[u8], table: &mut [u32], share: u32) -> PassAnswer {
+        calls::pass(file, table, share)
+    }
+
+    fn run(&self, file: &[u8], table: &mut [u32], budget: u32, excess: u16) -> RunAnswer {
+        calls::run(file, table, budget, excess)
+    }
+
+    fn audit(&self, file: &[u8], table: &[u32], share: u32) -> AuditAnswer {
+        calls::audit(file, table, share)
+    }
+}
+
+/// What a call answered.
+#[derive(Clone, Copy, Debug, PartialEq, Eq)]
+pub enum Reply {
+    /// Check.
+    Check(u8),
+    /// Pack.
+    Pack(u8),
+    /// Start.
+    Start(u8),
+    /// Pass.
+    Pass(PassAnswer),
+    /// Run.
+    Run(RunAnswer),
+    /// Audit.
+    Audit(AuditAnswer),
+}
+
+impl Reply {
+    /// The refusal's number, or 0.
+    pub fn refusal(&self) -> u8 {
+        match self {
+            Reply::Check(refusal) | Reply::Pack(refusal) | Reply::Start(refusal) => *refusal,
+            Reply::Pass(answer) => answer.refusal,
+            Reply::Run(answer) => answer.refusal,
+            Reply::Audit(answer) => answer.refusal,
+        }
+    }
+
+    /// The line of answers, without its end.
+    pub fn line(&self, digest: u64) -> String {
+        match self {
+            Reply::Check(refusal) => format!("check {refusal} {digest:016x}"),
+            Reply::Pack(refusal) => format!("pack {refusal} {digest:016x}"),
+            Reply::Start(refusal) => format!("start {refusal} {digest:016x}"),
+            Reply::Pass(PassAnswer {
+                refusal,
+                outcome,
+                gap,
+                cost,
+                share,
+            }) => format!("pass {refusal} {outcome} {gap} {cost} {share} {digest:016x}"),
+            Reply::Run(RunAnswer {
+                refusal,
+                ending,
+                judged,
+                share,
+                gap,
+                cost,
+            }) => format!("run {refusal} {ending} {judged} {share} {gap} {cost} {digest:016x}"),
+            Reply::Audit(AuditAnswer { refusal, gap, cost }) => {
+                format!("audit {refusal} {gap} {cost} {digest:016x}")
+            }
+        }
+    }
+}
+
+/// The 64-bit FNV-1a digest.
+pub fn digest(bytes: impl IntoIterator<Item = u8>) -> u64 {
+    bytes
+        .into_iter()
+        .fold(0xCBF2_9CE4_8422_2325, |digest, byte| {
+            (digest ^ u64::from(byte)).wrapping_mul(0x0000_0100_0000_01B3)
+        })
+}
+
+/// Makes recorded calls one after the other.
+#[derive(Clone, Debug, Default, PartialEq, Eq)]
+pub struct Player {
+    /// The last call's file.
+    pub file: Vec<u8>,
+    /// The table as the last call left it.
+    pub table: Vec<u32>,
+    /// The output as the last pack left it.
+    pub output: Vec<u8>,
+}
+
+impl Player {
+    /// Makes one call.
+    pub fn play(&mut self, implementation: &impl Calls, call: &Call) -> Reply {
+        if let Some(file) = &call.file {
+            self.file.clone_from(file);
+        }
+        match &call.lent {
+            Lent::Nothing | Lent::Same => {}
+            Lent::Table(table) => self.table.clone_from(table),
+            Lent::Output(output) => self.output.clone_from(output),
+        }
+        let (file, table) = (&self.file, &mut self.table);
+        match call.kind {
+            Kind::Check => Reply::Check(implementation.check(file)),
+            Kind::Pack => Reply::Pack(implementation.pack(file, &mut self.output)),
+            Kind::Start => Reply::Start(implementation.start(file, table)),
+            Kind::Pass => Reply::Pass(implementation.pass(file, table, call.share)),
+            Kind::Run => Reply::Run(implementation.run(file, table, call.budget, call.excess)),
+            Kind::Audit => Reply::Audit(implementation.audit(file, table, call.share)),
+        }
+    }
+
+    /// Digest of what the last call, of this kind, was lent.
+    pub fn digest(&self, kind: Kind) -> u64 {
+        match kind {
+            Kind::Check => digest([]),
+            Kind::Pack => digest(self.output.iter().copied()),
+            _ => digest(self.table.iter().flat_map(|number| number.to_le_bytes())),
+        }
+    }
+}
+
+/// The lines that answer a list of calls, each with its end.
+pub fn answers(implementation: &impl Calls, calls: &[Call]) -> String {
+    let mut player = Player::default();
+    let mut text = String::new();
+    for call in calls {
+        let reply = player.play(implementation, call);
+        text += &reply.line(player.digest(call.kind));
+        text.push('\n');
+    }
+    text
+}

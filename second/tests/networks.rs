@@ -1,0 +1,388 @@
+//! Networks and tables out of the ordinary, and studies at every limit.
+
+use second::draft::{Dice, Draft, DraftLink, Plan, grid};
+use second::staircase::Road;
+use second::{FINEST, MOVED, REACHED, SPENT, audit, check, pack, pass, run, start};
+
+fn draft(nodes: u16, links: &[DraftLink], destinations: &[u16], trips: &[&[u16]]) -> Draft {
+    Draft {
+        nodes,
+        links: links.to_vec(),
+        destinations: destinations.to_vec(),
+        trips: trips.iter().map(|row| row.to_vec()).collect(),
+    }
+}
+
+fn started(draft: &Draft) -> Vec<u32> {
+    let mut table = vec![u32::MAX; draft.table_length()];
+    assert_eq!(start(&draft.file(), &mut table), 0);
+    table
+}
+
+#[test]
+fn parallel_links_of_equal_time() {
+    // The lowest number takes all, wherever it stands among the others.
+    for first in 0..3 {
+        let mut links = vec![[0, 1, 9, 4, 7]; 4];
+        for link in &mut links[..first] {
+            link[2] = 10;
+        }
+        let draft = draft(2, &links, &[1], &[&[6, 0]]);
+        let mut expected = vec![0; 4];
+        expected[first] = 6;
+        assert_eq!(started(&draft), expected);
+    }
+}
+
+#[test]
+fn ties_further_away() {
+    // From 0 to 3 by 1 or by 2, both 10: link 0 leads by 2.
+    let links = [
+        [0, 2, 4, 0, 1],
+        [0, 1, 5, 0, 1],
+        [1, 3, 5, 0, 1],
+        [2, 3, 6, 0, 1],
+        [0, 3, 11, 0, 1],
+    ];
+    let draft = draft(4, &links, &[3], &[&[5, 1, 0, 0]]);
+    assert_eq!(started(&draft), [5, 0, 1, 5, 0]);
+}
+
+#[test]
+fn destinations_are_passed_through() {
+    // The only way to 2 leads through 1, which is a destination itself.
+    let links = [[0, 1, 3, 1, 1], [1, 2, 3, 1, 1]];
+    let draft = draft(3, &links, &[1, 2], &[&[4, 0, 0], &[5, 2, 0]]);
+    assert_eq!(started(&draft), [4, 0, 5, 7]);
+}
+
+#[test]
+fn nodes_without_paths() {
+    // 3 and 4 go round by themselves; 5 stands alone.
+    let links = [
+        [0, 1, 3, 1, 1],
+        [3, 4, 2, 8, 1],
+        [4, 3, 2, 8, 1],
+        [0, 3, 1, 0, 1],
+        [1, 2, 3, 1, 1],
+    ];
+    let draft = draft(6, &links, &[2], &[&[4, 1, 0, 0, 0, 0]]);
+    let file = draft.file();
+    let table = started(&draft);
+    assert_eq!(table, [4, 0, 0, 0, 5]);
+
+    // Flow to 2 that circulates where 2 cannot be reached: it conserves, and
+    // all its time is gap.
+    let plain = audit(&file, &table, 1);
+    let mut round = table.clone();
+    round[1] += 5;
+    round[2] += 5;
+    let answer = audit(&file, &round, 1);
+    let road = Road {
+        free: 2,
+        rise: 8,
+        capacity: 1,
+    };
+    assert_eq!(answer.refusal, 0);
+    assert_eq!(answer.gap, plain.gap + 2 * 5 * u64::from(road.time(5, 1)));
+    assert_eq!(answer.cost, plain.cost + 2 * road.area(5, 1));
+    // Flow that goes there and stays does not conserve.
+    let mut lost = table;
+    lost[3] += 1;
+    assert_eq!(audit(&file, &lost, 1).refusal, 16);
+}
+
+#[test]
+fn cycles() {
+    // A ring with trips once round but one; flow may go round the whole ring
+    // for any destination, through the destination too.
+    let links = [
+        [0, 1, 5, 9, 3],
+        [1, 2, 5, 9, 3],
+        [2, 3, 5, 9, 3],
+        [3, 0, 5, 9, 3],
+    ];
+    let draft = draft(4, &links, &[1, 3], &[&[2, 0, 1, 0], &[6, 0, 0, 0]]);
+    let file = draft.file();
+    let table = started(&draft);
+    assert_eq!(table, [3, 0, 1, 1, 6, 6, 6, 0]);
+    let plain = audit(&file, &table, 1);
+    assert_eq!(plain.gap, 0);
+    for row in [0, 4] {
+        for amount in [0, 1, 3_u32] {
+            let mut round = table.clone();
+            round[row..row + 4]
+                .iter_mut()
+                .for_each(|flow| *flow += amount);
+            let answer = audit(&file, &round, 1);
+            // 9 trips in all, and 9 of them on link 0 already.
+            assert_eq!(answer.refusal, if amount > 0 { 15 } else { 0 });
+        }
+    }
+    // Where two halves of the ring have 100 trips each, there is room for 100
+    // more on every link.
+    let mut halves = draft.clone();
+    halves.trips = vec![vec![100, 0, 0, 0], vec![0, 0, 100, 0]];
+    let file = halves.file();
+    let table = started(&halves);
+    assert_eq!(table, [100, 0, 0, 0, 0, 0, 100, 0]);
+    assert_eq!(audit(&file, &table, 1).gap, 0);
+    for row in [0, 4] {
+        for (amount, refusal) in [(1, 0), (7, 0), (100, 0), (101, 15)] {
+            let mut round = table.clone();
+            round[row..row + 4]
+                .iter_mut()
+                .for_each(|flow| *flow += amount);
+            let answer = audit(&file, &round, 1);
+            assert_eq!(answer.refusal, refusal);
+            if refusal == 0 {
+                assert!(answer.gap > 0);
+                // A pass keeps the cycle, as a smaller part of a larger share.
+                let judged = pass(&file, &mut round, 1);
+                assert_eq!((judged.gap, judged.cost), (answer.gap, answer.cost));
+                assert_eq!((judged.outcome, judged.share), (MOVED, 65));
+                assert_eq!(round[row + 1], amount);
+                assert_eq!(audit(&file, &round, 65).refusal, 0);
+            }
+        }
+    }
+}
+
+#[test]
+fn no_trips_at_any_share() {
+    let links = [[0, 1, 3, 1, 1], [1, 0, 2, 8, 1], [1, 2, 7, 7, 7]];
+    for destinations in [vec![1], vec![0, 1, 2]] {
+        let trips = vec![vec![0; 3]; destinations.len()];
+        let draft = Draft {
+            nodes: 3,
+            links: links.to_vec(),
+            destinations,
+            trips,
+        };
+        let file = draft.file();
+        let empty = vec![0; draft.table_length()];
+        for share in 1..=1_024 {
+            let mut table = empty.clone();
+            let answer = pass(&file, &mut table, share);
+            assert_eq!((answer.refusal, answer.gap, answer.cost), (0, 0, 0));
+            // Every j fits, so the largest is taken; at the end there is none.
+            let (outcome, next) = match share {
+                1_024 => (FINEST, 1_024),
+                _ => (MOVED, (share + 64).min(1_024)),
+            };
+            assert_eq!((answer.outcome, answer.share), (outcome, next));
+            assert_eq!(table, empty);
+        }
+        for place in 0..empty.len() {
+            let mut table = empty.clone();
+            table[place] = 1;
+            assert_eq!(audit(&file, &table, 1_024).refusal, 15);
+        }
+        for budget in [1, 1_024] {
+            let mut table = vec![8; empty.len() + 2];
+            let answer = run(&file, &mut table, budget, 0);
+            assert_eq!(
+                (answer.ending, answer.judged, answer.share),
+                (REACHED, 1, 1)
+            );
+            assert_eq!((answer.gap, answer.cost), (0, 0));
+            assert_eq!(table, [empty.clone(), vec![8; 2]].concat());
+        }
+    }
+}
+
+#[test]
+fn the_most_trips() {
+    for capacity in [1, 400, 65_535] {
+        let links = [
+            [0, 1, 16_383, 16_383, capacity],
+            [0, 1, 1, 16_383, capacity],
+        ];
+        let draft = draft(2, &links, &[1], &[&[65_535, 0]]);
+        let file = draft.file();
+        let mut table = started(&draft);
+        assert_eq!(table, [0, 65_535]);
+        let mut share = 1;
+        for _ in 0..30 {
+            let answer = pass(&file, &mut table, share);
+            assert_eq!(answer.refusal, 0);
+            share = answer.share;
+            assert_eq!(table.iter().sum::<u32>(), share * 65_535);
+        }
+        for budget in [1, 7, 1_024] {
+            let answer = run(&file, &mut table, budget, 0);
+            assert_eq!(answer.refusal, 0);
+            assert_eq!(audit(&file, &table, answer.share).gap, answer.gap);
+            assert_eq!(audit(&file, &table, answer.share).cost, answer.cost);
+        }
+    }
+}
+
+/// All 512 links as full as they may be, at the highest times: the highest
+/// cost and gap there are.
+#[test]
+fn the_fullest_table() {
+    let mut links = vec![[0, 1, 16_383, 16_383, 1]; 256];
+    links.extend(vec![[1, 0, 16_383, 16_383, 1]; 254]);
+    links.extend([[1, 2, 16_383, 16_383, 1], [2, 0, 16_383, 16_383, 1]]);
+    let draft = draft(3, &links, &[1], &[&[65_535, 0, 0]]);
+    let file = draft.file();
+    let full = 1_024 * 65_535_u32;
+    let mut table = vec![full; 512];
+
+    let top = 16_383 + 256 * 16_383_u64;
+    let treads: u64 = (0..256_u64)
+        .map(|step| 16_383 + 16_383 * step.pow(4) / 16_777_216)
+        .sum();
+    let area = 1_024 * treads + (64 * u64::from(full) - 256 * 1_024) * top;
+    let gap = 512 * top * u64::from(full) - 1_024 * 65_535 * top;
+    let answer = audit(&file, &table, 1_024);
+    assert_eq!((answer.refusal, answer.gap), (0, gap));
+    assert_eq!(answer.cost, 512 * area);
+    assert!(answer.cost > i64::MAX as u64);
+
+    let judged = pass(&file, &mut table, 1_024);
+    assert_eq!((judged.gap, judged.cost), (answer.gap, answer.cost));
+    assert_eq!((judged.outcome, judged.share), (FINEST, 1_024));
+    assert_eq!(table, vec![full; 512]);
+
+    table[7] += 1;
+    assert_eq!(audit(&file, &table, 1_024).refusal, 15);
+    table[7] -= 2;
+    assert_eq!(audit(&file, &table, 1_024).refusal, 16);
+}
+
+/// A line of 127 links at the highest times: the largest distances.
+#[test]
+fn the_longest_way() {
+    let links: Vec<DraftLink> = (0..127)
+        .map(|node| [node, node + 1, 16_383, 16_383, 1])
+        .collect();
+    let mut trips = vec![0; 128];
+    trips[0] = 65_535;
+    let draft = draft(128, &links, &[127], &[&trips]);
+    let file = draft.file();
+    let mut table = started(&draft);
+    assert_eq!(table, vec![65_535; 127]);
+    // No choice, no gap.
+    let answer = audit(&file, &table, 1);
+    assert_eq!((answer.refusal, answer.gap), (0, 0));
+    let mut share = 1;
+    while share < 1_024 {
+        let answer = pass(&file, &mut table, share);
+        assert_eq!((answer.outcome, answer.gap), (MOVED, 0));
+        assert_eq!(answer.share, (share + 64).min(1_024));
+        share = answer.share;
+        assert_eq!(table, vec![65_535 * share; 127]);
+    }
+    assert_eq!(pass(&file, &mut table, share).outcome, FINEST);
+}
+
+/// Studies with each count at its limit, alone and together.
+#[test]
+fn studies_at_the_limits() {
+    let mut dice = Dice::new(3);
+    for (nodes, links, destinations) in [
+        (128, 1, 1),
+        (128, 512, 1),
+        (128, 512, 32),
+        (128, 127, 32),
+        (32, 512, 32),
+        (2, 512, 2),
+        (2, 1, 1),
+        (2, 1, 2),
+        (127, 511, 31),
+    ] {
+        let plan = Plan {
+            nodes: (nodes, nodes),
+            links: (links, links),
+            destinations,
+            time: 900,
+            capacity: 50,
+            trips: 12,
+            tenths: 8,
+        };
+        let mut draft = plan.draft(&mut dice);
+        while (draft.destinations.len() as u64) < destinations {
+            draft = plan.with_links(&mut dice, nodes as u16, draft.links);
+        }
+        let file = draft.file();
+        assert_eq!(check(&file), 0);
+
+        let mut output = vec![1; file.len() + 1];
+        assert_eq!(pack(&file, &mut output), 0);
+        assert_eq!(output[..file.len()], file);
+        assert_eq!(output[file.len()], 1);
+
+        let length = draft.table_length();
+        let mut table = vec![7; length + 1];
+        assert_eq!(start(&file, &mut table[..length - 1]), 12);
+        let answer = run(&file, &mut table, 40, 0);
+        assert_eq!(answer.refusal, 0);
+        assert_eq!(table[length], 7);
+        let audited = audit(&file, &table, answer.share);
+        assert_eq!(
+            (audited.refusal, audited.gap, audited.cost),
+            (0, answer.gap, answer.cost)
+        );
+    }
+    // One more of each.
+    let mut one_more = grid(&mut dice, 16, 8, 512, 10, 10);
+    one_more.resize(512, [0, 1, 1, 1, 1]);
+    let trips = vec![vec![0; 128]; 32];
+    let full = Draft {
+        nodes: 128,
+        links: one_more,
+        destinations: (0..32).collect(),
+        trips,
+    };
+    assert_eq!(check(&full.file()), 0);
+    let mut other = full.clone();
+    other.nodes = 129;
+    other.trips.iter_mut().for_each(|row| row.push(0));
+    assert_eq!(check(&other.file()), 3);
+    let mut other = full.clone();
+    other.links.push([0, 1, 1, 1, 1]);
+    assert_eq!(check(&other.file()), 3);
+    let mut other = full;
+    other.destinations.push(32);
+    other.trips.push(vec![0; 128]);
+    assert_eq!(check(&other.file()), 3);
+}
+
+/// A run is a start and passes, as many as it says, and 'spent' cannot occur
+/// with the largest budget.
+#[test]
+fn a_run_is_a_start_and_passes() {
+    let mut dice = Dice::new(4);
+    for _ in 0..400 {
+        let draft = Plan::small(&mut dice).draft(&mut dice);
+        let file = draft.file();
+        let budget = dice.pick(&[1, 2, 5, 20, 1_024]);
+        let excess = dice.pick(&[0, 0, 2, 90]);
+        let mut table = vec![6; draft.table_length() + 1];
+        let answer = run(&file, &mut table, budget, excess);
+        assert_eq!(answer.refusal, 0);
+        assert!((1..=budget).contains(&answer.judged));
+        assert!(budget < 1_024 || answer.ending != SPENT);
+
+        let mut other = vec![6; draft.table_length() + 1];
+        assert_eq!(start(&file, &mut other), 0);
+        let mut share = 1;
+        for _ in 1..answer.judged {
+            let step = pass(&file, &mut other, share);
+            assert_eq!((step.refusal, step.outcome), (0, MOVED));
+            assert!(step.gap > u64::from(excess) * u64::from(share) * draft.total());
+            assert!(step.share > share);
+            share = step.share;
+        }
+        assert_eq!((share, &other), (answer.share, &table));
+        let last = pass(&file, &mut other, share);
+        assert_eq!((last.gap, last.cost), (answer.gap, answer.cost));
+        let reached = last.gap <= u64::from(excess) * u64::from(share) * draft.total();
+        assert_eq!(reached, answer.ending == REACHED);
+        if !reached {
+            assert_eq!(last.outcome == MOVED, answer.ending == SPENT);
+        }
+    }
+}

@@ -1,0 +1,148 @@
+//! The recorded calls: their number and variety, their stream, their answers.
+
+use std::collections::HashSet;
+
+use second::stream::{
+    Call, Kind, Lent, Player, Reply, Second, answers, digest, read_calls, write_calls,
+};
+use second::{MOVED, cases};
+
+#[test]
+fn the_list_is_long_and_the_stream_short() {
+    let calls = cases::all();
+    assert!(calls.len() >= 2_400);
+    assert!(write_calls(&calls).len() < 4_000_000);
+}
+
+/// The list is the same every time and everywhere.
+#[test]
+fn the_list_stays_the_same() {
+    let calls = cases::all();
+    let answered = answers(&Second, &calls);
+    assert_eq!(digest(write_calls(&calls)), 0xD928_78A1_C5BC_FF7D);
+    assert_eq!(digest(answered.into_bytes()), 0xF54C_547B_3317_B1A2);
+}
+
+#[test]
+fn the_stream_can_be_read_back() {
+    let calls = cases::all();
+    let stream = write_calls(&calls);
+    assert!(read_calls(&stream).unwrap() == calls);
+    assert!(read_calls(&stream[..stream.len() - 1]).is_err());
+    assert!(read_calls(&[stream, vec![0]].concat()).is_err());
+    assert!(read_calls(&[7]).is_err());
+    assert!(read_calls(&[]).is_err());
+}
+
+#[test]
+fn the_form_of_the_stream() {
+    let calls = [
+        Call {
+            kind: Kind::Pass,
+            file: Some(vec![9, 8]),
+            lent: Lent::Table(vec![0x0102_0304]),
+            share: 5,
+            budget: 0,
+            excess: 0,
+        },
+        Call {
+            kind: Kind::Run,
+            file: None,
+            lent: Lent::Same,
+            share: 0,
+            budget: 6,
+            excess: 7,
+        },
+        Call {
+            kind: Kind::Pack,
+            file: None,
+            lent: Lent::Output(vec![1]),
+            share: 0,
+            budget: 0,
+            excess: 0,
+        },
+        Call {
+            kind: Kind::Check,
+            file: Some(vec![]),
+            lent: Lent::Nothing,
+            share: 0,
+            budget: 0,
+            excess: 0,
+        },
+    ];
+    #[rustfmt::skip]
+    let stream = [
+        4, 2, 0, 0, 0, 9, 8, 1, 0, 0, 0, 4, 3, 2, 1, 5, 0, 0, 0, 0, 0, 0, 0, 0, 0,
+        5, 255, 255, 255, 255, 255, 255, 255, 255, 0, 0, 0, 0, 6, 0, 0, 0, 7, 0,
+        2, 255, 255, 255, 255, 1, 0, 0, 0, 1, 0, 0, 0, 0, 0, 0, 0, 0, 0, 0,
+        1, 0, 0, 0, 0, 0, 0, 0, 0, 0, 0, 0, 0, 0, 0, 0, 0, 0, 0,
+        0,
+    ];
+    assert_eq!(write_calls(&calls), stream);
+    assert_eq!(read_calls(&stream).unwrap(), calls);
+}
+
+#[test]
+fn the_digest() {
+    assert_eq!(digest([]), 0xCBF2_9CE4_8422_2325);
+    assert_eq!(digest(*b"a"), 0xAF63_DC4C_8601_EC8C);
+    assert_eq!(digest(*b"foobar"), 0x8594_4171_F739_67E8);
+}
+
+#[test]
+fn the_lines() {
+    let calls = &cases::all()[..20];
+    let text = answers(&Second, calls);
+    assert_eq!(text.lines().count(), 20);
+    // The town is accepted; an empty output is too short for it.
+    let mut lines = text.lines();
+    assert_eq!(lines.next(), Some("check 0 cbf29ce484222325"));
+    assert_eq!(lines.next(), Some("pack 17 cbf29ce484222325"));
+    // P6 further on.
+    assert!(text.contains("audit 0 10 "));
+}
+
+/// Every refusal by every call that can give it, every outcome, every ending.
+#[test]
+fn the_list_has_everything() {
+    let mut player = Player::default();
+    let mut refusals: HashSet<(&str, u8)> = HashSet::new();
+    let (mut outcomes, mut endings) = ([0; 3], [0; 4]);
+    let (mut doubled, mut longest, mut dearest) = (0, 0, 0);
+    for call in cases::all() {
+        let reply = player.play(&Second, &call);
+        refusals.insert((call.kind.word(), reply.refusal()));
+        match reply {
+            Reply::Pass(answer) => {
+                outcomes[usize::from(answer.outcome)] += 1;
+                // More than a loading can add.
+                doubled += usize::from(answer.outcome == MOVED && answer.share > call.share + 64);
+                dearest = dearest.max(answer.cost);
+            }
+            Reply::Run(answer) => {
+                endings[usize::from(answer.ending)] += 1;
+                longest = longest.max(answer.judged);
+            }
+            _ => {}
+        }
+    }
+    for (kind, more) in [
+        (Kind::Check, [].as_slice()),
+        (Kind::Pack, &[17]),
+        (Kind::Start, &[12]),
+        (Kind::Pass, &[12, 14, 15, 16]),
+        (Kind::Run, &[12, 13]),
+        (Kind::Audit, &[12, 14, 15, 16]),
+    ] {
+        for number in (0..=11).chain(more.iter().copied()) {
+            assert!(
+                refusals.contains(&(kind.word(), number)),
+                "{kind:?} {number}"
+            );
+        }
+    }
+    assert!(outcomes.iter().all(|&count| count >= 20), "{outcomes:?}");
+    assert!(endings.iter().all(|&count| count >= 20), "{endings:?}");
+    assert!(doubled > 0 && longest > 100, "{doubled} {longest}");
+    assert!(dearest > i64::MAX as u64);
+}

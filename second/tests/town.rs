@@ -1,0 +1,387 @@
+//! The cases of the town of two roads.
+
+use second::draft::Draft;
+use second::staircase::Road;
+use second::{
+    AuditAnswer, FINEST, MOVED, PassAnswer, REACHED, RUN_FINEST, RunAnswer, SPENT, audit, check,
+    listing, pack, pass, run, start,
+};
+
+const LINK_0: Road = Road {
+    free: 10,
+    rise: 10,
+    capacity: 2,
+};
+const LINK_1: Road = Road {
+    free: 15,
+    rise: 0,
+    capacity: 1,
+};
+
+fn town() -> Vec<u8> {
+    Draft::town().file()
+}
+
+fn town_with(change: impl Fn(&mut Draft)) -> Vec<u8> {
+    let mut draft = Draft::town();
+    change(&mut draft);
+    draft.file()
+}
+
+#[test]
+fn the_file() {
+    let file = town();
+    assert_eq!(file.len(), 58);
+    #[rustfmt::skip]
+    let header = [
+        1, 0, 2, 0, 2, 0, 1, 0,
+        32, 0, 0, 0, 20, 0, 0, 0,
+        52, 0, 0, 0, 2, 0, 0, 0,
+        54, 0, 0, 0, 4, 0, 0, 0,
+    ];
+    assert_eq!(file[..32], header);
+    #[rustfmt::skip]
+    let rest = [
+        0, 0, 1, 0, 10, 0, 10, 0, 2, 0,
+        0, 0, 1, 0, 15, 0, 0, 0, 1, 0,
+        1, 0,
+        2, 0, 0, 0,
+    ];
+    assert_eq!(file[32..], rest);
+    assert_eq!(check(&file), 0);
+}
+
+#[test]
+fn p1_share_1_flow_2() {
+    assert_eq!(LINK_0.time(2, 1), 20);
+}
+
+#[test]
+fn p2_flow_8() {
+    assert_eq!(LINK_0.time(8, 1), 2_570);
+}
+
+#[test]
+fn p3_flow_9() {
+    assert_eq!(LINK_0.time(9, 1), 2_570);
+}
+
+#[test]
+fn p4_share_64_flow_511() {
+    assert_eq!(LINK_0.time(511, 64), 2_530);
+}
+
+#[test]
+fn p5_start() {
+    let mut table = [77, 88, 99];
+    assert_eq!(start(&town(), &mut table), 0);
+    assert_eq!(table, [2, 0, 99]);
+}
+
+#[test]
+fn p6_gap_of_the_start() {
+    // 128 wide: 64 treads of width 2 and heights 10 to 19.
+    let cost: u64 = (0..64)
+        .map(|step| 2 * u64::from(LINK_0.time_on(step)))
+        .sum();
+    let answer = audit(&town(), &[2, 0], 1);
+    assert_eq!(
+        answer,
+        AuditAnswer {
+            refusal: 0,
+            gap: 10,
+            cost
+        }
+    );
+}
+
+#[test]
+fn p7_the_pass_takes_one() {
+    let mut table = [16, 0];
+    let answer = pass(&town(), &mut table, 8);
+    assert_eq!(
+        (answer.refusal, answer.outcome, answer.share),
+        (0, MOVED, 9)
+    );
+    assert_eq!(answer.gap, 80);
+    assert_eq!(table, [16, 2]);
+}
+
+#[test]
+fn p8_share_9() {
+    assert_eq!(LINK_0.time(16, 9), 15);
+    assert_eq!(LINK_1.time(2, 9), 15);
+    let answer = audit(&town(), &[16, 2], 9);
+    assert_eq!(
+        answer,
+        AuditAnswer {
+            refusal: 0,
+            gap: 0,
+            cost: 13_104
+        }
+    );
+}
+
+#[test]
+fn p9_budget_3() {
+    let mut table = [1, 2, 3];
+    let answer = run(&town(), &mut table, 3, 0);
+    assert_eq!(answer.refusal, 0);
+    assert_eq!(answer.ending, SPENT);
+    assert_eq!(answer.judged, 3);
+    assert_eq!(answer.share, 4);
+    assert_eq!(answer.gap, 40);
+    assert_eq!(table, [8, 0, 3]);
+    assert_eq!(answer.cost, audit(&town(), &[8, 0], 4).cost);
+}
+
+#[test]
+fn p10_excess() {
+    let mut table = [0; 2];
+    let answer = run(&town(), &mut table, 3, 5);
+    assert_eq!(
+        (answer.ending, answer.judged, answer.share),
+        (REACHED, 1, 1)
+    );
+    assert_eq!(table, [2, 0]);
+    let answer = run(&town(), &mut table, 1_024, 4);
+    assert_eq!(
+        (answer.ending, answer.judged, answer.share),
+        (REACHED, 5, 9)
+    );
+    let answer = run(&town(), &mut table, 4, 4);
+    assert_eq!((answer.ending, answer.judged, answer.share), (SPENT, 4, 8));
+}
+
+#[test]
+fn the_passes_of_a_run() {
+    let mut table = [0; 2];
+    assert_eq!(start(&town(), &mut table), 0);
+    let mut share = 1;
+    let mut seen = vec![(share, table)];
+    while seen.len() < 5 {
+        let answer = pass(&town(), &mut table, share);
+        assert_eq!((answer.refusal, answer.outcome), (0, MOVED));
+        share = answer.share;
+        seen.push((share, table));
+    }
+    let expected = [
+        (1, [2, 0]),
+        (2, [4, 0]),
+        (4, [8, 0]),
+        (8, [16, 0]),
+        (9, [16, 2]),
+    ];
+    assert_eq!(seen, expected);
+}
+
+#[test]
+fn no_trips() {
+    let file = town_with(|draft| draft.trips[0] = vec![0, 0]);
+    let mut table = [5, 6];
+    let answer = run(&file, &mut table, 7, 0);
+    assert_eq!(
+        answer,
+        RunAnswer {
+            refusal: 0,
+            ending: REACHED,
+            judged: 1,
+            share: 1,
+            gap: 0,
+            cost: 0
+        }
+    );
+    assert_eq!(table, [0, 0]);
+}
+
+#[test]
+fn trips_to_oneself() {
+    assert_eq!(check(&town_with(|draft| draft.trips[0] = vec![0, 1])), 9);
+}
+
+#[test]
+fn no_link_into_the_destination() {
+    let away = |draft: &mut Draft| {
+        for link in &mut draft.links {
+            link.swap(0, 1);
+        }
+    };
+    assert_eq!(check(&town_with(away)), 11);
+    let idle = town_with(|draft| {
+        away(draft);
+        draft.trips[0] = vec![0, 0];
+    });
+    assert_eq!(check(&idle), 0);
+    let mut table = [3, 3];
+    assert_eq!(start(&idle, &mut table), 0);
+    assert_eq!(table, [0, 0]);
+}
+
+#[test]
+fn most_trips() {
+    let most = town_with(|draft| draft.trips[0] = vec![65_535, 0]);
+    assert_eq!(check(&most), 0);
+    let mut table = [0; 2];
+    assert_eq!(start(&most, &mut table), 0);
+    assert_eq!(table, [65_535, 0]);
+    for (trips, refusal) in [(vec![32_768, 0, 32_767], 0), (vec![32_768, 0, 32_768], 10)] {
+        let file = town_with(|draft| {
+            draft.nodes = 3;
+            draft.links.push([2, 1, 1, 0, 1]);
+            draft.trips[0] = trips.clone();
+        });
+        assert_eq!(check(&file), refusal);
+    }
+}
+
+#[test]
+fn a_table_too_short() {
+    let file = town();
+    let mut table = [4];
+    assert_eq!(start(&file, &mut table), 12);
+    assert_eq!(pass(&file, &mut table, 1).refusal, 12);
+    assert_eq!(run(&file, &mut table, 1, 0).refusal, 12);
+    assert_eq!(audit(&file, &table, 1).refusal, 12);
+    assert_eq!(table, [4]);
+}
+
+#[test]
+fn budgets() {
+    let mut table = [4, 5];
+    for budget in [0, 1_025, 65_536, u32::MAX] {
+        let refused = RunAnswer {
+            refusal: 13,
+            ..RunAnswer::default()
+        };
+        assert_eq!(run(&town(), &mut table, budget, 0), refused);
+        assert_eq!(table, [4, 5]);
+    }
+    assert_eq!(run(&town(), &mut table, 1_024, 0).ending, REACHED);
+    assert_eq!(run(&town(), &mut table, 1, 0).ending, SPENT);
+}
+
+#[test]
+fn flows_at_share_9() {
+    for (flows, refusal) in [
+        ([16, 2], 0),
+        ([16, 1], 16),
+        ([18, 1], 16),
+        ([18, 0], 0),
+        ([19, 0], 15),
+        ([0, 19], 15),
+    ] {
+        let mut table = flows;
+        assert_eq!(audit(&town(), &table, 9).refusal, refusal);
+        let answer = pass(&town(), &mut table, 9);
+        if refusal != 0 {
+            let refused = PassAnswer {
+                refusal,
+                ..PassAnswer::default()
+            };
+            assert_eq!(answer, refused);
+            assert_eq!(table, flows);
+        } else {
+            assert_eq!(answer.refusal, 0);
+        }
+    }
+}
+
+#[test]
+fn the_finest_table() {
+    // All trips on the dearer road at the largest share: there is no j, and
+    // no doubling.
+    let mut table = [0, 2_048];
+    let answer = pass(&town(), &mut table, 1_024);
+    assert_eq!(
+        (answer.refusal, answer.outcome, answer.share),
+        (0, FINEST, 1_024)
+    );
+    assert_eq!(answer.gap, 5 * 2_048);
+    assert_eq!(answer.cost, 15 * 64 * 2_048);
+    assert_eq!(table, [0, 2_048]);
+}
+
+#[test]
+fn a_run_that_ends_finest() {
+    // One trip and two roads at equal times when empty, where the next link
+    // is always the lower one: at some share no table is better than its
+    // neighbours, and its gap is not 0.
+    let file = town_with(|draft| {
+        draft.links = vec![[0, 1, 10, 7_777, 3], [0, 1, 11, 5_555, 2]];
+        draft.trips[0] = vec![5, 0];
+    });
+    let mut table = [0; 2];
+    let answer = run(&file, &mut table, 1_024, 0);
+    assert_eq!(answer.ending, RUN_FINEST);
+    assert!(answer.gap > 0 && 2 * answer.share > 1_024);
+    assert_eq!(table[0] + table[1], 5 * answer.share);
+    let before = table;
+    let judged = pass(&file, &mut table, answer.share);
+    assert_eq!((judged.outcome, judged.share), (FINEST, answer.share));
+    assert_eq!((judged.gap, judged.cost), (answer.gap, answer.cost));
+    assert_eq!(table, before);
+}
+
+#[test]
+fn packing() {
+    let file = Draft::town().file_with_gaps([&[1], &[2; 9], &[3; 4], &[4; 2]]);
+    assert_eq!(file.len(), 58 + 16);
+    let mut output = [0xAB; 60];
+    assert_eq!(pack(&file, &mut output), 0);
+    assert_eq!(output[..58], town());
+    assert_eq!(output[58..], [0xAB; 2]);
+    let mut again = [0; 58];
+    assert_eq!(pack(&output[..58], &mut again), 0);
+    assert_eq!(again[..], town());
+    assert_eq!(pack(&file, &mut [0; 57]), 17);
+}
+
+fn input(budget: u16, excess: u16, file: &[u8]) -> Vec<u8> {
+    let numbers = [budget.to_le_bytes(), excess.to_le_bytes()].concat();
+    [numbers.as_slice(), file].concat()
+}
+
+fn listed(input: &[u8]) -> String {
+    String::from_utf8(listing(input)).unwrap()
+}
+
+#[test]
+fn the_listing() {
+    let expected = "reached\njudged 5\nshare 9\ngap 0\ncost 13104\nlink 0 16 15\nlink 1 2 15\n";
+    assert_eq!(listed(&input(10, 0, &town())), expected);
+}
+
+#[test]
+fn other_listings() {
+    let listed_first = |budget, excess, file: &[u8]| {
+        let text = listed(&input(budget, excess, file));
+        text.lines().next().unwrap().to_string()
+    };
+    assert_eq!(listed_first(3, 0, &town()), "spent");
+    assert_eq!(listed_first(1, 5, &town()), "reached");
+    let finest = town_with(|draft| {
+        draft.links = vec![[0, 1, 10, 7_777, 3], [0, 1, 11, 5_555, 2]];
+        draft.trips[0] = vec![5, 0];
+    });
+    assert_eq!(listed_first(1_024, 0, &finest), "finest");
+}
+
+#[test]
+fn refused_listings() {
+    for length in 0..4 {
+        assert_eq!(listed(&[7; 3][..length.min(3)]), "refused 1\n");
+    }
+    assert_eq!(listed(&input(10, 0, &[])), "refused 1\n");
+    assert_eq!(listed(&input(10, 0, &town()[..31])), "refused 1\n");
+    assert_eq!(listed(&input(0, 0, &town())), "refused 13\n");
+    assert_eq!(listed(&input(1_025, 0, &town())), "refused 13\n");
+    assert_eq!(listed(&input(0, 0, &[0; 40])), "refused 2\n");
+    let own = town_with(|draft| draft.trips[0] = vec![0, 1]);
+    assert_eq!(listed(&input(0, 0, &own)), "refused 9\n");
+    for (length, first) in [(65_536, "reached"), (65_537, "refused 1")] {
+        let mut file = town();
+        file.resize(length, 0);
+        let text = listed(&input(10, 0, &file));
+        assert_eq!(text.lines().next(), Some(first));
+    }
+}

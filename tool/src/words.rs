@@ -1,0 +1,80 @@
+//! Plain words for the numbers: what each refusal means, and numbers and
+//! limits written for people.
+
+use std::fmt::Display;
+use std::ops::RangeInclusive;
+
+/// What is wrong when a call is refused, by number: number 1 comes first.
+pub const REFUSALS: [&str; 17] = [
+    "the file is not 32 to 65,536 bytes long",
+    "the version is not 1",
+    "nodes are not 2 to 128, links not 1 to 512, destinations not 1 to 32, \
+     or there are more destinations than nodes",
+    "a section begins inside the header, runs into the next one or past the end of the file",
+    "the length of a section does not fit the counts: 10 bytes a link, 2 a destination, \
+     2 for each destination and node",
+    "a link's tail or head is not a node, or both are the same node",
+    "a link's free time is not 1 to 16,383, its rise not 0 to 16,383, or its capacity is 0",
+    "a destination is not a node, or the destinations are not strictly ascending",
+    "a destination has trips to itself",
+    "the trips add up to more than 65,535",
+    "a node with trips to a destination has no path to it",
+    "the flow table holds fewer numbers than destinations × links",
+    "the budget is not 1 to 1,024",
+    "the share is not 1 to 1,024",
+    "the total flow on a link is more than share × total trips",
+    "the flow table does not conserve: to some destination, what leaves a node is not \
+     what enters it plus share × the trips that begin there",
+    "the output slice is shorter than the packed study",
+];
+
+/// What a refusal means, if the number is one of the table's.
+pub fn refusal(number: u8) -> Option<&'static str> {
+    REFUSALS.get(usize::from(number).checked_sub(1)?).copied()
+}
+
+/// What check answers: `accepted`, or `refused`, the number and its meaning.
+pub fn answer(number: u8) -> String {
+    match (number, refusal(number)) {
+        (0, _) => "accepted".to_owned(),
+        (_, Some(meaning)) => format!("refused {number}: {meaning}"),
+        (_, None) => format!("refused {number}"),
+    }
+}
+
+/// The table of refusals, a line each.
+pub fn table() -> String {
+    (1..)
+        .zip(REFUSALS)
+        .map(|(number, meaning)| format!("{number:2}  {meaning}\n"))
+        .collect()
+}
+
+/// A whole number in groups of three digits: `65,535`.
+pub fn grouped(number: impl Into<u128>) -> String {
+    let digits = number.into().to_string();
+    let mut text = String::new();
+    for (place, digit) in digits.chars().enumerate() {
+        if place > 0 && (digits.len() - place).is_multiple_of(3) {
+            text.push(',');
+        }
+        text.push(digit);
+    }
+    text
+}
+
+/// A limit: `1 to 16,383`, or `1` where it leaves no choice.
+pub fn range<N: Copy + Into<u128>>(limits: &RangeInclusive<N>) -> String {
+    let (least, most) = (grouped(*limits.start()), grouped(*limits.end()));
+    if least == most {
+        return least;
+    }
+    format!("{least} to {most}")
+}
+
+/// A count with its noun: `1 node`, `2 nodes`.
+pub fn count(number: impl Into<u128> + Copy, noun: impl Display) -> String {
+    let number = number.into();
+    let plural = if number == 1 { "" } else { "s" };
+    format!("{} {noun}{plural}", grouped(number))
+}

@@ -1,0 +1,76 @@
+//! Help, refusals and what else belongs to no command.
+
+mod common;
+
+use common::{Folder, TOWN};
+use study_tool::words;
+
+#[test]
+fn refusals() {
+    let folder = Folder::new("program-refusals");
+    let table = folder.study(&["refusals"]).ok();
+    let lines: Vec<&str> = table.lines().collect();
+    assert_eq!(lines.len(), 17);
+    for (number, line) in (1..).zip(&lines) {
+        let meaning = words::refusal(number).expect("one of the table's");
+        assert_eq!(*line, format!("{number:2}  {meaning}"));
+    }
+    assert_eq!(
+        lines[10],
+        "11  a node with trips to a destination has no path to it"
+    );
+    assert_eq!(words::refusal(0), None);
+    assert_eq!(words::refusal(18), None);
+    assert_eq!(words::answer(0), "accepted");
+    assert_eq!(words::answer(18), "refused 18");
+}
+
+#[test]
+fn help() {
+    let folder = Folder::new("program-help");
+    let tool = folder.study(&["--help"]).ok();
+    assert_eq!(folder.study(&["help"]).ok(), tool);
+    assert_eq!(folder.study(&["-h"]).ok(), tool);
+    for command in ["from-tntp", "from-text", "show", "refusals"] {
+        assert!(tool.contains(&format!("\n  {command} ")), "{tool}");
+        let help = folder.study(&[command, "--help"]).ok();
+        assert!(
+            help.contains(&format!("\nUsage: study {command}")),
+            "{help}"
+        );
+        assert_eq!(folder.study(&[command, "-h"]).ok(), help);
+    }
+}
+
+#[test]
+fn help_shows_a_text_that_is_read() {
+    let folder = Folder::new("program-example");
+    let help = folder.study(&["from-text", "--help"]).ok();
+    let begin = help.find("  study 1\n").expect("the example begins");
+    let end = help.find("- The four lines").expect("the example ends");
+    folder.put("town.txt", &help[begin..end]);
+    let outcome = folder.study(&["from-text", "town.txt", "--out", "out"]);
+    assert_eq!(outcome.stderr, "");
+    outcome.ok();
+    assert_eq!(folder.study(&["show", "out"]).ok(), TOWN);
+}
+
+#[test]
+fn command_lines_that_make_no_sense() {
+    let folder = Folder::new("program-usage");
+    let outcome = folder.study(&["listing"]);
+    assert_eq!(outcome.status, 2);
+    assert_eq!(
+        outcome.stderr,
+        "study: unknown command `listing`\nsee `study --help`\n"
+    );
+    let outcome = folder.study(&[]);
+    assert_eq!(outcome.status, 2);
+    assert_eq!(outcome.stderr, folder.study(&["--help"]).ok());
+    let outcome = folder.study(&["show"]);
+    assert_eq!(outcome.status, 2);
+    assert_eq!(
+        outcome.stderr,
+        "study: FILE is missing\nsee `study show --help`\n"
+    );
+}

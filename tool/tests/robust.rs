@@ -1,0 +1,126 @@
+//! Whatever the inputs hold, the answer is a study or a problem, never a panic.
+
+mod common;
+
+use common::{Dice, TOWN};
+use study_tool::source::Source;
+use study_tool::tntp::Options;
+use study_tool::{text, tntp};
+
+const NET: &str = "\
+<NUMBER OF ZONES> 3
+<NUMBER OF NODES> 3
+<NUMBER OF LINKS> 2
+<END OF METADATA>
+1 2 120 6 6 0.15 4 0 0 1 ;
+2 3 80.5 4 4 0.25 4 0 0 1 ;
+";
+
+const TRIPS: &str = "\
+<TOTAL OD FLOW> 30.0
+<END OF METADATA>
+Origin 1
+1 : 0.0; 2 : 10.0; 3 : 20.0;
+";
+
+/// Pieces that mean something in one text or another.
+const PIECES: [&str; 30] = [
+    "",
+    " ",
+    "\n",
+    ";",
+    ":",
+    "<",
+    ">",
+    "~",
+    "#",
+    "-",
+    "+",
+    ".",
+    "e",
+    "E-9",
+    "0",
+    "1",
+    "9",
+    "65535",
+    "65536",
+    "1e37",
+    "1e-37",
+    "Origin",
+    "link",
+    "from",
+    "destination",
+    "links 1",
+    "×",
+    "\u{feff}",
+    "\r",
+    "340282366920938463463374607431768211455",
+];
+
+/// A text with a few places overwritten.
+fn spoilt(text: &str, dice: &mut Dice) -> String {
+    let mut letters: Vec<String> = text.chars().map(String::from).collect();
+    for _ in 0..dice.number(1, 3) {
+        let place = dice.below(letters.len() as u64) as usize;
+        let piece = PIECES[dice.below(PIECES.len() as u64) as usize];
+        match dice.number(0, 2) {
+            0 => letters[place] = piece.to_owned(),
+            1 => letters[place].push_str(piece),
+            _ => letters.truncate(place + 1),
+        }
+    }
+    letters.concat()
+}
+
+#[test]
+fn texts() {
+    let mut dice = Dice(3);
+    let (mut read, mut refused) = (0, 0);
+    for _ in 0..4_000 {
+        let source = Source::new("town.txt", spoilt(TOWN, &mut dice));
+        match text::read(&source) {
+            Ok(reading) => {
+                read += 1;
+                let answer = second::check(&reading.study.packed());
+                assert!(!(1..=5).contains(&answer), "{answer}");
+                reading.stale(answer);
+            }
+            Err(problem) => {
+                refused += 1;
+                assert!(problem.to_string().starts_with("town.txt: line "));
+            }
+        }
+    }
+    assert!(read > 400 && refused > 400, "{read} {refused}");
+}
+
+#[test]
+fn tntp_files() {
+    let mut dice = Dice(4);
+    let (mut made, mut refused) = (0, 0);
+    for turn in 0..4_000 {
+        let (mut net, mut trips) = (NET.to_owned(), TRIPS.to_owned());
+        if turn % 2 == 0 {
+            net = spoilt(&net, &mut dice);
+        } else {
+            trips = spoilt(&trips, &mut dice);
+        }
+        let (net, trips) = (Source::new("net", net), Source::new("trips", trips));
+        match tntp::convert(&net, &trips, &Options::default()) {
+            Ok(conversion) => {
+                made += 1;
+                assert_eq!(second::check(&conversion.study.packed()), 0);
+                assert!(!conversion.report.is_empty());
+            }
+            Err(problem) => {
+                refused += 1;
+                let problem = problem.to_string();
+                assert!(
+                    problem.starts_with("net: line ") || problem.starts_with("trips: line "),
+                    "{problem}"
+                );
+            }
+        }
+    }
+    assert!(made > 200 && refused > 400, "{made} {refused}");
+}

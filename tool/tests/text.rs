@@ -1,0 +1,523 @@
+//! `study from-text` and `study show`.
+
+mod common;
+
+use common::{Folder, TOWN, TOWN_FILE, with};
+
+const COMMAND: [&str; 4] = ["from-text", "town.txt", "--out", "out"];
+
+fn folder(name: &str, text: &str) -> Folder {
+    let folder = Folder::new(&format!("text-{name}"));
+    folder.put("town.txt", text);
+    folder
+}
+
+#[track_caller]
+fn bad(name: &str, from: &str, to: &str, message: &str) {
+    let folder = folder(name, &with(TOWN, from, to));
+    folder.fails(&COMMAND, &format!("town.txt: {message}"));
+}
+
+/// The town with a change: from-text writes a file, check answers so, and
+/// show prints the text again.
+#[track_caller]
+fn refused(name: &str, edits: &[(&str, &str)], answer: &str, culprit: &str) {
+    let text = edits
+        .iter()
+        .fold(TOWN.to_owned(), |text, (from, to)| with(&text, from, to));
+    let text = with(
+        &text,
+        "check: accepted\n",
+        &format!("check: refused {answer}\n# {culprit}\n"),
+    );
+    let folder = folder(&format!("refused-{name}"), &text);
+    let outcome = folder.study(&COMMAND);
+    assert_eq!(outcome.stderr, "");
+    let said = outcome.ok();
+    assert!(
+        said.ends_with(&format!("\ncheck: refused {answer}\n{culprit}\n")),
+        "{said}"
+    );
+    assert_eq!(folder.study(&["show", "out"]).ok(), text);
+}
+
+#[test]
+fn the_town_of_two_roads() {
+    let folder = folder("town", TOWN);
+    let outcome = folder.study(&COMMAND);
+    assert_eq!(outcome.stderr, "");
+    assert_eq!(
+        outcome.ok(),
+        "out: 58 bytes, 2 nodes, 2 links, 1 destination, 2 trips\ncheck: accepted\n"
+    );
+    assert_eq!(folder.bytes("out"), TOWN_FILE);
+    assert_eq!(folder.study(&["show", "out"]).ok(), TOWN);
+}
+
+#[test]
+fn forms_of_text_that_make_no_difference() {
+    let bare = "study 1\nnodes 2\nlinks 2\ndestinations 1\n\
+                link 0 0 1 10 10 2\nlink 1 0 1 15 0 1\ndestination 1\nfrom 0: 2\n";
+    let loose = "\u{feff}# a town\r\n\r\n  study  1 # version\r\nnodes\t2\r\nlinks 2\r\n\
+                 destinations 1\r\n#link 0 9 9 9 9 9\r\nlink 0 0 1 10 010 2\r\n\r\n\
+                 link 1 0 1 15 0 1#\r\n destination 1\r\nfrom 1 : 0\r\n\r\nfrom 0:2";
+    for (name, text) in [("bare", bare), ("loose", loose)] {
+        let folder = folder(name, text);
+        folder.study(&COMMAND).ok();
+        assert_eq!(folder.bytes("out"), TOWN_FILE, "{name}");
+        assert_eq!(folder.study(&["show", "out"]).ok(), TOWN, "{name}");
+    }
+}
+
+#[test]
+fn lines_that_no_longer_hold_are_reported() {
+    let folder = folder("stale", &with(TOWN, "from 0: 2", "from 0: 3\n  from 1: 1"));
+    let outcome = folder.study(&COMMAND);
+    assert_eq!(
+        outcome.stderr,
+        "town.txt: line 16: says `total: 2 trips`, but now it is `total: 4 trips`\n\
+         town.txt: line 17: says `check: accepted`, but now it is \
+         `check: refused 9: a destination has trips to itself`\n"
+    );
+    assert_eq!(
+        outcome.ok(),
+        "out: 58 bytes, 2 nodes, 2 links, 1 destination, 4 trips\n\
+         check: refused 9: a destination has trips to itself\n\
+         destination 1 has 1 trip to itself\n"
+    );
+}
+
+// Studies that check refuses.
+
+#[test]
+fn refused_6() {
+    let answer = "6: a link's tail or head is not a node, or both are the same node";
+    refused(
+        "6-head",
+        &[(
+            "link      1     0     1     15",
+            "link      1     0     2     15",
+        )],
+        answer,
+        "link 1: head 2, limit 0 to 1",
+    );
+    refused(
+        "6-loop",
+        &[(
+            "link      1     0     1     15",
+            "link      1     1     1     15",
+        )],
+        answer,
+        "link 1: tail and head are both 1",
+    );
+}
+
+#[test]
+fn refused_7() {
+    let answer =
+        "7: a link's free time is not 1 to 16,383, its rise not 0 to 16,383, or its capacity is 0";
+    refused(
+        "7-free",
+        &[("     15      0         1", "      0      0         1")],
+        answer,
+        "link 1: free time 0, limit 1 to 16,383",
+    );
+    refused(
+        "7-rise",
+        &[("     15      0         1", "     15  16384         1")],
+        answer,
+        "link 1: rise 16384, limit 0 to 16,383",
+    );
+    refused(
+        "7-capacity",
+        &[("     15      0         1", "     15      0         0")],
+        answer,
+        "link 1: capacity 0, limit 1 to 65,535",
+    );
+}
+
+#[test]
+fn refused_8() {
+    let answer = "8: a destination is not a node, or the destinations are not strictly ascending";
+    refused(
+        "8-node",
+        &[("destination 1 ", "destination 65535 ")],
+        answer,
+        "destination 65535, limit 0 to 1",
+    );
+    refused(
+        "8-order",
+        &[
+            ("destinations 1", "destinations 2"),
+            ("total", "destination 1  # 0 trips\n\ntotal"),
+        ],
+        answer,
+        "destination 1 comes after destination 1",
+    );
+}
+
+#[test]
+fn refused_9() {
+    refused(
+        "9",
+        &[("from 0: 2", "from 1: 2")],
+        "9: a destination has trips to itself",
+        "destination 1 has 2 trips to itself",
+    );
+}
+
+#[test]
+fn refused_10() {
+    refused(
+        "10",
+        &[
+            ("destinations 1", "destinations 2"),
+            (
+                "destination 1  # 2 trips\n  from 0: 2",
+                "destination 0  # 1 trip\n  from 1: 1\n\n\
+                 destination 1  # 65,535 trips\n  from 0: 65535",
+            ),
+            ("total: 2 trips", "total: 65536 trips"),
+        ],
+        "10: the trips add up to more than 65,535",
+        "65,536 trips, limit 65,535",
+    );
+}
+
+#[test]
+fn refused_11() {
+    refused(
+        "11",
+        &[
+            ("destination 1 ", "destination 0 "),
+            ("from 0: 2", "from 1: 2"),
+        ],
+        "11: a node with trips to a destination has no path to it",
+        "node 1 has 2 trips to destination 0 and no path to it",
+    );
+}
+
+// Bad texts.
+
+#[test]
+fn wrong_field_count() {
+    let fields = "must be 6: number, tail, head, free time, rise, capacity";
+    bad(
+        "fields-5",
+        "     10         2",
+        "     10",
+        &format!("line 9: 5 fields after `link`, {fields}"),
+    );
+    bad(
+        "fields-7",
+        "     10         2",
+        "     10         2  4",
+        &format!("line 9: 7 fields after `link`, {fields}"),
+    );
+    bad(
+        "fields-from",
+        "from 0: 2",
+        "from 0 2",
+        "line 13: `from 0 2`, must be `from NODE: TRIPS`",
+    );
+    bad(
+        "fields-destination",
+        "destination 1 ",
+        "destination 1 2 ",
+        "line 12: destination `1 2` is not a whole number, limit 0 to 65,535",
+    );
+}
+
+#[test]
+fn number_of_more_than_16_bits() {
+    bad(
+        "u16-capacity",
+        "     10         2",
+        "     10     65536",
+        "line 9: link capacity 65536, limit 0 to 65,535",
+    );
+    bad(
+        "u16-trips",
+        "from 0: 2",
+        "from 0: 70000",
+        "line 13: trips 70000, limit 0 to 65,535",
+    );
+    bad(
+        "u16-destination",
+        "destination 1 ",
+        "destination 99999999999999999999 ",
+        "line 12: destination 99999999999999999999, limit 0 to 65,535",
+    );
+}
+
+#[test]
+fn not_a_whole_number() {
+    bad(
+        "negative",
+        "     10         2",
+        "     10        -2",
+        "line 9: link capacity `-2` is not a whole number, limit 0 to 65,535",
+    );
+    bad(
+        "decimal",
+        "from 0: 2",
+        "from 0: 2.5",
+        "line 13: trips `2.5` is not a whole number, limit 0 to 65,535",
+    );
+    bad(
+        "plus",
+        "from 0: 2",
+        "from 0: +2",
+        "line 13: trips `+2` is not a whole number, limit 0 to 65,535",
+    );
+    bad(
+        "nothing",
+        "nodes 2",
+        "nodes",
+        "line 4: nodes `` is not a whole number, limit 2 to 128",
+    );
+}
+
+#[test]
+fn counts_out_of_range() {
+    bad("version", "study 1", "study 2", "line 3: study 2, limit 1");
+    bad(
+        "nodes",
+        "nodes 2",
+        "nodes 129",
+        "line 4: nodes 129, limit 2 to 128",
+    );
+    bad(
+        "links",
+        "links 2",
+        "links 0",
+        "line 5: links 0, limit 1 to 512",
+    );
+    bad(
+        "destinations",
+        "destinations 1",
+        "destinations 3",
+        "line 6: destinations 3, limit 1 to 2",
+    );
+}
+
+#[test]
+fn counts_that_disagree_with_the_lines() {
+    bad(
+        "links-few",
+        "links 2",
+        "links 3",
+        "line 12: found `destination 1` where link 2 of 3 (they count from 0) is due",
+    );
+    bad(
+        "links-many",
+        "links 2",
+        "links 1",
+        "line 10: a link beyond the header's `links 1`",
+    );
+    bad(
+        "destinations-few",
+        "destinations 1",
+        "destinations 2",
+        "line 15: found `total: 2 trips` where the line `destination` number 2 of 2 is due",
+    );
+    bad(
+        "destinations-many",
+        "total",
+        "destination 1\ntotal",
+        "line 15: a destination beyond the header's `destinations 1`",
+    );
+    bad(
+        "link-order",
+        "link      1 ",
+        "link      2 ",
+        "line 10: link number 2, must be 1: links stand in order",
+    );
+}
+
+#[test]
+fn lines_out_of_place() {
+    bad(
+        "header",
+        "nodes 2\nlinks 2\n",
+        "links 2\nnodes 2\n",
+        "line 4: found `links 2` where the line `nodes` of the header is due",
+    );
+    bad(
+        "word",
+        "total",
+        "totals 5\ntotal",
+        "line 15: found `totals 5` where `from`, `total:`, `check:` or the end is due",
+    );
+    bad(
+        "from-node",
+        "from 0: 2",
+        "from 2: 2",
+        "line 13: from node 2, limit 0 to 1",
+    );
+    bad(
+        "from-twice",
+        "from 0: 2",
+        "from 0: 2\n  from 0: 2",
+        "line 14: a second line `from 0` for destination 1",
+    );
+    let folder = folder("cut", "study 1\nnodes 2\n\n# no more\n");
+    folder.fails(
+        &COMMAND,
+        "town.txt: line 4: the text ends where the line `links` of the header is due",
+    );
+}
+
+#[test]
+fn not_text() {
+    let folder = Folder::new("text-binary");
+    folder.put("town.txt", b"study 1\nnodes \xff\n");
+    folder.fails(&COMMAND, "town.txt: line 2: not a text file (not UTF-8)");
+}
+
+// Files that questions 1 to 5 refuse.
+
+/// Show says this of a file and nothing else.
+#[track_caller]
+fn shows_only(name: &str, file: &[u8], shown: &str) {
+    let folder = Folder::new(&format!("show-{name}"));
+    folder.put("file", file);
+    let outcome = folder.study(&["show", "file"]);
+    assert_eq!(outcome.stdout, shown);
+    assert_eq!(outcome.stderr, "");
+    assert_eq!(outcome.status, 1);
+}
+
+fn town_with(place: usize, bytes: &[u8]) -> Vec<u8> {
+    let mut file = TOWN_FILE.to_vec();
+    file[place..place + bytes.len()].copy_from_slice(bytes);
+    file
+}
+
+#[test]
+fn refused_1() {
+    let answer = "check: refused 1: the file is not 32 to 65,536 bytes long\n";
+    shows_only(
+        "1-short",
+        &TOWN_FILE[..31],
+        &format!("{answer}found: 31 bytes, limit 32 to 65,536\n"),
+    );
+    shows_only(
+        "1-empty",
+        &[],
+        &format!("{answer}found: 0 bytes, limit 32 to 65,536\n"),
+    );
+    shows_only(
+        "1-long",
+        &[0; 65_537],
+        &format!("{answer}found: 65,537 bytes, limit 32 to 65,536\n"),
+    );
+}
+
+#[test]
+fn refused_2() {
+    shows_only(
+        "2",
+        &town_with(0, &[2]),
+        "check: refused 2: the version is not 1\nfound: version 2, must be 1\n",
+    );
+}
+
+#[test]
+fn refused_3() {
+    let answer = "check: refused 3: nodes are not 2 to 128, links not 1 to 512, destinations not \
+                  1 to 32, or there are more destinations than nodes\n";
+    shows_only(
+        "3-nodes",
+        &town_with(2, &[0, 2, 0, 0]),
+        &format!("{answer}found: nodes 512, limit 2 to 128; links 0, limit 1 to 512\n"),
+    );
+    shows_only(
+        "3-more",
+        &town_with(6, &[3]),
+        &format!("{answer}found: destinations 3, more than nodes 2\n"),
+    );
+}
+
+#[test]
+fn refused_4() {
+    let answer = "check: refused 4: a section begins inside the header, runs into the next one or \
+                  past the end of the file\n";
+    shows_only(
+        "4-header",
+        &town_with(8, &[31]),
+        &format!("{answer}found: links begin at byte 31, must be 32 or later\n"),
+    );
+    shows_only(
+        "4-next",
+        &town_with(16, &[51]),
+        &format!(
+            "{answer}found: links begin at byte 32 and have 20 bytes, so they end at 52, \
+             limit 51, where destinations begin\n"
+        ),
+    );
+    shows_only(
+        "4-end",
+        &TOWN_FILE[..57],
+        &format!(
+            "{answer}found: trips begin at byte 54 and have 4 bytes, so they end at 58, \
+             limit 57, the end of the file\n"
+        ),
+    );
+    shows_only(
+        "4-far",
+        &town_with(24, &[255; 8]),
+        &format!(
+            "{answer}found: trips begin at byte 4,294,967,295 and have 4,294,967,295 bytes, \
+             so they end at 8,589,934,590, limit 58, the end of the file\n"
+        ),
+    );
+}
+
+#[test]
+fn refused_5() {
+    shows_only(
+        "5",
+        &town_with(28, &[2]),
+        "check: refused 5: the length of a section does not fit the counts: 10 bytes a link, \
+         2 a destination, 2 for each destination and node\n\
+         found: trips have 2 bytes, must have 4 = 2 × 1 destination × 2 nodes\n",
+    );
+}
+
+#[test]
+fn missing_file() {
+    let folder = Folder::new("show-missing");
+    let outcome = folder.study(&["show", "file"]);
+    assert_eq!(outcome.status, 1);
+    assert_eq!(outcome.stdout, "");
+    assert!(
+        outcome.stderr.starts_with("study: file: cannot be read: "),
+        "{}",
+        outcome.stderr
+    );
+}
+
+#[test]
+fn gaps_are_left_out() {
+    // Three bytes after the header, one after each section.
+    let mut file = TOWN_FILE[..32].to_vec();
+    for (place, offset) in [(8, 35), (16, 56), (24, 59)] {
+        file[place] = offset;
+    }
+    file.extend([7, 7, 7]);
+    file.extend(&TOWN_FILE[32..52]);
+    file.push(7);
+    file.extend(&TOWN_FILE[52..54]);
+    file.push(7);
+    file.extend(&TOWN_FILE[54..]);
+    file.push(7);
+
+    let folder = Folder::new("show-gaps");
+    folder.put("file", file);
+    let shown = folder.study(&["show", "file"]).ok();
+    assert_eq!(shown, TOWN);
+    folder.put("town.txt", shown);
+    folder.study(&COMMAND).ok();
+    assert_eq!(folder.bytes("out"), TOWN_FILE);
+}

@@ -1,0 +1,692 @@
+//! `study from-tntp`.
+
+mod common;
+
+use common::{Folder, with};
+use std::fs;
+use std::path::Path;
+use study_tool::format::{Link, Study};
+
+/// A triangle with the first link on line 7.
+const NET: &str = "\
+<NUMBER OF ZONES> 3
+<NUMBER OF NODES> 3
+<FIRST THRU NODE> 1
+<NUMBER OF LINKS> 3
+<END OF METADATA>
+~\tinit\tterm\tcapacity\tlength\tfree\tb\tpower\tspeed\ttoll\ttype\t;
+\t1\t2\t120\t6\t6\t0.15\t4\t0\t0\t1\t;
+\t2\t3\t80.5\t4\t4\t0.25\t4\t0\t0\t1\t;
+\t3\t1\t60\t5\t5\t0\t1\t0\t0\t1\t;
+";
+
+/// Trips in the triangle, the first ones on line 6.
+const TRIPS: &str = "\
+<NUMBER OF ZONES> 3
+<TOTAL OD FLOW> 35.5
+<END OF METADATA>
+
+Origin 1
+    1 :    0.0;     2 :   10.0;     3 :   20.0;
+Origin 3
+    1 :    5.5;
+";
+
+const COMMAND: [&str; 5] = ["from-tntp", "net.tntp", "trips.tntp", "--out", "out"];
+
+fn folder(name: &str, net: &str, trips: &str) -> Folder {
+    let folder = Folder::new(&format!("tntp-{name}"));
+    folder.put("net.tntp", net);
+    folder.put("trips.tntp", trips);
+    folder
+}
+
+fn bad_net(name: &str, from: &str, to: &str, message: &str) {
+    let folder = folder(name, &with(NET, from, to), TRIPS);
+    folder.fails(&COMMAND, &format!("net.tntp: {message}"));
+}
+
+fn bad_trips(name: &str, from: &str, to: &str, message: &str) {
+    let folder = folder(name, NET, &with(TRIPS, from, to));
+    folder.fails(&COMMAND, &format!("trips.tntp: {message}"));
+}
+
+#[test]
+fn sioux_falls() {
+    let data = Path::new(env!("CARGO_MANIFEST_DIR")).join("tests/data");
+    let read = |name| fs::read_to_string(data.join(name)).expect(name);
+    let folder = folder(
+        "sioux-falls",
+        &read("SiouxFalls_net.tntp"),
+        &read("SiouxFalls_trips.tntp"),
+    );
+    let outcome = folder.study(&[&COMMAND[..], &["--vehicles-per-trip", "10"]].concat());
+    assert_eq!(outcome.status, 0, "{outcome:?}");
+    assert_eq!(
+        outcome.stdout,
+        "out: 1,992 bytes, 24 nodes, 76 links, 24 destinations, 36,060 trips\n\
+         check: accepted\n"
+    );
+    assert_eq!(
+        outcome.stderr,
+        "rounded to the nearest whole number, halves up:\n  \
+         free times: 0 of 76\n  \
+         rises: 0 of 76\n  \
+         capacities: 70 of 76, by 0.4917717 trips at most \
+         (net.tntp: line 37: capacity 4854.917717 became 485)\n  \
+         trips: 0 of 576\n"
+    );
+
+    let file = folder.bytes("out");
+    assert_eq!(second::check(&file), 0);
+    let study = Study::read(&file).expect("a study");
+    assert_eq!(study.packed(), file);
+    assert_eq!(study.nodes, 24);
+    assert_eq!(study.links.len(), 76);
+    assert_eq!(study.total(), 36_060);
+    let first = Link {
+        tail: 0,
+        head: 1,
+        free: 600,
+        rise: 90,
+        capacity: 2_590,
+    };
+    let last = Link {
+        tail: 23,
+        head: 22,
+        free: 200,
+        rise: 30,
+        capacity: 508,
+    };
+    assert_eq!((study.links[0], study.links[75]), (first, last));
+    assert!(
+        (0..24).eq(study
+            .destinations
+            .iter()
+            .map(|destination| destination.node))
+    );
+    // Origin 1 sends 1,300 vehicles to node 10, origin 24 sends 1,100 to node 22.
+    assert_eq!(study.destinations[9].trips[0], 130);
+    assert_eq!(study.destinations[21].trips[23], 110);
+
+    let shown = folder.study(&["show", "out"]).ok();
+    folder.put("text", &shown);
+    folder.study(&["from-text", "text", "--out", "again"]).ok();
+    assert_eq!(folder.bytes("again"), file);
+    assert_eq!(folder.study(&["show", "again"]).ok(), shown);
+}
+
+#[test]
+fn the_triangle() {
+    let folder = folder("triangle", NET, TRIPS);
+    let outcome = folder.study(&COMMAND);
+    assert_eq!(
+        outcome.stdout,
+        "out: 86 bytes, 3 nodes, 3 links, 3 destinations, 36 trips\ncheck: accepted\n"
+    );
+    assert_eq!(
+        outcome.stderr,
+        "rounded to the nearest whole number, halves up:\n  \
+         free times: 0 of 3\n  \
+         rises: 0 of 3\n  \
+         capacities: 1 of 3, by 0.5 trips at most (net.tntp: line 8: capacity 80.5 became 81)\n  \
+         trips: 1 of 4, by 0.5 trips at most (trips.tntp: line 8: origin 3 to 1: flow 5.5 became 6)\n\
+         trips in all: 35.5, with rounding 36\n"
+    );
+    let shown = folder.study(&["show", "out"]).ok();
+    for line in [
+        "link      0     0     1    600     90       120",
+        "link      1     1     2    400    100        81",
+        "link      2     2     0    500      0        60",
+        "destination 0  # 6 trips\n  from 2: 6",
+        "destination 1  # 10 trips\n  from 0: 10",
+        "destination 2  # 20 trips\n  from 0: 20",
+    ] {
+        assert!(shown.contains(line), "{line} in {shown}");
+    }
+}
+
+#[test]
+fn nothing_to_round() {
+    let folder = folder("exact", NET, TRIPS);
+    let outcome = folder.study(&[&COMMAND[..], &["--vehicles-per-trip=0.5"]].concat());
+    assert_eq!(outcome.stderr, "no figure was rounded\n");
+    let study = Study::read(&folder.bytes("out")).expect("a study");
+    assert_eq!(study.links[1].capacity, 161);
+    assert_eq!(study.total(), 71);
+}
+
+#[test]
+fn units_of_time() {
+    for (unit, free, rise) in [
+        ("minutes", 600, 90),
+        ("seconds", 10, 2), // 1.5 goes up
+        ("hours", 36_000, 5_400),
+        ("hundredths", 6, 1), // 0.9
+    ] {
+        let folder = folder(&format!("unit-{unit}"), NET, TRIPS);
+        let outcome = folder.study(&[&COMMAND[..], &["--time-unit", unit]].concat());
+        if unit == "hours" {
+            assert_eq!(outcome.status, 1);
+            assert_eq!(
+                outcome.stderr,
+                "study: net.tntp: line 7: free flow time 6 is 36,000 hundredths of a minute, \
+                 limit 1 to 16,383\n"
+            );
+            continue;
+        }
+        let study = Study::read(&folder.bytes("out")).expect("a study");
+        assert_eq!((study.links[0].free, study.links[0].rise), (free, rise));
+    }
+}
+
+#[test]
+fn trips_that_round_to_0_are_reported() {
+    let folder = folder("vanished", NET, TRIPS);
+    let outcome = folder.study(&[&COMMAND[..], &["--vehicles-per-trip", "12"]].concat());
+    assert_eq!(outcome.status, 0, "{outcome:?}");
+    let report = "not 0 but rounded to 0, trips: 1 figure\n  \
+                  trips.tntp: line 8: origin 3 to 1: flow 5.5\n\
+                  trips in all: 2.958333333…, with rounding 3\n";
+    assert!(outcome.stderr.ends_with(report), "{}", outcome.stderr);
+    let study = Study::read(&folder.bytes("out")).expect("a study");
+    assert_eq!(study.destinations.len(), 2);
+}
+
+#[test]
+fn what_a_study_has_no_place_for_is_reported() {
+    let net = with(NET, "<FIRST THRU NODE> 1", "<FIRST THRU NODE> 3");
+    let net = with(&net, "0.15\t4\t0\t0\t1", "0.15\t4\t0\t2.5\t1");
+    let net = with(
+        &net,
+        "<END OF METADATA>",
+        "<DISTANCE FACTOR> 0.04\n<END OF METADATA>",
+    );
+    let outcome = folder("left-out", &net, TRIPS).study(&COMMAND);
+    assert_eq!(outcome.status, 0, "{outcome:?}");
+    assert!(
+        outcome.stderr.starts_with(
+            "net.tntp: line 3: <FIRST THRU NODE> 3 is left out: \
+             in a version 1 study any node may be passed through\n\
+             net.tntp: line 5: <DISTANCE FACTOR> 0.04 is left out: \
+             a link's time is its free time and rise\n\
+             net.tntp: 1 link with a toll: tolls are left out, a study has none\n\
+             rounded"
+        ),
+        "{}",
+        outcome.stderr
+    );
+}
+
+#[test]
+fn forms_of_text_that_make_no_difference() {
+    let folder = folder("forms", NET, TRIPS);
+    folder.study(&COMMAND).ok();
+    let expected = folder.bytes("out");
+
+    let net = NET
+        .replace('\t', "  ")
+        .replace(" ;", ";")
+        .replace('\n', "\r\n");
+    let net = with(&net, "<NUMBER OF NODES> 3", "<number of nodes>\t3 ~ three");
+    let net = with(&net, "0.25", "2.50e-1");
+    folder.put("net.tntp", format!("\u{feff}{net}"));
+    folder.put(
+        "trips.tntp",
+        "<END OF METADATA>\norigin 3\n1:5.5;\nOrigin 1\n 3 : 20 ; 2 : 1e1;\n~ the end\n",
+    );
+    folder.study(&COMMAND).ok();
+    assert_eq!(folder.bytes("out"), expected);
+}
+
+#[test]
+fn the_stated_total_counts_to_its_places() {
+    // 35.5 is written 36 without places; 35.52 would be something else.
+    let trips = with(TRIPS, "FLOW> 35.5", "FLOW> 36");
+    folder("total-36", NET, &trips).study(&COMMAND).ok();
+    bad_trips(
+        "total-35.56",
+        "FLOW> 35.5",
+        "FLOW> 35.52",
+        "line 2: <TOTAL OD FLOW> 35.52, but the flows add up to 35.5",
+    );
+}
+
+// Bad net files.
+
+#[test]
+fn power_3() {
+    bad_net(
+        "power",
+        "0.25\t4",
+        "0.25\t3",
+        "line 8: power 3 where b is 0.25, must be 4 (or b 0)",
+    );
+}
+
+#[test]
+fn capacity_0() {
+    bad_net(
+        "capacity-0",
+        "\t120\t",
+        "\t0\t",
+        "line 7: capacity 0 is 0 trips, limit 1 to 65,535",
+    );
+}
+
+#[test]
+fn capacity_that_rounds_to_0() {
+    bad_net(
+        "capacity-small",
+        "\t120\t",
+        "\t0.49\t",
+        "line 7: capacity 0.49 is 0.49 trips, limit 1 to 65,535",
+    );
+}
+
+#[test]
+fn capacity_too_large() {
+    bad_net(
+        "capacity-large",
+        "\t120\t",
+        "\t65535.5\t",
+        "line 7: capacity 65535.5 is 65,535.5 trips, limit 1 to 65,535",
+    );
+}
+
+#[test]
+fn free_time_0() {
+    bad_net(
+        "free-0",
+        "\t6\t0.15",
+        "\t0.004\t0.15",
+        "line 7: free flow time 0.004 is 0.4 hundredths of a minute, limit 1 to 16,383",
+    );
+}
+
+#[test]
+fn rise_too_large() {
+    bad_net(
+        "rise",
+        "\t6\t0.15",
+        "\t6\t27.31",
+        "line 7: rise 6 × 27.31 is 16,386 hundredths of a minute, limit 0 to 16,383",
+    );
+}
+
+#[test]
+fn too_many_nodes() {
+    bad_net(
+        "nodes",
+        "NODES> 3",
+        "NODES> 129",
+        "line 2: <NUMBER OF NODES> 129, limit 2 to 128",
+    );
+}
+
+#[test]
+fn too_many_links() {
+    bad_net(
+        "links",
+        "LINKS> 3",
+        "LINKS> 513",
+        "line 4: <NUMBER OF LINKS> 513, limit 1 to 512",
+    );
+}
+
+#[test]
+fn node_0() {
+    bad_net(
+        "node-0",
+        "\t1\t2\t120",
+        "\t0\t2\t120",
+        "line 7: init node 0, limit 1 to 3",
+    );
+}
+
+#[test]
+fn node_beyond_the_last() {
+    bad_net(
+        "node-4",
+        "\t1\t2\t120",
+        "\t1\t4\t120",
+        "line 7: term node 4, limit 1 to 3",
+    );
+}
+
+#[test]
+fn link_from_a_node_to_itself() {
+    bad_net(
+        "loop",
+        "\t1\t2\t120",
+        "\t2\t2\t120",
+        "line 7: init node and term node are both 2, must be different",
+    );
+}
+
+#[test]
+fn row_cut_short() {
+    let columns = "a row has 10: init node, term node, capacity, length, free flow time, b, power, \
+                   speed, toll, link type";
+    bad_net(
+        "row-short",
+        "\t80.5\t4\t4\t0.25\t4\t0\t0\t1\t;",
+        "\t80.5\t4\t4",
+        &format!("line 8: 5 columns, {columns}"),
+    );
+    bad_net(
+        "row-long",
+        "\t80.5\t4",
+        "\t80.5\t4\t4",
+        &format!("line 8: 11 columns, {columns}"),
+    );
+    bad_net(
+        "row-open",
+        "\t120\t6\t6\t0.15\t4\t0\t0\t1\t;",
+        "\t120\t6\t6\t0.15\t4\t0\t0\t1",
+        "line 7: the row does not end with `;`",
+    );
+    bad_net(
+        "row-tail",
+        "\t120\t6\t6\t0.15\t4\t0\t0\t1\t;",
+        "\t120\t6\t6\t0.15\t4\t0\t0\t1\t; 7",
+        "line 7: found `7` after the row's `;`",
+    );
+}
+
+#[test]
+fn wrong_number_of_links() {
+    bad_net(
+        "link-count",
+        "LINKS> 3",
+        "LINKS> 4",
+        "line 4: <NUMBER OF LINKS> 4, but the file has 3 rows",
+    );
+}
+
+#[test]
+fn metadata_missing() {
+    bad_net(
+        "no-nodes",
+        "<NUMBER OF NODES> 3\n",
+        "",
+        "line 4: the metadata end without <NUMBER OF NODES>",
+    );
+    bad_net(
+        "no-end",
+        "<END OF METADATA>\n",
+        "",
+        "line 6: found `1\t2\t120\t6\t6\t0.15\t4\t0\t0\t1\t;` before <END OF METADATA>",
+    );
+    bad_net(
+        "twice",
+        "<NUMBER OF NODES> 3\n",
+        "<NUMBER OF NODES> 3\n<NUMBER OF NODES> 4\n",
+        "line 3: <NUMBER OF NODES> for the second time, first on line 2",
+    );
+    let folder = folder("empty", "", TRIPS);
+    folder.fails(
+        &COMMAND,
+        "net.tntp: line 1: the file ends without <END OF METADATA>",
+    );
+}
+
+#[test]
+fn negative_figure() {
+    bad_net(
+        "negative",
+        "\t80.5\t",
+        "\t-80.5\t",
+        "line 8: capacity -80.5, limit 0 or more",
+    );
+}
+
+#[test]
+fn not_a_figure() {
+    bad_net(
+        "letters",
+        "\t80.5\t",
+        "\t80,5\t",
+        "line 8: capacity `80,5` is not a figure",
+    );
+    bad_net(
+        "letters-unused",
+        "\t4\t0\t0\t1\t;\n\t3",
+        "\t4\tfast\t0\t1\t;\n\t3",
+        "line 8: speed `fast` is not a figure",
+    );
+    bad_net(
+        "node-letters",
+        "\t1\t2\t120",
+        "\t1\t2.5\t120",
+        "line 7: term node `2.5` is not a whole number, limit 1 to 3",
+    );
+}
+
+#[test]
+fn figure_too_long() {
+    let figure = "80.123456789012345678901234567890123456789";
+    bad_net(
+        "long",
+        "80.5",
+        figure,
+        &format!("line 8: capacity {figure} cannot be kept exactly, limit about 37 digits"),
+    );
+}
+
+#[test]
+fn missing_file() {
+    let folder = folder("missing", NET, TRIPS);
+    fs::remove_file(folder.path("net.tntp")).expect("it was there");
+    let outcome = folder.study(&COMMAND);
+    assert_eq!(outcome.status, 1);
+    assert!(
+        outcome
+            .stderr
+            .starts_with("study: net.tntp: cannot be read: "),
+        "{}",
+        outcome.stderr
+    );
+    assert!(!folder.path("out").exists());
+}
+
+// Bad trips files.
+
+#[test]
+fn too_many_trips() {
+    let trips = with(TRIPS, "   20.0", "65520.5");
+    let trips = with(&trips, "FLOW> 35.5", "FLOW> 65536.0");
+    folder("total", NET, &trips).fails(
+        &COMMAND,
+        "trips.tntp: line 8: 65,537 trips in all, passing the limit 65,535 here \
+         (more vehicles a trip make fewer)",
+    );
+}
+
+#[test]
+fn too_many_trips_between_two_nodes() {
+    bad_trips(
+        "trips",
+        "   20.0",
+        "65536.0",
+        "line 6: origin 1 to 3: flow 65536.0 is 65,536 trips, limit 0 to 65,535",
+    );
+}
+
+#[test]
+fn too_many_destinations() {
+    let mut net = "<NUMBER OF NODES> 40\n<NUMBER OF LINKS> 39\n<END OF METADATA>\n".to_owned();
+    let mut trips = "<END OF METADATA>\nOrigin 1\n".to_owned();
+    for node in 2..=40 {
+        net += &format!("1 {node} 100 1 1 0 4 0 0 1 ;\n");
+        trips += &format!("{node} : 1.0;\n");
+    }
+    folder("destinations", &net, &trips).fails(
+        &COMMAND,
+        "trips.tntp: line 35: destination 34 is number 33 to receive trips, limit 32 destinations",
+    );
+}
+
+#[test]
+fn diagonal_flow() {
+    bad_trips(
+        "diagonal",
+        "1 :    0.0",
+        "1 :    0.25",
+        "line 6: origin 1 has a flow of 0.25 to itself, must be 0",
+    );
+}
+
+#[test]
+fn wrong_total_flow() {
+    bad_trips(
+        "flow",
+        "FLOW> 35.5",
+        "FLOW> 360.5",
+        "line 2: <TOTAL OD FLOW> 360.5, but the flows add up to 35.5",
+    );
+}
+
+#[test]
+fn wrong_number_of_zones() {
+    bad_trips(
+        "zones",
+        "ZONES> 3",
+        "ZONES> 2",
+        "line 1: <NUMBER OF ZONES> 2, but the net file has 3",
+    );
+}
+
+#[test]
+fn zone_out_of_range() {
+    bad_trips(
+        "origin",
+        "Origin 3",
+        "Origin 0",
+        "line 7: origin 0, limit 1 to 3",
+    );
+    bad_trips(
+        "destination",
+        "3 :   20.0",
+        "4 :   20.0",
+        "line 6: destination 4, limit 1 to 3",
+    );
+}
+
+#[test]
+fn negative_flow() {
+    bad_trips(
+        "negative-flow",
+        "   20.0",
+        "  -20.0",
+        "line 6: origin 1 to 3: flow -20.0, limit 0 or more",
+    );
+}
+
+#[test]
+fn malformed_pairs() {
+    bad_trips(
+        "pair-cut",
+        "5.5;",
+        "5.5",
+        "line 8: found `1 :    5.5`, must be `destination : flow;`",
+    );
+    bad_trips(
+        "pair-colon",
+        "1 :    5.5;",
+        "1 5.5;",
+        "line 8: found `1 5.5;`, must be `destination : flow;`",
+    );
+    bad_trips(
+        "pair-twice",
+        "2 :   10.0;",
+        "2 :   10.0; 2 : 1.0;",
+        "line 6: origin 1 to 2 for the second time, first on line 6",
+    );
+    bad_trips(
+        "no-origin",
+        "Origin 1\n",
+        "",
+        "line 5: found `1 :    0.0;     2 :   10.0;     3 :   20.0;` before the first `Origin`",
+    );
+}
+
+#[test]
+fn no_trips() {
+    let trips = "<END OF METADATA>\nOrigin 1\n2 : 0.0;\n";
+    folder("none", NET, trips).fails(
+        &COMMAND,
+        "trips.tntp: line 3: 0 trips in all, limit 1 or more: a study has a destination",
+    );
+}
+
+#[test]
+fn trips_without_a_path() {
+    let net = with(NET, "\t3\t1\t60", "\t1\t3\t60");
+    folder("stranded", &net, TRIPS).fails(
+        &COMMAND,
+        "trips.tntp: line 8: origin 3 has trips to 1, but no path of links leads there",
+    );
+}
+
+// The command line.
+
+#[test]
+fn command_lines_that_make_no_sense() {
+    let folder = folder("usage", NET, TRIPS);
+    for (arguments, message) in [
+        (&COMMAND[..3], "--out FILE is missing"),
+        (&COMMAND[..2], "TRIPS is missing"),
+        (&COMMAND[..4], "option `--out` has no value"),
+        (
+            &["from-tntp", "a", "b", "c", "--out", "out"],
+            "unexpected `c`",
+        ),
+        (
+            &["from-tntp", "a", "b", "--out=out", "--out", "out"],
+            "option `--out` for the second time",
+        ),
+        (
+            &["from-tntp", "a", "b", "--into", "out"],
+            "unknown option `--into`",
+        ),
+        (
+            &["from-tntp", "a", "b", "--out=out", "--vehicles-per-trip=0"],
+            "--vehicles-per-trip `0`, must be a figure above 0",
+        ),
+        (
+            &["from-tntp", "a", "b", "--out=out", "--time-unit", "days"],
+            "--time-unit `days`, must be one of minutes, seconds, hours, hundredths",
+        ),
+    ] {
+        let outcome = folder.study(arguments);
+        assert_eq!(
+            outcome.stderr,
+            format!("study: {message}\nsee `study from-tntp --help`\n")
+        );
+        assert_eq!(outcome.status, 2);
+        assert!(!folder.path("out").exists());
+    }
+}
+
+#[test]
+fn inputs_are_never_overwritten() {
+    let folder = folder("overwrite", NET, TRIPS);
+    let outcome = folder.study(&["from-tntp", "net.tntp", "trips.tntp", "--out", "./net.tntp"]);
+    assert_eq!(outcome.status, 1);
+    assert_eq!(
+        outcome.stderr,
+        "study: ./net.tntp: cannot be written: it is an input\n"
+    );
+    assert_eq!(folder.bytes("net.tntp"), NET.as_bytes());
+
+    let outcome = folder.study(&["from-tntp", "net.tntp", "trips.tntp", "--out", "no/out"]);
+    assert_eq!(outcome.status, 1);
+    assert!(
+        outcome
+            .stderr
+            .starts_with("study: no/out: cannot be written: "),
+        "{}",
+        outcome.stderr
+    );
+}
