@@ -16,7 +16,7 @@ roads n m tails heads = networkFrom n m 0 tails heads [] [] [] [] []
 abbrev pub demand : ℕ → ℕ → List ℕ → List ℕ → Network
 demand n p destinations trips = networkFrom n 0 p [] [] [] [] [] destinations trips
 
--- Both.
+-- Links, destinations and trips.
 abbrev pub served : ℕ → ℕ → ℕ → List ℕ → List ℕ → List ℕ → List ℕ → Network
 served n m p tails heads destinations trips = networkFrom n m p tails heads [] [] [] destinations trips
 

@@ -17,6 +17,10 @@ marked marks j = getD marks j false
 unfoldable pub Whole : List Bool → Type 0
 Whole marks = length marks ≡ 128
 
+-- Every search sets out with no node marked.
+unfoldable pub noMarks : List Bool
+noMarks = replicate 128 false
+
 -- Node j is marked, and the other nodes are as they were.
 pub record Marks (j : ℕ) (before after : List Bool) : Type 0 where
   pub whole : Whole after

@@ -28,20 +28,18 @@ pub written-length : (at : ℕ) (new old : List ℕ) → at + length new ≤ len
 unfolding written
 written-length at new old h = simp (length-append, length-take, length-drop) (omega arith)
 
+drop-past : (front back : List ℕ) (n k : ℕ) → length front ≡ n → drop (n + k) (front ++ back) ≡ drop k back
+drop-past front back n k e = sym (drop-drop k n (front ++ back)) ∙ ap (drop k) (drop-at front back n e)
+
 -- A write that begins where another ended.
 pub written-more : (at next : ℕ) (a b old : List ℕ) → next ≡ at + length a → next + length b ≤ length old → written next b (written at a old) ≡ written at (a ++ b) old
 unfolding written
 written-more at next a b old place h =
     let front = take at old ++ a in
-    let front-length : length front ≡ next = omega (arith, length-append (take at old) a, length-take-le at old (omega arith)) in
-    let kept = take-at front (drop (at + length a) old) next front-length in
+    let back = drop (at + length a) old in
+    let reach : length front ≡ next = omega (arith, length-append (take at old) a, length-take-le at old (omega arith)) in
     let end : at + length a + length b ≡ at + length (a ++ b) = omega (arith, length-append a b) in
-    let rest : drop (next + length b) (front ++ drop (at + length a) old) ≡ drop (at + length (a ++ b)) old =
-    sym (drop-drop (length b) next (front ++ drop (at + length a) old))
-    ∙ ap (drop (length b)) (drop-at front (drop (at + length a) old) next front-length)
-    ∙ drop-drop (length b) (at + length a) old
-    ∙ ap (λ n. drop n old) end in
-    rw (kept, rest, append-assoc (take at old) a b)
+    rw (take-at front back next reach, drop-past front back next (length b) reach, drop-drop (length b) (at + length a) old, end, append-assoc (take at old) a b)
 
 -- A u16 is two bytes, and a u32 two u16.
 pub written-u16 : (at x : ℕ) (old : List ℕ) → at + 2 ≤ length old → set (set old at (x % 256)) (at + 1) (x / 256 % 256) ≡ written at (bytes16 x) old
@@ -51,6 +49,7 @@ written-u16 at x old h =
     ∙ written-byte (at + 1) (x / 256 % 256) (written at (x % 256 ∷ []) old) (omega (arith, written-length at (x % 256 ∷ []) old (omega arith)))
     ∙ written-more at (at + 1) (x % 256 ∷ []) (x / 256 % 256 ∷ []) old refl (omega arith)
 
+-- The bytes of the trips.
 pub size-fits : {n p : ℕ} → n ≤ 128 → p ≤ 32 → 2 * p * n ≤ 8192
 size-fits {n} {p} hn hp = mul-le-mul {n₁ = 2 * p} {m₁ = n} {n₂ = 64} {m₂ = 128} (omega arith) hn
 

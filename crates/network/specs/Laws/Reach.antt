@@ -17,18 +17,21 @@ use Rattle.theory.specs.Laws.Reach.{Reaches, marked-has-distance}
 use Rattle.calls.specs.Questions.{hasPath, tripsReach}
 use Rattle.calls.specs.Study.{networkFrom}
 use Rattle.network.specs.Networks.{toward, served}
-use Rattle.network.specs.Reach.{marked, Whole, Marks, markedTest, allMarked, unmarked, toDestination, LinkKept, LinkMarked, LinkSwept, Swept, Searched}
+use Rattle.network.specs.Reach.{marked, Whole, noMarks, Marks, markedTest, allMarked, unmarked, toDestination, LinkKept, LinkMarked, LinkSwept, Swept, Searched}
 use Rattle.network.specs.Laws.Questions.{Ends}
 
 -- How marks are kept: none at the outset,
-pub none-whole : Whole (replicate 128 false)
-unfolding Whole
+pub none-whole : Whole noMarks
+unfolding Whole noMarks
 none-whole = length-replicate 128 false
 
-pub none-marked : (size j : ℕ) → marked (replicate size false) j ≡ false
-unfolding marked
-none-marked size j =
+none-in : (size j : ℕ) → getD (replicate size false) j false ≡ false
+none-in size j =
     ⊎-elim (getD-replicate size j false false) (λ h. List·getD-eq-default (replicate size false) false (rw length-replicate h)) (order j size)
+
+pub none-marked : (j : ℕ) → marked noMarks j ≡ false
+unfolding marked noMarks
+none-marked j = none-in 128 j
 
 -- and one more where its place is set.
 pub set-marks : (marks : List Bool) (j : ℕ) → Whole marks → j < 128 → Marks j marks (set marks j true)
@@ -123,13 +126,13 @@ routing-well-formed n m tails heads s ends h =
     }
 
 -- A search sets out with s alone marked,
-pub searched-first : (n m : ℕ) (tails heads : List ℕ) (s : ℕ) (marks : List Bool) → Marks s (replicate 128 false) marks → Searched n m tails heads s marks
+pub searched-first : (n m : ℕ) (tails heads : List ℕ) (s : ℕ) (marks : List Bool) → Marks s noMarks marks → Searched n m tails heads s marks
 unfolding networkFrom
 searched-first n m tails heads s marks first =
     record {
       whole = first .whole;
       at-destination = first .here;
-      supported = λ j e. on-equal j s (λ same. ([], same)) (λ apart. true-false e (first .elsewhere j apart ∙ none-marked 128 j));
+      supported = λ j e. on-equal j s (λ same. ([], same)) (λ apart. true-false e (first .elsewhere j apart ∙ none-marked j));
     }
 
 -- goes on with each sweep,

@@ -1,6 +1,6 @@
 -- `network::reach::reached` meets its contract: between two sweeps the marked nodes have a path to s.
 use native.Mathlib.Omega.{arith}
-use Rattle.network.specs.Reach.{unmarked, Searched}
+use Rattle.network.specs.Reach.{noMarks, unmarked, Searched}
 use Rattle.network.specs.Laws.Questions.{ends-below}
 use Rattle.network.specs.Laws.Reach.{none-whole, searched-first, searched-next, searched-all}
 use Rattle.network.proofs.reach.reached.Statement.{statement}
@@ -13,9 +13,11 @@ abbrev μ-loop : tie.MeasureT-loop
 μ-loop n m tails heads s marks₀ marks = unmarked n marks
 
 mark-requires : tie.Need-mark-requires Inv-loop μ-loop
+unfolding noMarks
 mark-requires c κs = (omega arith, none-whole)
 
 loop-holds : tie.Need-loop-holds Inv-loop μ-loop
+unfolding noMarks
 loop-holds c = searched-first _ _ _ _ _ _ (c .mark .ensures)
 
 sweep-requires : tie.Need-sweep-requires Inv-loop μ-loop
