@@ -1,0 +1,29 @@
+-- `gap_of` meets its contract.
+use Prim.Native.Nat.{_*_, _≤_}
+use native.Mathlib.Omega.{arith}
+use borrow.Author.Needs.{needs}
+use Rattle.judging.proofs.gaps.gap_of.Statement.{statement}
+use Rattle.judging.proofs.gaps.gap_of.Tie as tie
+
+product-requires : tie.Need-product-requires
+product-requires c κs = search needs
+
+product-requires-2 : tie.Need-product-requires-2
+product-requires-2 c κs = search needs
+
+-- W × the least times are at most the times spent.
+least : (c : tie.After-product2) → c .before .before .args .share * c .product2 .result ≤ c .before .product .result
+least c = rw (c .product2 .ensures, c .before .product .ensures) (c .before .before .pre .least)
+
+mul-result : tie.Need-mul-result
+mul-result c = omega (arith, least c)
+
+sub-result : tie.Need-sub-result
+sub-result c = least c
+
+returns : tie.Need-returns
+returns c = cc
+
+pub gap-of-spec : {M : Type 1} → statement M
+gap-of-spec =
+    tie.close (tie.spec product-requires product-requires-2 mul-result sub-result returns)

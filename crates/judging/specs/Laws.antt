@@ -1,0 +1,13 @@
+-- The laws of the definitions above. Nothing here needs to be believed: the check proves it.
+pub mod Front
+pub mod Parts
+pub mod Tables
+pub mod Rows
+pub mod Loading
+pub mod Moves
+pub mod Study
+pub mod Routes
+pub mod Judged
+pub mod Questions
+pub mod Start
+pub mod Turns

@@ -1,0 +1,70 @@
+-- Lent memory of which the first numbers are replaced.
+use Prim.Native.Nat.{ℕ, _+_, _-_, _≤_, _<_}
+use native.Mathlib.Omega.{arith}
+use mathlib.Core.Path.{_≡_, refl, sym, _∙_, ap}
+use mathlib.Core.List.{List, _++_}
+use mathlib.Core.Logic.{⊎-elim}
+use lib.ListN.{length, getD, set, drop, length-append, length-drop, length-set, List·getD-append}
+use lib.Seq.{getD-append-add, getD-drop, getD-set-same, getD-set-other, ext-getD}
+use Rattle.theory.specs.Finite.{tabulate}
+use Rattle.theory.specs.Laws.Cases.{on-equal}
+use Rattle.theory.specs.Laws.Finite.{order, length-tabulate, getD-tabulate, tabulate-cong}
+use Rattle.calls.specs.Calls.{overwritten}
+use Rattle.judging.specs.Loading.{front}
+
+module _ (size : ℕ) (f : ℕ → ℕ) (table : List ℕ) where
+  pub front-at : (i : ℕ) → i < size → getD (front size f table) i 0 ≡ f i
+  unfolding front
+  front-at i h =
+      List·getD-append (tabulate size f) (drop size table) 0 i (omega (arith, length-tabulate size f)) ∙ getD-tabulate size f 0 i h
+
+  pub front-past : (i : ℕ) → size ≤ i → getD (front size f table) i 0 ≡ getD table i 0
+  unfolding front
+  front-past i h =
+      let place : i ≡ length (tabulate size f) + (i - size) = omega (arith, length-tabulate size f) in
+      ap (λ x. getD (tabulate size f ++ drop size table) x 0) place
+      ∙ getD-append-add (tabulate size f) (drop size table) (i - size) 0
+      ∙ getD-drop size table (i - size) 0
+      ∙ ap (λ x. getD table x 0) (omega arith)
+
+  module _ (within : size ≤ length table) where
+    pub length-front : length (front size f table) ≡ length table
+    unfolding front
+    length-front =
+        omega (arith, length-append (tabulate size f) (drop size table), length-tabulate size f, length-drop size table)
+
+    -- A list is known by its numbers.
+    pub front-is :
+        (xs : List ℕ) → length xs ≡ length table → ((i : ℕ) → i < size → getD xs i 0 ≡ f i) →
+        ((i : ℕ) → size ≤ i → getD xs i 0 ≡ getD table i 0) → xs ≡ front size f table
+    front-is xs long first later =
+        ext-getD 0 xs (front size f table) (long ∙ sym length-front)
+        (λ i h. ⊎-elim (λ b. first i b ∙ sym (front-at i b)) (λ b. later i b ∙ sym (front-past i b)) (order i size))
+
+-- Nothing is replaced at first.
+pub front-none : (f : ℕ → ℕ) (table : List ℕ) → table ≡ front 0 f table
+front-none f table = front-is 0 f table (omega arith) table refl (λ i h. absurd (omega arith)) (λ i h. refl)
+
+-- One number more.
+pub front-more :
+    (f : ℕ → ℕ) (table : List ℕ) (i : ℕ) (xs : List ℕ) (x : ℕ) → i < length table → xs ≡ front i f table → x ≡ f i →
+    set xs i x ≡ front (i + 1) f table
+front-more f table i xs x h e v =
+    front-is (i + 1) f table (omega arith) (set xs i x) (length-set xs i x ∙ long)
+    (λ j b.
+    on-equal j i
+    (λ s. rw s (getD-set-same xs i x 0 (omega (arith, long)) ∙ v))
+    (λ n. getD-set-other xs i j x 0 n ∙ ap (λ l. getD l j 0) e ∙ front-at i f table j (omega arith)))
+    (λ j b. getD-set-other xs i j x 0 (λ s. omega arith) ∙ ap (λ l. getD l j 0) e ∙ front-past i f table j (omega arith))
+  where
+    long : length xs ≡ length table
+    long = ap length e ∙ length-front i f table (omega arith)
+
+pub front-cong : (size : ℕ) (f g : ℕ → ℕ) (table : List ℕ) → ((i : ℕ) → i < size → f i ≡ g i) → front size f table ≡ front size g table
+unfolding front
+front-cong size f g table same = ap (λ first. first ++ drop size table) (tabulate-cong size f g same)
+
+-- Document 01's "the first p·m numbers", with "later numbers untouched".
+pub overwritten-front : (size : ℕ) (f : ℕ → ℕ) (table : List ℕ) → overwritten (tabulate size f) table ≡ front size f table
+unfolding overwritten front
+overwritten-front size f table = ap (λ n. tabulate size f ++ drop n table) (length-tabulate size f)

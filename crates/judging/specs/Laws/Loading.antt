@@ -1,0 +1,205 @@
+-- The loading that next links give: its entries, its totals, and a table that it is added to, destination by destination.
+use Prim.Native.Nat.{ℕ, _+_, _*_, _-_, _≤_, _<_, _^_}
+use native.Mathlib.Nat.{le-of-lt, mul-le-mul, mul-le-mul-right}
+use native.Mathlib.Omega.{arith}
+use mathlib.Core.Path.{_≡_, refl, sym, _∙_, ap}
+use mathlib.Core.List.{List, []}
+use mathlib.Core.Logic.{⊎-elim}
+use lib.Arith.{digits-lt}
+use lib.ListN.{length, getD}
+use Rattle.theory.specs.Finite.{tabulate}
+use Rattle.theory.specs.Flows.{linkTotal}
+use Rattle.theory.specs.Routes.{occurrences}
+use Rattle.theory.specs.Laws.Finite.{order, sum-cong, sum-more, length-tabulate, getD-tabulate, length-rows, getD-rows}
+use Rattle.travel.specs.Links.{padded}
+use Rattle.travel.specs.Laws.Padded.{length-padded, getD-padded, getD-padded-rest, padded-is, padded-cong}
+use Rattle.travel.specs.Laws.Totals.{linkTotal-more}
+use Rattle.routes.specs.Along.{walkAlong, flowAlong, sentAlong, loadedAlong, Loadable}
+use Rattle.judging.specs.Loading.{rowAlong, loadingAlong, front, addedRows, AllFollowable, AllAddable}
+use Rattle.judging.specs.Laws.Front.{front-at, front-past, length-front, front-is, front-none}
+use Rattle.judging.specs.Laws.Parts.{part, replaced, row-within, part-at, length-part, length-replaced, replaced-before, replaced-within, replaced-past}
+
+-- A loaded row is a row with its first numbers replaced.
+pub loaded-front :
+    (n m : ℕ) (heads next : List ℕ) (trips : ℕ → ℕ) (weight : ℕ) (row : List ℕ) →
+    loadedAlong n m heads next trips weight row ≡ front m (λ l. getD row l 0 + weight * flowAlong n heads next trips n l) row
+unfolding sentAlong front
+loaded-front n m heads next trips weight row = refl
+
+module _ (n m p : ℕ) (heads trips : List ℕ) (nexts : List (List ℕ)) where
+  -- The loading has a number for each destination and link,
+  pub length-along : length (loadingAlong n m p heads trips nexts) ≡ p * m
+  unfolding loadingAlong
+  length-along = length-rows p m _ (λ k h. length-tabulate m (rowAlong n heads trips nexts k))
+
+  -- what the destination's trips send over the link.
+  pub entry-along : (k l : ℕ) → k < p → l < m → getD (loadingAlong n m p heads trips nexts) (k * m + l) 0 ≡ rowAlong n heads trips nexts k l
+  unfolding loadingAlong
+  entry-along k l h b =
+      getD-rows p m (λ k. tabulate m (rowAlong n heads trips nexts k)) (λ k h. length-tabulate m (rowAlong n heads trips nexts k)) 0 k l h b
+      ∙ getD-tabulate m (rowAlong n heads trips nexts k) 0 l b
+
+  -- The destination's trips are a part of all.
+  flow-part : (k l : ℕ) → flowAlong n heads (getD nexts k []) (λ j. getD (part trips (k * n) n) j 0) n l ≡ rowAlong n heads trips nexts k l
+  unfolding flowAlong rowAlong
+  flow-part k l =
+      sum-cong n _ _ (λ j h. ap (λ x. x * occurrences l (walkAlong heads (getD nexts k []) n j)) (part-at trips (k * n) n j h))
+
+module _ {n m p : ℕ} {heads trips : List ℕ} {nexts : List (List ℕ)} (w : AllFollowable n m p heads trips nexts) {k : ℕ} (h : k < p) where
+  abbrev y : List ℕ
+  y = loadingAlong n m p heads trips nexts
+
+  abbrev next : List ℕ
+  next = getD nexts k []
+
+  abbrev sent : ℕ → ℕ
+  sent j = getD (part trips (k * n) n) j 0
+
+  -- The trips to destination k stand within all.
+  pub trips-within : k * n + n ≤ length trips
+  trips-within = omega (arith, row-within n h, w .has-trips)
+
+  length-sent : length (part trips (k * n) n) ≡ n
+  length-sent = length-part trips (k * n) n trips-within
+
+  total-so-far : (l : ℕ) → l < m → linkTotal k m y l + rowAlong n heads trips nexts k l ≤ 65535
+  unfolding linkTotal
+  total-so-far l b =
+      let more = linkTotal-more m y l k in
+      let all = sum-more (k + 1) p (λ k. getD y (k * m + l) 0) (omega arith) in
+      omega (arith, entry-along n m p heads trips nexts k l h b, w .small-totals l b)
+
+  -- What destination k sends can be added to the totals of those before it,
+  pub totals-loadable :
+      ((i : ℕ) → getD trips i 0 < 2 ^ 16) → {sums : List ℕ} → sums ≡ padded m (linkTotal k m y) →
+      Loadable n m heads next (part trips (k * n) n) 1 sums
+  totals-loadable small {sums} e =
+      record {
+        followable = w .followable k h;
+        has-links = omega (arith, w .few-links, ap length e, length-padded m (linkTotal k m y) (w .few-links));
+        has-trips = omega (arith, length-sent);
+        amount-fits = λ j b. omega (arith, part-at trips (k * n) n j b, small (k * n + j));
+        fits = λ l b.
+            let so-far : getD sums l 0 ≡ linkTotal k m y l = ap (λ xs. getD xs l 0) e ∙ getD-padded m (linkTotal k m y) l b in
+            omega (arith, total-so-far l b, flow-part n m p heads trips nexts k l);
+      }
+
+  -- and gives the totals of one destination more.
+  pub totals-more :
+      {sums sums′ : List ℕ} → sums ≡ padded m (linkTotal k m y) → sums′ ≡ loadedAlong n m heads next sent 1 sums →
+      sums′ ≡ padded m (linkTotal (k + 1) m y)
+  totals-more {sums} {sums′} e f =
+      padded-is m (linkTotal (k + 1) m y) sums′ (w .few-links) (ap length is-front ∙ length-front m _ sums (omega (arith, long, w .few-links)) ∙ long)
+      (λ l b.
+      let so-far : getD sums l 0 ≡ linkTotal k m y l = ap (λ xs. getD xs l 0) e ∙ getD-padded m (linkTotal k m y) l b in
+      let now-there = ap (λ xs. getD xs l 0) is-front ∙ front-at m _ sums l b in
+      omega (arith, linkTotal-more m y l k, entry-along n m p heads trips nexts k l h b, flow-part n m p heads trips nexts k l))
+      (λ l b. ap (λ xs. getD xs l 0) is-front ∙ front-past m _ sums l b ∙ ap (λ xs. getD xs l 0) e ∙ getD-padded-rest m (linkTotal k m y) l b)
+    where
+      long : length sums ≡ 512
+      long = ap length e ∙ length-padded m (linkTotal k m y) (w .few-links)
+
+      is-front : sums′ ≡ front m (λ l. getD sums l 0 + 1 * flowAlong n heads next sent n l) sums
+      is-front = f ∙ loaded-front n m heads next sent 1 sums
+
+-- The totals of all destinations, in numbers of another width.
+pub totals-widened : (m : ℕ) (f : ℕ → ℕ) {sums : List ℕ} → m ≤ 512 → sums ≡ padded m f → padded m (λ l. getD sums l 0) ≡ padded m f
+totals-widened m f few e = padded-cong m _ f few (λ l h. ap (λ xs. getD xs l 0) e ∙ getD-padded m f l h)
+
+-- The loading added to a table: nothing at first,
+pub rows-none : (m weight : ℕ) (loads table : List ℕ) → table ≡ addedRows (0 * m) weight loads table
+unfolding addedRows
+rows-none m weight loads table =
+    let none : 0 ≡ 0 * m = omega arith in
+    front-none (λ i. getD table i 0 + weight * getD loads i 0) table
+    ∙ ap (λ size. front size (λ i. getD table i 0 + weight * getD loads i 0) table) none
+
+-- which keeps its length,
+pub rows-length :
+    {n m p : ℕ} {heads trips : List ℕ} {nexts : List (List ℕ)} {weight : ℕ} {table : List ℕ} →
+    AllAddable n m p heads trips nexts weight table → {k : ℕ} → k ≤ p → {now : List ℕ} →
+    now ≡ addedRows (k * m) weight (loadingAlong n m p heads trips nexts) table → length now ≡ length table
+unfolding addedRows
+rows-length {m} {p} {table} w {k} h e =
+    let size = mul-le-mul-right m h in ap length e ∙ length-front (k * m) _ table (omega (arith, w .holds))
+
+-- then row by row.
+module _ {n m p : ℕ} {heads trips : List ℕ} {nexts : List (List ℕ)} {weight : ℕ} {table : List ℕ}
+    (w : AllAddable n m p heads trips nexts weight table) {k : ℕ} (h : k < p) {now : List ℕ}
+    (e : now ≡ addedRows (k * m) weight (loadingAlong n m p heads trips nexts) table) where
+  abbrev more : ℕ → ℕ
+  more i = getD table i 0 + weight * getD (loadingAlong n m p heads trips nexts) i 0
+
+  -- Row k of the table stands within it,
+  long : length now ≡ length table
+  long = rows-length w (le-of-lt h) e
+
+  pub rows-within : k * m + m ≤ length now
+  rows-within = omega (arith, long, row-within m h, w .holds)
+
+  length-row : length (part now (k * m) m) ≡ m
+  length-row = length-part now (k * m) m rows-within
+
+  -- and is as it was when the rows before it have their loading.
+  row-kept : (l : ℕ) → l < m → getD (part now (k * m) m) l 0 ≡ getD table (k * m + l) 0
+  unfolding addedRows
+  row-kept l b =
+      part-at now (k * m) m l b ∙ ap (λ xs. getD xs (k * m + l) 0) e ∙ front-past (k * m) more table (k * m + l) (omega arith)
+
+  row-more : (l : ℕ) → l < m →
+      getD (part now (k * m) m) l 0 + weight * flowAlong n heads (getD nexts k []) (λ j. getD (part trips (k * n) n) j 0) n l
+      ≡ more (k * m + l)
+  row-more l b =
+      let flow = flow-part n m p heads trips nexts k l ∙ sym (entry-along n m p heads trips nexts k l h b) in
+      omega (arith, row-kept l b, ap (λ x. weight * x) flow)
+
+  -- Its loading can be added to it,
+  pub row-loadable :
+      ((i : ℕ) → getD trips i 0 < 2 ^ 16) → Loadable n m heads (getD nexts k []) (part trips (k * n) n) weight (part now (k * m) m)
+  row-loadable small =
+      record {
+        followable = w .followable .followable k h;
+        has-links = omega (arith, length-row);
+        has-trips = omega (arith, length-part trips (k * n) n (trips-within (w .followable) h));
+        amount-fits = λ j b.
+            let few : getD (part trips (k * n) n) j 0 ≤ 65535 = omega (arith, part-at trips (k * n) n j b, small (k * n + j)) in
+            let most = mul-le-mul {n₂ = 64} {m₂ = 65535} (w .small-weight) few in
+            omega arith;
+        fits = λ l b. omega (arith, row-more l b, w .fits (k * m + l) (digits-lt {q = k} {m = p} {r = l} {c = m} h b));
+      }
+
+  -- and gives the table of one row more.
+  pub rows-more :
+      {row : List ℕ} → row ≡ loadedAlong n m heads (getD nexts k []) (λ j. getD (part trips (k * n) n) j 0) weight (part now (k * m) m) →
+      replaced now (k * m) m row ≡ addedRows ((k + 1) * m) weight (loadingAlong n m p heads trips nexts) table
+  unfolding addedRows
+  rows-more {row} f =
+      front-is ((k + 1) * m) more table (omega (arith, row-within m h, w .holds)) (replaced now (k * m) m row)
+      (length-replaced now (k * m) m rows-within row row-long ∙ long)
+      (λ i b. ⊎-elim (λ s. before i s) (λ s. within i s b) (order i (k * m)))
+      (λ i b.
+      replaced-past now (k * m) m rows-within row row-long i (omega arith)
+      ∙ ap (λ xs. getD xs i 0) e
+      ∙ front-past (k * m) more table i (omega arith))
+    where
+      is-front : row ≡ front m (λ l. getD (part now (k * m) m) l 0 + weight * flowAlong n heads (getD nexts k []) (λ j. getD (part trips (k * n) n) j 0) n l) (part now (k * m) m)
+      is-front = f ∙ loaded-front n m heads (getD nexts k []) (λ j. getD (part trips (k * n) n) j 0) weight (part now (k * m) m)
+
+      row-long : length row ≡ m
+      row-long = ap length is-front ∙ length-front m _ (part now (k * m) m) (omega (arith, length-row)) ∙ length-row
+
+      before : (i : ℕ) → i < k * m → getD (replaced now (k * m) m row) i 0 ≡ more i
+      before i s =
+          replaced-before now (k * m) m rows-within row row-long i s
+          ∙ ap (λ xs. getD xs i 0) e
+          ∙ front-at (k * m) more table i s
+
+      within : (i : ℕ) → k * m ≤ i → i < (k + 1) * m → getD (replaced now (k * m) m row) i 0 ≡ more i
+      within i s b =
+          let place : i ≡ k * m + (i - k * m) = omega arith in
+          let below : i - k * m < m = omega arith in
+          rw place
+          (replaced-within now (k * m) m rows-within row row-long (i - k * m) below
+          ∙ ap (λ xs. getD xs (i - k * m) 0) is-front
+          ∙ front-at m _ (part now (k * m) m) (i - k * m) below
+          ∙ row-more (i - k * m) below)

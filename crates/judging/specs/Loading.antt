@@ -1,0 +1,40 @@
+-- The loading that next links give, and tables that it is added to, over lists.
+use Prim.Native.Nat.{ℕ, _+_, _*_, _≤_, _<_, _^_}
+use mathlib.Core.List.{List, [], _++_}
+use lib.ListN.{length, getD, drop}
+use Rattle.theory.specs.Finite.{tabulate, rows}
+use Rattle.theory.specs.Flows.{linkTotal}
+use Rattle.routes.specs.Along.{flowAlong, Followable}
+
+-- What the trips to destination k send over link l along its next links.
+unfoldable pub rowAlong : ℕ → List ℕ → List ℕ → List (List ℕ) → ℕ → ℕ → ℕ
+rowAlong n heads trips nexts k l = flowAlong n heads (getD nexts k []) (λ j. getD trips (k * n + j) 0) n l
+
+-- The loading that next links give: a table of p rows, each of m flows.
+unfoldable pub loadingAlong : ℕ → ℕ → ℕ → List ℕ → List ℕ → List (List ℕ) → List ℕ
+loadingAlong n m p heads trips nexts = rows p (λ k. tabulate m (rowAlong n heads trips nexts k))
+
+-- Lent memory whose first numbers are f 0, f 1, .., and whose later ones are as they were.
+unfoldable pub front : ℕ → (ℕ → ℕ) → List ℕ → List ℕ
+front size f table = tabulate size f ++ drop size table
+
+-- A table with weight × a loading added to its first numbers.
+unfoldable pub addedRows : ℕ → ℕ → List ℕ → List ℕ → List ℕ
+addedRows size weight y table = front size (λ i. getD table i 0 + weight * getD y i 0) table
+
+-- What the loading's totals ask: few nodes, links and destinations, trips from each node to each destination, walks along next links that
+-- stay in the network, and totals of at most 65,535.
+pub record AllFollowable (n m p : ℕ) (heads trips : List ℕ) (nexts : List (List ℕ)) : Type 0 where
+  pub few-nodes : n ≤ 128
+  pub few-links : m ≤ 512
+  pub few-destinations : p ≤ 32
+  pub has-trips : p * n ≤ length trips
+  pub followable : (k : ℕ) → k < p → Followable n m heads (getD nexts k [])
+  pub small-totals : (l : ℕ) → l < m → linkTotal p m (loadingAlong n m p heads trips nexts) l ≤ 65535
+
+-- What adding weight × the loading to a table asks: the table has all its rows, and its numbers stay within 32 bits.
+pub record AllAddable (n m p : ℕ) (heads trips : List ℕ) (nexts : List (List ℕ)) (weight : ℕ) (table : List ℕ) : Type 0 where
+  pub followable : AllFollowable n m p heads trips nexts
+  pub small-weight : weight ≤ 64
+  pub holds : p * m ≤ length table
+  pub fits : (i : ℕ) → i < p * m → getD table i 0 + weight * getD (loadingAlong n m p heads trips nexts) i 0 < 2 ^ 32

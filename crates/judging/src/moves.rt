@@ -1,0 +1,70 @@
+// Emptying, doubling and moving a table.
+ghost use mathlib.Core.Path.{_≡_};
+ghost use Prim.Native.Nat.{ℕ, _*_, _≤_, _<_, _^_};
+ghost use lib.ListN.{length, getD};
+ghost use Rattle.calls.specs.Calls.{shareAfter, tableAfter};
+ghost use Rattle.judging.specs.Loading.{loadingAlong, front};
+ghost use Rattle.judging.specs.Moves.{canMove, moveAlong, Movable};
+use crate::loading::add_loadings;
+
+// Empties the first numbers of a table.
+pub fn empty_flows(table: &mut [u32], size: usize)
+    requires { ⌜ size ≤ length (now table) ⌝ }
+    ensures { λ _. ⌜ now (table .exit) ≡ front size (λ i. 0) (now (table .entry)) ⌝ }
+{
+    let mut i: usize = 0;
+    while i < size {
+        table[i] = 0;
+        i += 1;
+    }
+}
+
+// Doubles the first numbers of a table.
+fn double_flows(table: &mut [u32], size: usize)
+    requires { ⌜ (size ≤ length (now table)) × ((i : ℕ) → i < size → 2 * getD (now table) i 0 < 2 ^ 32) ⌝ }
+    ensures { λ _. ⌜ now (table .exit) ≡ front size (λ i. 2 * getD (now (table .entry)) i 0) (now (table .entry)) ⌝ }
+{
+    let mut i: usize = 0;
+    while i < size {
+        table[i] = 2 * table[i];
+        i += 1;
+    }
+}
+
+// Does a pass that chose j move a table with a share?
+pub fn can_move(share: u32, j: u32) -> bool
+    requires { ⌜ share ≤ 1024 ⌝ }
+    ensures { λ r. ⌜ r ≡ canMove share j ⌝ }
+{
+    if 0 < j {
+        return true;
+    }
+    2 * share <= 1024
+}
+
+// Moves the table, where a pass that chose j does, and answers the share afterwards.
+pub fn move_table(
+    table: &mut [u32],
+    n: usize,
+    m: usize,
+    p: usize,
+    heads: &[u16; 512],
+    trips: &[u16],
+    next: &[[u16; 128]; 32],
+    share: u32,
+    j: u32,
+) -> u32
+    requires { ⌜ Movable n m p (now heads) (now trips) (now next) share j (now table) ⌝ }
+    ensures { λ r. ⌜ r ≡ shareAfter share (moveAlong (p * m) share j (loadingAlong n m p (now (heads .entry)) (now (trips .entry)) (now (next .entry))) (now (table .entry))) ⌝ }
+    ensures { λ r. ⌜ now (table .exit) ≡ tableAfter (now (table .entry)) (moveAlong (p * m) share j (loadingAlong n m p (now (heads .entry)) (now (trips .entry)) (now (next .entry))) (now (table .entry))) ⌝ }
+{
+    if 0 < j {
+        add_loadings(table, n, m, p, heads, trips, next, j);
+        return share + j;
+    }
+    if 2 * share <= 1024 {
+        double_flows(table, p * m);
+        return 2 * share;
+    }
+    share
+}
