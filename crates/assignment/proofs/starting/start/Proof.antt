@@ -1,0 +1,41 @@
+-- `assignment::start` meets its contract: it fills a table that its questions accept, and leaves any other.
+use mathlib.Core.Path.{_≡_, sym, _∙_}
+use borrow.Author.Needs.{needs}
+use denote.Ref.{now}
+use Rattle.calls.specs.Calls.{startNumber}
+use Rattle.calls.specs.Laws.Calls.{start-kept}
+use Rattle.assignment.specs.Laws.Answers.{start-ready, start-leaves}
+use Rattle.assignment.proofs.starting.start.Statement.{statement}
+use Rattle.assignment.proofs.starting.start.Tie as tie
+
+decode-requires : tie.Need-decode-requires
+decode-requires c κs = search needs
+
+start-refusal-requires : tie.Need-start-refusal-requires
+start-refusal-requires c κs = search needs
+
+same-length : tie.Need-same-length
+same-length c = search needs
+
+returns : tie.Need-returns
+returns c =
+    let number = c .before .start-refusal .ensures in
+    (number, sym (start-kept _ _ (λ e. c .if1 .taken (number ∙ e))))
+
+accepted : (c : tie.Else1) → startNumber (now (c .before .before .before .before .before .before .args .file)) (now (c .before .before .before .before .before .before .args .table)) ≡ 0
+accepted c = sym (c .before .start-refusal .ensures) ∙ c .if1 .left
+
+start-table-requires : tie.Need-start-table-requires
+start-table-requires c κs = start-ready _ _ _ (c .before .before .before .before .decode .ensures) (accepted (c .before))
+
+same-length-2 : tie.Need-same-length-2
+same-length-2 c = search needs
+
+returns-2 : tie.Need-returns-2
+returns-2 c =
+    let yes = accepted (c .before .before .before .before) in
+    (sym yes, start-leaves _ _ _ (c .before .before .before .before .before .before .before .decode .ensures) _ yes (c .before .before .start-table .ensures))
+
+pub start-spec : {M : Type 1} → statement M
+start-spec =
+    tie.close (tie.spec decode-requires start-refusal-requires same-length returns start-table-requires same-length-2 returns-2)

@@ -1,0 +1,34 @@
+-- The answers of accepted calls, from what the judging of a table gives.
+use Prim.Native.Nat.{ℕ}
+use mathlib.Core.Bool.{Bool, true, false}
+use Rattle.calls.specs.declared.Ending.{Ending}
+use Rattle.calls.specs.declared.Ending.the-variants as ending
+use Rattle.calls.specs.declared.Outcome.{Outcome}
+use Rattle.calls.specs.declared.Outcome.the-variants as outcome
+use Rattle.calls.specs.declared.RunAnswer.{RunAnswer}
+use Rattle.judging.specs.declared.Step.{Step}
+use Rattle.judging.specs.declared.Step.the-variants as step
+
+-- What a pass answers, by whether it moved the table.
+abbrev pub outcomeOf : Bool → Outcome
+outcomeOf true = outcome.Moved
+outcomeOf false = outcome.Finest
+
+-- How a run ends, by the step of its last turn. A step that moves ends nothing.
+abbrev pub endingOf : Step → Ending
+endingOf step.Reached = ending.Reached
+endingOf step.Finest = ending.Finest
+endingOf step.Spent = ending.Spent
+endingOf step.Moved = ending.Refused
+
+-- The answer of a run by its last turn: the step, how many tables were judged, and the share, gap and cost of the last.
+abbrev pub endedAnswer : Step → ℕ → ℕ → ℕ → ℕ → RunAnswer
+endedAnswer last judged share gap cost =
+    record {
+      refusal = 0;
+      ending = endingOf last;
+      judged = judged;
+      share = share;
+      gap = gap;
+      cost = cost;
+    }

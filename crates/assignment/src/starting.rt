@@ -1,0 +1,18 @@
+ghost use mathlib.Core.Path.{_≡_};
+ghost use Rattle.calls.specs.Calls.{startNumber, startTable};
+use crate::decoding::decode;
+use crate::refusals::start_refusal;
+
+// Start: W = 1, the table is the loading at empty roads.
+pub fn start(file: &[u8], table: &mut [u32]) -> u8
+    ensures { λ r. ⌜ r ≡ startNumber (now (file .entry)) (now (table .entry)) ⌝ }
+    ensures { λ r. ⌜ now (table .exit) ≡ startTable (now (file .entry)) (now (table .entry)) ⌝ }
+{
+    let d = decode(file);
+    let refusal = start_refusal(file, d, table);
+    if refusal != 0 {
+        return refusal;
+    }
+    judging::start_table(d, table);
+    0
+}
