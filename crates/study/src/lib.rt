@@ -6,6 +6,7 @@ mod header;
 mod questions;
 mod sections;
 
+pub use bytes::u16_at;
 pub use fields::capacity;
 pub use fields::destination;
 pub use fields::free_time;

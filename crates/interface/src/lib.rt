@@ -1,0 +1,141 @@
+// Document 01's six calls, for programs in other languages to link (`rt staticlib interface`).
+//
+// Each function returns the refusal number, or 0. `answer` receives the other fields of document
+// 01's answer, in its order; a refusal writes 0 in each. No call has a `requires`. A slice is passed
+// as a pointer and a length, and an array as a pointer: include/ilstrovan.h has the C declarations.
+ghost use mathlib.Core.Path.{_≡_};
+ghost use Rattle.calls.specs.Calls.{endingNumber, outcomeNumber};
+ghost use Rattle.calls.specs.Calls.{checkNumber, packNumber, packOutput, startNumber, startTable};
+ghost use Rattle.calls.specs.Calls.{auditAnswer, passAnswer, passTable, runAnswer, runTable};
+ghost use Rattle.interface.specs.Numbers.{auditNumbers, passNumbers, runNumbers};
+use calls::AuditAnswer;
+use calls::Ending;
+use calls::Outcome;
+use calls::PassAnswer;
+use calls::RunAnswer;
+
+#[no_mangle]
+pub extern "C" fn ilstrovan_check(file: &[u8]) -> u8
+    ensures { λ r. ⌜ r ≡ checkNumber (now (file .entry)) ⌝ }
+{
+    network::check(file)
+}
+
+#[no_mangle]
+pub extern "C" fn ilstrovan_pack(file: &[u8], output: &mut [u8]) -> u8
+    ensures { λ r. ⌜ r ≡ packNumber (now (file .entry)) (now (output .entry)) ⌝ }
+    ensures { λ _. ⌜ now (output .exit) ≡ packOutput (now (file .entry)) (now (output .entry)) ⌝ }
+{
+    network::pack(file, output)
+}
+
+#[no_mangle]
+pub extern "C" fn ilstrovan_start(file: &[u8], table: &mut [u32]) -> u8
+    ensures { λ r. ⌜ r ≡ startNumber (now (file .entry)) (now (table .entry)) ⌝ }
+    ensures { λ _. ⌜ now (table .exit) ≡ startTable (now (file .entry)) (now (table .entry)) ⌝ }
+{
+    assignment::start(file, table)
+}
+
+// Writes outcome (1 moved, 2 finest), gap, cost and the new share.
+#[no_mangle]
+pub extern "C" fn ilstrovan_pass(
+    file: &[u8],
+    table: &mut [u32],
+    share: u32,
+    answer: &mut [u64; 4],
+) -> u8
+    ensures { λ r. ⌜ r ≡ passAnswer (now (file .entry)) (now (table .entry)) share .refusal ⌝ }
+    ensures { λ _. ⌜ now (table .exit) ≡ passTable (now (file .entry)) (now (table .entry)) share ⌝ }
+    ensures { λ _. ⌜ now (answer .exit) ≡ passNumbers (passAnswer (now (file .entry)) (now (table .entry)) share) ⌝ }
+{
+    let passed = assignment::pass(file, table, share);
+    *answer = pass_numbers(passed);
+    passed.refusal
+}
+
+// Writes ending (1 reached, 2 finest, 3 spent), tables judged, share, gap and cost.
+#[no_mangle]
+pub extern "C" fn ilstrovan_run(
+    file: &[u8],
+    table: &mut [u32],
+    budget: u32,
+    excess: u16,
+    answer: &mut [u64; 5],
+) -> u8
+    ensures { λ r. ⌜ r ≡ runAnswer (now (file .entry)) (now (table .entry)) budget excess .refusal ⌝ }
+    ensures { λ _. ⌜ now (table .exit) ≡ runTable (now (file .entry)) (now (table .entry)) budget excess ⌝ }
+    ensures { λ _. ⌜ now (answer .exit) ≡ runNumbers (runAnswer (now (file .entry)) (now (table .entry)) budget excess) ⌝ }
+{
+    let ended = assignment::run(file, table, budget, excess);
+    *answer = run_numbers(ended);
+    ended.refusal
+}
+
+// Writes gap and cost.
+#[no_mangle]
+pub extern "C" fn ilstrovan_audit(
+    file: &[u8],
+    table: &[u32],
+    share: u32,
+    answer: &mut [u64; 2],
+) -> u8
+    ensures { λ r. ⌜ r ≡ auditAnswer (now (file .entry)) (now (table .entry)) share .refusal ⌝ }
+    ensures { λ _. ⌜ now (answer .exit) ≡ auditNumbers (auditAnswer (now (file .entry)) (now (table .entry)) share) ⌝ }
+{
+    let audited = assignment::audit(file, table, share);
+    *answer = audit_numbers(audited);
+    audited.refusal
+}
+
+fn pass_numbers(passed: PassAnswer) -> [u64; 4]
+    ensures { λ r. ⌜ r ≡ passNumbers passed ⌝ }
+{
+    let outcome = passed.outcome;
+    [
+        outcome_number(outcome),
+        passed.gap,
+        passed.cost,
+        passed.share as u64,
+    ]
+}
+
+fn run_numbers(ended: RunAnswer) -> [u64; 5]
+    ensures { λ r. ⌜ r ≡ runNumbers ended ⌝ }
+{
+    let ending = ended.ending;
+    [
+        ending_number(ending),
+        ended.judged as u64,
+        ended.share as u64,
+        ended.gap,
+        ended.cost,
+    ]
+}
+
+fn audit_numbers(audited: AuditAnswer) -> [u64; 2]
+    ensures { λ r. ⌜ r ≡ auditNumbers audited ⌝ }
+{
+    [audited.gap, audited.cost]
+}
+
+fn outcome_number(outcome: Outcome) -> u64
+    ensures { λ r. ⌜ r ≡ outcomeNumber outcome ⌝ }
+{
+    match outcome {
+        Outcome::Refused => 0,
+        Outcome::Moved => 1,
+        Outcome::Finest => 2,
+    }
+}
+
+fn ending_number(ending: Ending) -> u64
+    ensures { λ r. ⌜ r ≡ endingNumber ending ⌝ }
+{
+    match ending {
+        Ending::Refused => 0,
+        Ending::Reached => 1,
+        Ending::Finest => 2,
+        Ending::Spent => 3,
+    }
+}

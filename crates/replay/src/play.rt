@@ -1,0 +1,55 @@
+// One recorded call: made, and its answer printed.
+use crate::digest;
+use crate::lines;
+
+// What a call is handed besides the file and what it is lent; 0 where it takes none.
+pub struct Arguments {
+    pub share: u32,
+    pub budget: u32,
+    pub excess: u16,
+}
+
+// The call of this kind: 1 check, 2 pack, 3 start, 4 pass, 5 run, 6 audit.
+pub fn call(kind: u8, file: &[u8], output: &mut [u8], table: &mut [u32], given: Arguments) {
+    match kind {
+        1 => check(file),
+        2 => pack(file, output),
+        3 => start(file, table),
+        4 => pass(file, table, given.share),
+        5 => run(file, table, given.budget, given.excess),
+        _ => audit(file, table, given.share),
+    }
+}
+
+fn check(file: &[u8]) {
+    let refusal = interface::ilstrovan_check(file);
+    lines::print(b"check", refusal, &[0u64; 0], digest::of_nothing());
+}
+
+fn pack(file: &[u8], output: &mut [u8]) {
+    let refusal = interface::ilstrovan_pack(file, output);
+    lines::print(b"pack", refusal, &[0u64; 0], digest::of_bytes(output));
+}
+
+fn start(file: &[u8], table: &mut [u32]) {
+    let refusal = interface::ilstrovan_start(file, table);
+    lines::print(b"start", refusal, &[0u64; 0], digest::of_numbers(table));
+}
+
+fn pass(file: &[u8], table: &mut [u32], share: u32) {
+    let mut answer = [0u64; 4];
+    let refusal = interface::ilstrovan_pass(file, table, share, &mut answer);
+    lines::print(b"pass", refusal, &answer, digest::of_numbers(table));
+}
+
+fn run(file: &[u8], table: &mut [u32], budget: u32, excess: u16) {
+    let mut answer = [0u64; 5];
+    let refusal = interface::ilstrovan_run(file, table, budget, excess, &mut answer);
+    lines::print(b"run", refusal, &answer, digest::of_numbers(table));
+}
+
+fn audit(file: &[u8], table: &[u32], share: u32) {
+    let mut answer = [0u64; 2];
+    let refusal = interface::ilstrovan_audit(file, table, share, &mut answer);
+    lines::print(b"audit", refusal, &answer, digest::of_numbers(table));
+}

@@ -1,0 +1,65 @@
+// Document 01, the program `assign`: from the bytes that it reads to the bytes that it prints.
+ghost use Prim.Native.Nat.{_≤_};
+ghost use mathlib.Core.Path.{_≡_};
+ghost use mathlib.Core.List.{_++_};
+ghost use lib.ListN.{length, drop};
+ghost use Rattle.calls.specs.Calls.{tableNumber};
+ghost use Rattle.listing.specs.Listing.{printed};
+ghost use Rattle.report.specs.Respond.{tableLeft, refusalLine, listed, Written};
+use calls::Ending;
+use calls::RunAnswer;
+
+// Runs the study of an input over a lent table, and writes the listing of what the run answers and
+// leaves. Answers how many bytes the listing has. What stands behind them stays as it was.
+pub fn respond(input: &[u8], table: &mut [u32], out: &mut [u8]) -> usize
+    requires { ⌜ 32768 ≤ length (now out) ⌝ }
+    ensures { λ r. ⌜ r ≡ length (printed (now (input .entry)) (now (table .entry))) ⌝ }
+    ensures { λ r. ⌜ now (out .exit) ≡ printed (now (input .entry)) (now (table .entry)) ++ drop r (now (out .entry)) ⌝ }
+    ensures { λ r. ⌜ now (table .exit) ≡ tableLeft (now (input .entry)) (now (table .entry)) ⌝ }
+{
+    if input.len() < 4 {
+        return write_refusal(1, out);
+    }
+    let budget = study::u16_at(input, 0);
+    let excess = study::u16_at(input, 2);
+    let file = &input[4..];
+    let answer = assignment::run(file, table, budget as u32, excess);
+    let refusal = answer.refusal;
+    if refusal != 0 {
+        return write_refusal(refusal, out);
+    }
+    write_accepted(file, table, answer, out)
+}
+
+// A refusal is one line, with no links.
+fn write_refusal(number: u8, out: &mut [u8]) -> usize
+    requires { ⌜ (number ≡ 0 → ⊥) × (32768 ≤ length (now out)) ⌝ }
+    ensures { λ r. ⌜ Written (now (out .entry)) (refusalLine number) (now (out .exit)) r ⌝ }
+{
+    let answer = RunAnswer {
+        refusal: number,
+        ending: Ending::Refused,
+        judged: 0,
+        share: 0,
+        gap: 0,
+        cost: 0,
+    };
+    listing::write_listing(answer, 0, &[0u64; 512], &[0u32; 512], out)
+}
+
+// The listing of an accepted run, from the table that it left: one that an audit at the answered
+// share accepts.
+fn write_accepted(file: &[u8], table: &[u32], answer: RunAnswer, out: &mut [u8]) -> usize
+    requires { ⌜ (tableNumber (now file) (now table) (answer .share) ≡ 0) × (32768 ≤ length (now out)) ⌝ }
+    ensures { λ r. ⌜ Written (now (out .entry)) (listed (now (file .entry)) (now (table .entry)) answer) (now (out .exit)) r ⌝ }
+{
+    let m = study::link_count(file);
+    let p = study::destination_count(file);
+    let links = network::decode_links(study::links(file), m);
+    let free = links.free_times;
+    let rises = links.rises;
+    let capacities = links.capacities;
+    let flows = travel::totals(table, p, m);
+    let times = travel::times(&free, &rises, &capacities, &flows, m, answer.share);
+    listing::write_listing(answer, m, &flows, &times, out)
+}
