@@ -11,9 +11,11 @@ fn main() {
     town_endings();
     steep_ending();
     crossing_endings();
-    refusals();
+    study_refusals();
+    budget_refusals();
     tables();
-    lengths::lengths();
+    lengths::short_inputs();
+    lengths::long_inputs();
 }
 
 // The town: reached, spent, and reached by the first table.
@@ -62,22 +64,27 @@ fn crossing_endings() {
     );
 }
 
-// Some questions answered no.
-fn refusals() {
+// Questions 2, 6 and 11 answered no.
+fn study_refusals() {
     let mut input = town();
     // version 2
     input[4] = 2;
     show(b"version 2\n", &input, &mut [0u32; 2]);
     // link 1 leaves from node 2
-    input[4] = 1;
+    let mut input = town();
     input[46] = 2;
     show(b"tail 2 of 2 nodes\n", &input, &mut [0u32; 2]);
     // both roads the wrong way round
+    let mut input = town();
     input[36] = 1;
     input[38] = 0;
     input[46] = 1;
     input[48] = 0;
     show(b"no road into the destination\n", &input, &mut [0u32; 2]);
+}
+
+// Question 13 answered no.
+fn budget_refusals() {
     let mut input = town();
     // budget 0
     input[0] = 0;

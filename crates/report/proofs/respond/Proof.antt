@@ -37,10 +37,14 @@ cast-run c = search needs
 run-requires : tie.Need-run-requires
 run-requires c κs = search needs
 
+abbrev entry : tie.After-run → tie.Start
+entry c = c .before .before .before .before .before .before .before .before .before
+
 -- The run, by the input and the table that were lent.
-the-run : (c : tie.After-run) → Ran (now (c .before .before .before .before .before .before .before .before .before .args .input)) (now (c .before .before .before .before .before .before .before .before .before .args .table)) (c .run .result) (c .run .last .1 .0)
+the-run : (c : tie.After-run) → Ran (now (entry c .args .input)) (now (entry c .args .table)) (c .run .result) (c .run .last .1 .0)
 the-run c =
-    ran _ _ (c .before .before .before .before .before .if1 .left) (c .before .before .before .before .u16-at .ensures) (c .before .before .before .u16-at2 .ensures) (c .run .ensures)
+    let read = c .before .before .before in
+    ran _ _ (read .before .before .if1 .left) (read .before .u16-at .ensures) (read .u16-at2 .ensures) (c .run .ensures)
 
 write-refusal-requires-2 : tie.Need-write-refusal-requires-2
 write-refusal-requires-2 c κs = search needs
@@ -58,8 +62,8 @@ returns-2 c =
 
 write-accepted-requires : tie.Need-write-accepted-requires
 write-accepted-requires c κs =
-    let r = the-run (c .before .before .before .before .before) in
-    (ran-audited _ _ r (c .before .before .if2 .left), c .before .before .before .before .before .before .before .before .before .before .before .before .before .before .pre)
+    let at-run = c .before .before .before .before .before in
+    (ran-audited _ _ (the-run at-run) (c .before .before .if2 .left), entry at-run .pre)
 
 same-length-4 : tie.Need-same-length-4
 same-length-4 c = search needs

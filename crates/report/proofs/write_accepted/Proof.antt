@@ -6,6 +6,10 @@ use Rattle.report.specs.Laws.Printed.{written-as}
 use Rattle.report.proofs.write_accepted.Statement.{statement}
 use Rattle.report.proofs.write_accepted.Tie as tie
 
+-- From where both counts are known back to the entry.
+abbrev entry : tie.After-destination-count → tie.Start
+entry c = c .before .before .before .before .before
+
 link-count-requires : tie.Need-link-count-requires
 link-count-requires c κs = search needs
 
@@ -16,24 +20,26 @@ links-requires : tie.Need-links-requires
 links-requires c κs = search needs
 
 decode-links-requires : tie.Need-decode-links-requires
-decode-links-requires c κs = links-there _ _ _ (c .before .before .before .before .before .before .pre .0) (c .before .before .link-count .ensures) (c .links .ensures)
+decode-links-requires c κs =
+    links-there _ _ _ (entry (c .before) .pre .0) (c .before .before .link-count .ensures) (c .links .ensures)
 
 totals-requires : tie.Need-totals-requires
 totals-requires c κs =
     let counted = c .before .before .before .before .before in
-    rows-there _ _ _ (counted .before .before .before .before .before .pre .0) (counted .destination-count .ensures) (counted .before .link-count .ensures)
+    rows-there _ _ _ (entry counted .pre .0) (counted .destination-count .ensures) (counted .before .link-count .ensures)
 
 times-requires : tie.Need-times-requires
 times-requires c κs =
-    let read = c .before .before .before .before .before .before .before .before in
+    let summed = c .before .before .before .before in
+    let read = summed .before .before .before .before in
     let counted = read .before .before in
-    times-there _ _ _ (counted .before .before .before .before .before .pre .0) (counted .before .link-count .ensures) (counted .destination-count .ensures) (read .before .links .ensures)
-    (read .decode-links .ensures) (c .before .before .before .before .totals .ensures .0)
+    times-there _ _ _ (entry counted .pre .0) (counted .before .link-count .ensures) (counted .destination-count .ensures)
+    (read .before .links .ensures) (read .decode-links .ensures) (summed .totals .ensures .0)
 
 write-listing-requires : tie.Need-write-listing-requires
 write-listing-requires c κs =
     let counted = c .before .before .before .before .before .before .before .before .before .before .before .before .before .before in
-    let pre = counted .before .before .before .before .before .pre in
+    let pre = entry counted .pre in
     (rows-there _ _ _ (pre .0) (counted .destination-count .ensures) (counted .before .link-count .ensures) .1, pre .1)
 
 same-length : tie.Need-same-length
@@ -42,11 +48,12 @@ same-length c = search needs
 returns : tie.Need-returns
 returns c =
     let timed = c .before .before .before .before .before .before in
-    let read = timed .before .before .before .before .before .before .before .before .before in
+    let summed = timed .before .before .before .before .before in
+    let read = summed .before .before .before .before in
     let counted = read .before .before in
     written-as
-    (listed-same _ _ _ (counted .before .before .before .before .before .pre .0) (counted .before .link-count .ensures) (counted .destination-count .ensures)
-    (read .before .links .ensures) (read .decode-links .ensures) (timed .before .before .before .before .before .totals .ensures .0) _ refl (timed .times .ensures .0))
+    (listed-same _ _ _ (entry counted .pre .0) (counted .before .link-count .ensures) (counted .destination-count .ensures)
+    (read .before .links .ensures) (read .decode-links .ensures) (summed .totals .ensures .0) _ refl (timed .times .ensures .0))
     (c .before .before .write-listing .ensures)
 
 pub write-accepted-spec : {M : Type 1} → statement M

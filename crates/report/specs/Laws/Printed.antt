@@ -13,7 +13,7 @@ use Rattle.listing.specs.Listing.{listing, printed}
 use Rattle.report.specs.Respond.{tableLeft, refusalLine, listed, Written}
 use Rattle.report.specs.Laws.Runs.{answer-accepted, run-audited}
 
--- Written bytes are any that equal them.
+-- Bytes that equal written ones are written.
 pub written-as : {before bytes same after : List ℕ} {size : ℕ} → bytes ≡ same → (size ≡ length bytes) × (after ≡ bytes ++ drop size before) →
     Written before same after size
 written-as {before} {size = size} e w =
@@ -24,7 +24,7 @@ pub refused-line : (answer : RunAnswer) (m : ℕ) (flow time : ℕ → ℕ) → 
 unfolding listing
 refused-line answer m flow time refused = rw (ne-eqb (answer .refusal) 0 refused)
 
--- What is left of a slice from its fourth byte on.
+-- The part of a slice behind its first four bytes.
 study-part : (input : List ℕ) → take (length input - 4) (drop 4 input) ≡ drop 4 input
 study-part input = take-all (length input - 4) (drop 4 input) (omega (arith, length-drop 4 input))
 

@@ -1,0 +1,73 @@
+//! The proved calls beside the second implementation's:
+//! `cargo run --release --bin benchmark`.
+//!
+//! Same studies, same process, turn about. Prints Markdown: for each study and
+//! call the median processor time of either with its quartiles, and the median
+//! of the ratios of neighbouring measurements; then the stack that each call
+//! needs.
+
+mod measure;
+mod stack;
+mod studies;
+
+use measure::{Comparison, compare};
+use studies::Study;
+
+fn main() {
+    let studies = studies::all();
+    println!("| study | n | m | p | T | call | Rattle, µs | Rust, µs | Rattle ÷ Rust |");
+    println!("|---|---:|---:|---:|---:|---|---:|---:|---:|");
+    for study in &studies {
+        for (call, comparison) in calls(study) {
+            println!("| {} | {call} | {comparison} |", study.columns());
+        }
+    }
+    println!();
+    println!("Processor time: median, and in brackets the quartiles.");
+    println!();
+    println!("| call | stack, bytes | study |");
+    println!("|---|---:|---|");
+    for (call, bytes, study) in stack::needs(&studies) {
+        println!("| {call} | {bytes} | {study} |");
+    }
+}
+
+/// The calls on one study: a run to its end, a pass over and an audit of the
+/// start's table, and a check.
+fn calls(study: &Study) -> [(String, Comparison); 4] {
+    let file = &study.file;
+    let room = vec![0; study.table_length];
+    let mut started = room.clone();
+    assert_eq!(second::start(file, &mut started), 0);
+
+    // Both have to answer the same before they are timed.
+    let run = second::run(file, &mut room.clone(), 1_024, 0);
+    let proved = ilstrovan::run(file, &mut room.clone(), 1_024, 0).expect("accepted");
+    assert_eq!((proved.judged, proved.gap), (run.judged, run.gap));
+    let audit = second::audit(file, &started, 1);
+    let proved = ilstrovan::audit(file, &started, 1).expect("accepted");
+    assert_eq!((proved.gap, proved.cost), (audit.gap, audit.cost));
+
+    let running = compare(
+        &room,
+        |table| ilstrovan::run(file, table, 1_024, 0),
+        |table| second::run(file, table, 1_024, 0),
+    );
+    let passing = compare(
+        &started,
+        |table| ilstrovan::pass(file, table, 1),
+        |table| second::pass(file, table, 1),
+    );
+    let auditing = compare(
+        &started,
+        |table| ilstrovan::audit(file, table, 1),
+        |table| second::audit(file, table, 1),
+    );
+    let checking = compare(&[], |_| ilstrovan::check(file), |_| second::check(file));
+    [
+        (format!("run, {} tables", run.judged), running),
+        ("pass".to_string(), passing),
+        ("audit".to_string(), auditing),
+        ("check".to_string(), checking),
+    ]
+}

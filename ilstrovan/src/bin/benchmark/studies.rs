@@ -1,0 +1,142 @@
+//! The studies that are timed.
+
+use std::path::Path;
+
+use second::draft::{Dice, Draft, DraftLink, Plan, grid};
+use study_tool::exact::Fraction;
+use study_tool::source::Source;
+use study_tool::tntp::{Options, convert};
+
+/// A study with its name and figures.
+pub struct Study {
+    name: String,
+    nodes: usize,
+    links: usize,
+    destinations: usize,
+    trips: u64,
+    /// Its file.
+    pub file: Vec<u8>,
+    /// Numbers in its table.
+    pub table_length: usize,
+}
+
+impl Study {
+    /// The first columns of its lines.
+    pub fn columns(&self) -> String {
+        let Study {
+            name,
+            nodes,
+            links,
+            destinations,
+            trips,
+            ..
+        } = self;
+        format!("{name} | {nodes} | {links} | {destinations} | {trips}")
+    }
+
+    /// Its name.
+    pub fn name(&self) -> &str {
+        &self.name
+    }
+
+    fn of_draft(name: &str, draft: &Draft) -> Self {
+        Study {
+            name: name.to_string(),
+            nodes: usize::from(draft.nodes),
+            links: draft.links.len(),
+            destinations: draft.destinations.len(),
+            trips: draft.total(),
+            file: draft.file(),
+            table_length: draft.table_length(),
+        }
+    }
+}
+
+/// The town, Sioux Falls, and grids and random networks up to the largest study.
+pub fn all() -> Vec<Study> {
+    let mut studies = vec![Study::of_draft("town", &Draft::town()), sioux_falls()];
+    let mut dice = Dice::new(31);
+    for (wide, high) in [(4, 4), (8, 4), (8, 8), (16, 8)] {
+        let nodes = wide * high;
+        let mut links = grid(&mut dice, wide, high, 512, 300, 900);
+        while links.len() < 4 * usize::from(nodes) {
+            links.push(dice.pick(&links));
+        }
+        let draft = crowded(&mut dice, nodes, links);
+        studies.push(Study::of_draft(&format!("grid {wide} by {high}"), &draft));
+    }
+    for nodes in [16, 32, 64, 128] {
+        let links = (0..4 * nodes).map(|_| any_link(&mut dice, nodes)).collect();
+        let draft = crowded(&mut dice, nodes, links);
+        studies.push(Study::of_draft(&format!("random {nodes}"), &draft));
+    }
+    studies
+}
+
+/// The field's standard test network, ten vehicles to a trip.
+fn sioux_falls() -> Study {
+    let data = Path::new(env!("CARGO_MANIFEST_DIR")).join("../tool/tests/data");
+    let open = |name| Source::open(&data.join(name)).expect("the tool's test data");
+    let options = Options {
+        vehicles_per_trip: Fraction::new(10, 1).expect("ten"),
+        ..Options::default()
+    };
+    let conversion = convert(
+        &open("SiouxFalls_net.tntp"),
+        &open("SiouxFalls_trips.tntp"),
+        &options,
+    );
+    let study = conversion.expect("an acceptable study").study;
+    Study {
+        name: "Sioux Falls".to_string(),
+        nodes: usize::from(study.nodes),
+        links: study.links.len(),
+        destinations: study.destinations.len(),
+        trips: u64::from(study.total()),
+        file: study.packed(),
+        table_length: study.destinations.len() * study.links.len(),
+    }
+}
+
+fn any_link(dice: &mut Dice, nodes: u16) -> DraftLink {
+    let tail = dice.below(u64::from(nodes)) as u16;
+    let head = (tail + dice.between(1, u64::from(nodes) - 1) as u16) % nodes;
+    let time = dice.between(150, 300) as u16;
+    let rise = dice.between(0, 300) as u16;
+    let capacity = dice.between(450, 900) as u16;
+    [tail, head, time, rise, capacity]
+}
+
+/// A study on these links with a destination to four nodes, and 65,535 trips to
+/// 128 nodes.
+fn crowded(dice: &mut Dice, nodes: u16, links: Vec<DraftLink>) -> Draft {
+    let plan = Plan {
+        nodes: (2, 2),
+        links: (1, 1),
+        destinations: u64::from(nodes / 4),
+        time: 1,
+        capacity: 1,
+        trips: 60,
+        tenths: 10,
+    };
+    let mut draft = plan.with_links(dice, nodes, links.clone());
+    while draft.destinations.len() < usize::from(nodes / 4) {
+        draft = plan.with_links(dice, nodes, links.clone());
+    }
+    top_up(&mut draft, 65_535 * u64::from(nodes) / 128);
+    draft
+}
+
+/// Brings the total of trips to `total`, a trip at a time where there are some.
+fn top_up(draft: &mut Draft, total: u64) {
+    draft.limit_total(total);
+    let mut missing = total - draft.total();
+    while missing > 0 {
+        for trips in draft.trips.iter_mut().flatten() {
+            if missing > 0 && *trips > 0 {
+                *trips += 1;
+                missing -= 1;
+            }
+        }
+    }
+}

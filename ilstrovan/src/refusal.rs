@@ -1,0 +1,57 @@
+//! Refusals.
+
+use std::error::Error;
+use std::fmt;
+use std::num::NonZeroU8;
+
+/// What the numbers mean, from 1 on.
+const WORDS: [&str; 17] = [
+    "the file is not 32 to 65,536 bytes long",
+    "the version is not 1",
+    "nodes are not 2 to 128, links 1 to 512 or destinations 1 to 32, or there are more destinations than nodes",
+    "the sections are not in order from byte 32 and within the file",
+    "a section's length does not fit the counts",
+    "a link's tail or head is no node, or they are the same",
+    "a link's free time is not 1 to 16,383, its rise is above 16,383, or its capacity is 0",
+    "a destination is no node, or the destinations do not ascend strictly",
+    "a destination has trips to itself",
+    "there are more than 65,535 trips in all",
+    "a node has trips to a destination to which it has no path",
+    "the table holds fewer than destinations times links numbers",
+    "the budget is not 1 to 1,024",
+    "the share is not 1 to 1,024",
+    "a link's total flow is above share times trips",
+    "the table does not conserve",
+    "the output is shorter than the packed study",
+];
+
+/// The first question that refused a call. The call changed nothing.
+#[derive(Clone, Copy, Debug, PartialEq, Eq)]
+pub struct Refusal(NonZeroU8);
+
+impl Refusal {
+    /// What a call that returned this number comes to.
+    pub(crate) fn of(number: u8) -> Result<(), Refusal> {
+        match NonZeroU8::new(number) {
+            None => Ok(()),
+            Some(number) => Err(Refusal(number)),
+        }
+    }
+
+    /// The question's number in document 01.
+    pub fn number(self) -> u8 {
+        self.0.get()
+    }
+}
+
+impl fmt::Display for Refusal {
+    fn fmt(&self, out: &mut fmt::Formatter<'_>) -> fmt::Result {
+        let number = self.number();
+        match WORDS.get(usize::from(number) - 1) {
+            Some(words) => write!(out, "refused {number}: {words}"),
+            None => write!(out, "refused {number}"),
+        }
+    }
+}
+
+impl Error for Refusal {}

@@ -1,0 +1,92 @@
+//! The safe functions on the town of two roads: document 01's cases.
+
+use ilstrovan::{Audit, Ending, Outcome, Pass, Run, audit, check, pack, pass, run, start};
+use second::draft::Draft;
+
+fn refusal<T: std::fmt::Debug>(result: Result<T, ilstrovan::Refusal>) -> u8 {
+    result.expect_err("a refusal").number()
+}
+
+#[test]
+fn accepted_calls() {
+    let file = Draft::town().file();
+    assert_eq!(check(&file), Ok(()));
+    let mut output = [0xEE; 60];
+    assert_eq!(pack(&file, &mut output), Ok(()));
+    assert_eq!(output[..58], file);
+    assert_eq!(output[58..], [0xEE; 2]);
+
+    let mut table = [7; 3];
+    assert_eq!(start(&file, &mut table), Ok(()));
+    assert_eq!(table, [2, 0, 7]);
+    let Audit { gap, cost } = audit(&file, &table, 1).expect("accepted");
+    assert_eq!(gap, 10);
+
+    let moved = pass(&file, &mut table, 1).expect("accepted");
+    assert_eq!((moved.outcome, moved.gap), (Outcome::Moved, gap));
+    assert_eq!(moved.cost, cost);
+    table = [16, 0, 7];
+    let moved = pass(&file, &mut table, 8).expect("accepted");
+    assert_eq!((moved.outcome, moved.share), (Outcome::Moved, 9));
+    assert_eq!(table, [16, 2, 7]);
+    let best = Audit {
+        gap: 0,
+        cost: 13_104,
+    };
+    assert_eq!(audit(&file, &table, 9), Ok(best));
+
+    let ended = run(&file, &mut table, 3, 0).expect("accepted");
+    assert_eq!((ended.ending, ended.judged), (Ending::Spent, 3));
+    assert_eq!((ended.share, ended.gap), (4, 40));
+    assert_eq!(table, [8, 0, 7]);
+    let reached = Run {
+        ending: Ending::Reached,
+        judged: 5,
+        share: 9,
+        gap: 0,
+        cost: 13_104,
+    };
+    assert_eq!(run(&file, &mut table, 10, 0), Ok(reached));
+    assert_eq!(table, [16, 2, 7]);
+}
+
+/// Passes until one finds no move, and a run that ends the same way.
+#[test]
+fn finest() {
+    let mut draft = Draft::town();
+    draft.links = vec![[0, 1, 10, 100, 2], [0, 1, 15, 7, 1]];
+    let file = draft.file();
+    let mut table = [0; 2];
+    start(&file, &mut table).expect("accepted");
+    let mut share = 1;
+    let last: Pass = loop {
+        let answer = pass(&file, &mut table, share).expect("accepted");
+        share = answer.share;
+        if answer.outcome == Outcome::Finest {
+            break answer;
+        }
+    };
+    let mut ended_with = [0; 2];
+    let ended = run(&file, &mut ended_with, 1_024, 0).expect("accepted");
+    assert_eq!(ended.ending, Ending::Finest);
+    assert_eq!((ended.gap, ended.cost), (last.gap, last.cost));
+    assert_eq!((ended.share, ended_with), (last.share, table));
+}
+
+#[test]
+fn refused_calls() {
+    let file = Draft::town().file();
+    let mut table = [16, 1, 7];
+    assert_eq!(refusal(check(&[])), 1);
+    assert_eq!(refusal(check(&file[..57])), 4);
+    assert_eq!(refusal(pack(&file, &mut [0; 57])), 17);
+    assert_eq!(refusal(start(&file, &mut [])), 12);
+    assert_eq!(refusal(run(&file, &mut table, 0, 0)), 13);
+    assert_eq!(refusal(pass(&file, &mut table, 1_025)), 14);
+    assert_eq!(refusal(audit(&file, &[19, 0], 9)), 15);
+    assert_eq!(refusal(pass(&file, &mut table, 9)), 16);
+    assert_eq!(table, [16, 1, 7]);
+
+    let words = audit(&file, &table, 9).expect_err("a refusal").to_string();
+    assert_eq!(words, "refused 16: the table does not conserve");
+}

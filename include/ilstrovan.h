@@ -1,0 +1,153 @@
+/*
+ * Ilstrovan: equilibrium assignment of trips to a road network.
+ *
+ * Six calls over a study file in memory and a flow table that the caller
+ * lends. Every number they return or write is proved to be the one that
+ * document 01 defines, for any bytes, any table and any numbers. Link with
+ * target/staticlib/libinterface.a, which `rt staticlib interface` writes for
+ * x86-64 Linux; it needs only the C library.
+ *
+ * Returned by every call
+ *   0 where the call is accepted, otherwise the number of the first question
+ *   that refuses (ilstrovan_refusal below). A refused call writes 0 to each
+ *   number of `answer` and leaves the table or the output as it was.
+ *
+ * Memory
+ *   Everything belongs to the caller: nothing is allocated, kept or freed, and
+ *   no pointer is used after the call returns. A pointer is never NULL, not
+ *   even with a length of 0, is aligned for its type, and points to as many
+ *   elements as the length after it says. What a call writes (output, table,
+ *   answer) overlaps nothing else that the call is handed, and no other thread
+ *   touches it meanwhile; what a call only reads may be shared. Calls on
+ *   separate memory may run in any number of threads.
+ *
+ * Stack
+ *   A call needs at most 512 KiB of stack.
+ *
+ * Parameters
+ *   file, file_length      The study file and its length in bytes.
+ *   table, table_length    The flow table and how many numbers it holds, at
+ *                          least destinations times links. The flow to the
+ *                          destination at position k over link l stands at
+ *                          k * links + l, in parts of a trip: with share W one
+ *                          trip is W parts. Later numbers are never written.
+ *   output, output_length  Room for a packed study, in bytes. Later bytes are
+ *                          never written.
+ *   share                  The share W of the table, 1 to 1024.
+ *   budget                 The most tables a run judges, 1 to 1024.
+ *   excess                 The excess at which a run ends, 0 to 65535
+ *                          hundredths of a minute a trip.
+ *   answer                 Receives the numbers of the answer, always all.
+ *
+ * Times are hundredths of a minute. Gap and cost are as document 01 has them:
+ * for a table of share W the gap is W times the total time above least times,
+ * and the cost 64 times W times the area under the link times.
+ */
+#ifndef ILSTROVAN_H
+#define ILSTROVAN_H
+
+#include <stddef.h>
+#include <stdint.h>
+
+#ifdef __cplusplus
+extern "C" {
+#endif
+
+/* The numbers of refusals, which are those of document 01's questions. */
+enum ilstrovan_refusal {
+    ILSTROVAN_ACCEPTED = 0,
+    /* The file is shorter than 32 bytes or longer than 65536. */
+    ILSTROVAN_FILE_LENGTH = 1,
+    /* The version is not 1. */
+    ILSTROVAN_VERSION = 2,
+    /* Nodes are not 2 to 128, links 1 to 512 or destinations 1 to 32, or there
+       are more destinations than nodes. */
+    ILSTROVAN_COUNTS = 3,
+    /* A section begins before byte 32, before the end of the section before
+       it, or ends after the file. */
+    ILSTROVAN_SECTIONS = 4,
+    /* A section's length is not 10 bytes a link, 2 a destination, or 2 a
+       destination and node. */
+    ILSTROVAN_SECTION_LENGTHS = 5,
+    /* A link's tail or head is no node, or they are the same. */
+    ILSTROVAN_LINK_ENDS = 6,
+    /* A link's free time is not 1 to 16383, its rise is above 16383, or its
+       capacity is 0. */
+    ILSTROVAN_LINK_NUMBERS = 7,
+    /* A destination is no node, or the destinations do not ascend strictly. */
+    ILSTROVAN_DESTINATIONS = 8,
+    /* A destination has trips to itself. */
+    ILSTROVAN_TRIPS_TO_SELF = 9,
+    /* There are more than 65535 trips in all. */
+    ILSTROVAN_TOTAL_TRIPS = 10,
+    /* A node has trips to a destination to which it has no path. */
+    ILSTROVAN_UNREACHABLE = 11,
+    /* The table holds fewer than destinations times links numbers. */
+    ILSTROVAN_TABLE_LENGTH = 12,
+    /* The budget is not 1 to 1024. */
+    ILSTROVAN_BUDGET = 13,
+    /* The share is not 1 to 1024. */
+    ILSTROVAN_SHARE = 14,
+    /* A link's total flow is above share times trips. */
+    ILSTROVAN_TOTAL_FLOW = 15,
+    /* The table does not conserve: at some node the flow out is not the flow
+       in and the trips that begin there. */
+    ILSTROVAN_CONSERVATION = 16,
+    /* The output is shorter than the packed study. */
+    ILSTROVAN_OUTPUT_LENGTH = 17
+};
+
+/* What a pass did: answer[0] of ilstrovan_pass. A refused pass has 0. */
+enum ilstrovan_outcome {
+    ILSTROVAN_MOVED = 1,         /* it moved the table */
+    ILSTROVAN_PASS_FINEST = 2    /* there is no move; the table is as it was */
+};
+
+/* How a run ended: answer[0] of ilstrovan_run. A refused run has 0. */
+enum ilstrovan_ending {
+    ILSTROVAN_REACHED = 1,       /* the gap is within the excess */
+    ILSTROVAN_RUN_FINEST = 2,    /* there is no move from the last table */
+    ILSTROVAN_SPENT = 3          /* the budget is used up */
+};
+
+/* Is the file an acceptable study? Refusals 1 to 11. */
+uint8_t ilstrovan_check(const uint8_t *file, size_t file_length);
+
+/* Writes the study to `output` with no gaps, its sections in order from byte
+   32: 32 + 10 * links + 2 * destinations * (1 + nodes) bytes. Refusals 1 to
+   11, then 17. */
+uint8_t ilstrovan_pack(const uint8_t *file, size_t file_length,
+                       uint8_t *output, size_t output_length);
+
+/* Writes the loading at empty roads to `table`, whatever it held; its share is
+   1. Refusals 1 to 12. */
+uint8_t ilstrovan_start(const uint8_t *file, size_t file_length,
+                        uint32_t *table, size_t table_length);
+
+/* Judges `table` and moves it towards least times. Writes the outcome
+   (ilstrovan_outcome), the gap and the cost of the judged table, and the share
+   of the table as it is now. Refusals 1 to 12, then 14 to 16. */
+uint8_t ilstrovan_pass(const uint8_t *file, size_t file_length,
+                       uint32_t *table, size_t table_length,
+                       uint32_t share, uint64_t answer[4]);
+
+/* Starts, then judges and moves until the gap is at most excess times share
+   times trips, there is no move, or the budget is used up. `table` then holds
+   the last judged table, whatever it held before. Writes the ending
+   (ilstrovan_ending), how many tables were judged, and the share, the gap and
+   the cost of the last. Refusals 1 to 13. */
+uint8_t ilstrovan_run(const uint8_t *file, size_t file_length,
+                      uint32_t *table, size_t table_length,
+                      uint32_t budget, uint16_t excess, uint64_t answer[5]);
+
+/* Writes the gap and the cost of `table`, whoever made it, and changes nothing
+   else. Refusals 1 to 12, then 14 to 16. */
+uint8_t ilstrovan_audit(const uint8_t *file, size_t file_length,
+                        const uint32_t *table, size_t table_length,
+                        uint32_t share, uint64_t answer[2]);
+
+#ifdef __cplusplus
+}
+#endif
+
+#endif
