@@ -1,42 +1,57 @@
 -- The marks of a reach search, and what a sweep over the links makes of them.
-use Prim.Native.Nat.{ℕ, _+_, _*_, _<_}
-use mathlib.Core.Bool.{Bool, true, false, _||_, cond}
+use Prim.Native.Nat.{ℕ, _+_, _-_, _*_, _/_, _%_, _^_, _<_, _≤_}
+use mathlib.Core.Bool.{Bool, true, _||_, _&&_}
 use mathlib.Core.List.{List}
-use mathlib.Core.Logic.{_⊎_}
 use mathlib.Core.Path.{_≡_}
 use lib.Dec.{eqb}
 use lib.ListN.{getD, length, replicate}
-use Rattle.theory.specs.Finite.{all, sum}
+use Rattle.theory.specs.Finite.{all, sum, tabulate}
 use Rattle.theory.specs.Routes.{Routing, routing, IsPath}
+use Rattle.calls.specs.Questions.{hasPath}
 use Rattle.network.specs.Networks.{toward}
 
--- How marks are kept: whether a node is marked, and that there is a mark for each of 128 nodes. Nothing else says it.
-unfoldable pub marked : List Bool → ℕ → Bool
-marked marks j = getD marks j false
+-- How marks are kept: node j is marked for destination k where bit k of its word is 1, and each of 128 nodes has a word of 32
+-- bits. Nothing else says it.
+unfoldable pub bit : ℕ → ℕ → Bool
+bit word k = eqb (word / 2 ^ k % 2) 1
 
-unfoldable pub Whole : List Bool → Type 0
-Whole marks = length marks ≡ 128
+unfoldable pub marked : List ℕ → ℕ → ℕ → Bool
+marked marks k j = bit (getD marks j 0) k
+
+pub record Whole (marks : List ℕ) : Type 0 where
+  pub size : length marks ≡ 128
+  pub words : (j : ℕ) → getD marks j 0 < 2 ^ 32
 
 -- Every search sets out with no node marked.
-unfoldable pub noMarks : List Bool
-noMarks = replicate 128 false
+unfoldable pub noMarks : List ℕ
+noMarks = replicate 128 0
 
--- Node j is marked, and the other nodes are as they were.
-pub record Marks (j : ℕ) (before after : List Bool) : Type 0 where
+-- Node j is marked for destination k, and the other marks are as they were.
+pub record Marks (k j : ℕ) (before after : List ℕ) : Type 0 where
   pub whole : Whole after
-  pub here : marked after j ≡ true
-  pub elsewhere : (i : ℕ) → (i ≡ j → ⊥) → marked after i ≡ marked before i
+  pub marks : (a b : ℕ) → marked after a b ≡ (marked before a b || (eqb k a && eqb j b))
 
--- Every node with trips to destination k is marked: the test of one node, and of all.
-unfoldable pub markedTest : ℕ → ℕ → List ℕ → List Bool → ℕ → Bool
-markedTest n k trips marks j = eqb (getD trips (k * n + j) 0) 0 || marked marks j
+-- The first p destinations have marked their own nodes, and there is no other mark.
+pub record Started (destinations : List ℕ) (p : ℕ) (marks : List ℕ) : Type 0 where
+  pub whole : Whole marks
+  pub own : (k : ℕ) → k < p → marked marks k (getD destinations k 0) ≡ true
+  pub only : (k j : ℕ) → marked marks k j ≡ true → j ≡ getD destinations k 0
 
-unfoldable pub allMarked : ℕ → ℕ → List ℕ → List Bool → Bool
+-- A node strands trips to destination k where it has some and no mark.
+pub record Stranded (trips word k count : ℕ) : Type 0 where
+  pub most : count ≤ 1
+  pub none : eqb count 0 ≡ (eqb trips 0 || bit word k)
+
+-- Every node with trips to destination k is marked for it: the test of one node, and of all.
+unfoldable pub markedTest : ℕ → ℕ → List ℕ → List ℕ → ℕ → Bool
+markedTest n k trips marks j = eqb (getD trips (k * n + j) 0) 0 || marked marks k j
+
+unfoldable pub allMarked : ℕ → ℕ → List ℕ → List ℕ → Bool
 allMarked n k trips marks = all n (markedTest n k trips marks)
 
--- How many of the n nodes are not marked.
-unfoldable pub unmarked : ℕ → List Bool → ℕ
-unmarked n marks = sum n (λ j. cond (marked marks j) 0 1)
+-- How far the words of the n nodes can still grow.
+unfoldable pub room : ℕ → List ℕ → ℕ
+room n marks = sum n (λ j. 2 ^ 32 - getD marks j 0)
 
 -- What question 11 asks of a node: a path to s, whatever the times, here 1 on every link.
 abbrev pub toDestination : ℕ → ℕ → List ℕ → List ℕ → ℕ → Routing
@@ -45,35 +60,33 @@ toDestination n m tails heads s = routing (toward n m tails heads s) (replicate 
 abbrev pub PathTo : ℕ → ℕ → List ℕ → List ℕ → ℕ → ℕ → Type 0
 PathTo n m tails heads s j = (path : List ℕ) × IsPath (toDestination n m tails heads s) j path
 
--- What a sweep makes of the marks at one link: it leaves them where the tail needs no mark,
-pub record LinkKept (tail head : ℕ) (before after : List Bool) (count : ℕ) : Type 0 where
-  pub same : after ≡ before
-  pub none : count ≡ 0
-  pub closed : marked before head ≡ true → marked before tail ≡ true
+-- What a sweep makes of the marks at one link: its tail gets the marks of its head. The count is 0 where the tail had them.
+pub record LinkSwept (tail head : ℕ) (before after : List ℕ) (count : ℕ) : Type 0 where
+  pub whole : Whole after
+  pub marks : (k j : ℕ) → marked after k j ≡ (marked before k j || (eqb tail j && marked before k head))
+  pub most : count ≤ 1
+  pub counts : (n : ℕ) → tail < n → count + room n after ≤ room n before
+  pub same : count ≡ 0 → (k j : ℕ) → marked after k j ≡ marked before k j
 
--- and else marks the tail.
-pub record LinkMarked (tail head : ℕ) (before after : List Bool) (count : ℕ) : Type 0 where
-  pub marks : Marks tail before after
-  pub one : count ≡ 1
-  pub led : marked before head ≡ true
-  pub fresh : marked before tail ≡ false
-
-abbrev pub LinkSwept : ℕ → ℕ → List Bool → List Bool → ℕ → Type 0
-LinkSwept tail head before after count = LinkKept tail head before after count ⊎ LinkMarked tail head before after count
-
--- What the first l links of a sweep make of the marks before it, with `count` nodes marked anew.
-pub record Swept (n m : ℕ) (tails heads : List ℕ) (before : List Bool) (l : ℕ) (after : List Bool) (count : ℕ) : Type 0 where
+-- What the links from `first` to before `end` make of the marks before a sweep, where nodes got new marks `count` times.
+pub record Swept (n m : ℕ) (tails heads before : List ℕ) (first end : ℕ) (after : List ℕ) (count : ℕ) : Type 0 where
   pub whole : Whole after
   -- Marks stay.
-  pub stays : (j : ℕ) → marked before j ≡ true → marked after j ≡ true
-  -- Where the marked nodes had a path to s, they have one still.
-  pub supports : (s : ℕ) → ((j : ℕ) → marked before j ≡ true → PathTo n m tails heads s j) → (j : ℕ) → marked after j ≡ true → PathTo n m tails heads s j
-  pub counts : count + unmarked n after ≡ unmarked n before
-  -- Where none was marked, no link leads from an unmarked node to a marked one.
-  pub closes : count ≡ 0 → (i : ℕ) → i < l → marked after (getD heads i 0) ≡ true → marked after (getD tails i 0) ≡ true
+  pub stays : (k j : ℕ) → marked before k j ≡ true → marked after k j ≡ true
+  -- Where the nodes marked for k had a path to s, they have one still.
+  pub supports : (k s : ℕ) → ((j : ℕ) → marked before k j ≡ true → PathTo n m tails heads s j) → (j : ℕ) → marked after k j ≡ true → PathTo n m tails heads s j
+  pub most : count + first ≤ end
+  pub counts : count + room n after ≤ room n before
+  -- Where no node got a mark, no link leads from an unmarked node to a marked one.
+  pub closes : count ≡ 0 → (k i : ℕ) → first ≤ i → i < end → marked after k (getD heads i 0) ≡ true → marked after k (getD tails i 0) ≡ true
 
--- The marks between two sweeps: s is marked, and every marked node has a path to s.
-pub record Searched (n m : ℕ) (tails heads : List ℕ) (s : ℕ) (marks : List Bool) : Type 0 where
+-- The marks between two sweeps: each destination is marked for itself, and every node marked for it has a path to it.
+pub record Searched (n m p : ℕ) (tails heads destinations marks : List ℕ) : Type 0 where
   pub whole : Whole marks
-  pub at-destination : marked marks s ≡ true
-  pub supported : (j : ℕ) → marked marks j ≡ true → PathTo n m tails heads s j
+  pub own : (k : ℕ) → k < p → marked marks k (getD destinations k 0) ≡ true
+  pub supported : (k j : ℕ) → marked marks k j ≡ true → PathTo n m tails heads (getD destinations k 0) j
+
+-- The marks after the last sweep: the nodes marked for a destination are those with a path to it.
+abbrev pub Found : ℕ → ℕ → ℕ → List ℕ → List ℕ → List ℕ → List ℕ → Type 0
+Found n m p tails heads destinations marks =
+    (k : ℕ) → k < p → tabulate n (marked marks k) ≡ hasPath (toward n m tails heads (getD destinations k 0)) 0

@@ -161,9 +161,9 @@ pub fn trips_reach(
     requires { ⌜ destinationsFit (demand n p (now destinations) []) ≡ true ⌝ }
     ensures { λ r. ⌜ r ≡ tripsReach (served n m p (now (tails .entry)) (now (heads .entry)) (now (destinations .entry)) (now (trips .entry))) ⌝ }
 {
+    let marks = reached(n, m, p, tails, heads, destinations);
     let mut k = 0;
     while k < p {
-        let marks = reached(n, m, tails, heads, node(destinations[k]));
         if !trips_marked(n, k, trips, &marks) {
             return false;
         }

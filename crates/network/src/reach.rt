@@ -1,38 +1,72 @@
-// The search for the nodes that have a path to a destination. Only this file knows how marks are kept.
+// The search for the nodes that have a path to each destination, all destinations at once. Only this
+// file knows how marks are kept: bit k of a node's word is its mark for destination k.
 ghost use Prim.Native.Nat.{_+_, _*_, _<_, _≤_};
 ghost use mathlib.Core.Bool.{true};
+ghost use mathlib.Core.List.{[]};
 ghost use mathlib.Core.Path.{_≡_};
-ghost use Rattle.theory.specs.Finite.{tabulate};
-ghost use Rattle.calls.specs.Questions.{endsFit, hasPath};
-ghost use Rattle.network.specs.Networks.{roads, toward};
-ghost use Rattle.network.specs.Reach.{marked, Whole, Marks, allMarked, LinkSwept, Swept};
+ghost use Rattle.calls.specs.Questions.{endsFit, destinationsFit};
+ghost use Rattle.network.specs.Networks.{roads, demand};
+ghost use Rattle.network.specs.Reach.{Whole, Marks, Started, Stranded, Found, allMarked, LinkSwept, Swept};
 use crate::numbers::node;
 
-// Which of the n nodes have a path to s.
-pub fn reached(n: usize, m: usize, tails: &[u16; 512], heads: &[u16; 512], s: usize) -> [bool; 128]
-    requires { ⌜ (n ≤ 128) × (m ≤ 512) × (s < n) × (endsFit (roads n m (now tails) (now heads)) ≡ true) ⌝ }
-    ensures { λ r. ⌜ tabulate n (marked r) ≡ hasPath (toward n m (now (tails .entry)) (now (heads .entry)) s) 0 ⌝ }
+// Which of the n nodes have a path to each of the p destinations.
+pub fn reached(
+    n: usize,
+    m: usize,
+    p: usize,
+    tails: &[u16; 512],
+    heads: &[u16; 512],
+    destinations: &[u16; 32],
+) -> [u32; 128]
+    requires { ⌜ (n ≤ 128) × (m ≤ 512) × (p ≤ 32) ⌝ }
+    requires { ⌜ endsFit (roads n m (now tails) (now heads)) ≡ true ⌝ }
+    requires { ⌜ destinationsFit (demand n p (now destinations) []) ≡ true ⌝ }
+    ensures { λ r. ⌜ Found n m p (now (tails .entry)) (now (heads .entry)) (now (destinations .entry)) r ⌝ }
 {
-    let mut marks = [false; 128];
-    mark(&mut marks, s);
+    let mut marks = [0u32; 128];
+    mark_destinations(n, p, destinations, &mut marks);
     loop {
-        if sweep(n, m, tails, heads, &mut marks) == 0 {
+        if sweep_up(n, m, tails, heads, &mut marks) == 0 {
+            return marks;
+        }
+        if sweep_down(n, m, tails, heads, &mut marks) == 0 {
             return marks;
         }
     }
 }
 
-// One sweep over the links: where a link's head is marked, its tail is marked too. How many nodes it
-// marked.
-fn sweep(
+// Each destination marks its own node.
+fn mark_destinations(n: usize, p: usize, destinations: &[u16; 32], marks: &mut [u32; 128])
+    requires { ⌜ (n ≤ 128) × (p ≤ 32) × (destinationsFit (demand n p (now destinations) []) ≡ true) ⌝ }
+    requires { ⌜ Started (now destinations) 0 (now marks) ⌝ }
+    ensures { λ r. ⌜ Started (now (destinations .entry)) p (now (marks .exit)) ⌝ }
+{
+    let mut k = 0;
+    while k < p {
+        mark(k, node(destinations[k]), marks);
+        k += 1;
+    }
+}
+
+// Marks node j for destination k.
+fn mark(k: usize, j: usize, marks: &mut [u32; 128])
+    requires { ⌜ (k < 32) × (j < 128) × Whole (now marks) ⌝ }
+    ensures { λ r. ⌜ Marks k j (now (marks .entry)) (now (marks .exit)) ⌝ }
+{
+    marks[j] = marks[j] | 1 << k;
+}
+
+// One sweep over the links from the first to the last: a link's tail gets its head's marks. How many
+// times a node got new marks.
+fn sweep_up(
     n: usize,
     m: usize,
     tails: &[u16; 512],
     heads: &[u16; 512],
-    marks: &mut [bool; 128],
+    marks: &mut [u32; 128],
 ) -> usize
     requires { ⌜ (n ≤ 128) × (m ≤ 512) × (endsFit (roads n m (now tails) (now heads)) ≡ true) × Whole (now marks) ⌝ }
-    ensures { λ r. ⌜ Swept n m (now (tails .entry)) (now (heads .entry)) (now (marks .entry)) m (now (marks .exit)) r ⌝ }
+    ensures { λ r. ⌜ Swept n m (now (tails .entry)) (now (heads .entry)) (now (marks .entry)) 0 m (now (marks .exit)) r ⌝ }
 {
     let mut count = 0;
     let mut l = 0;
@@ -43,46 +77,58 @@ fn sweep(
     count
 }
 
-// Marks a link's tail where its head is marked and the tail is not. How many nodes it marked.
-fn mark_tail(tail: usize, head: usize, marks: &mut [bool; 128]) -> usize
+// The same from the last link to the first.
+fn sweep_down(
+    n: usize,
+    m: usize,
+    tails: &[u16; 512],
+    heads: &[u16; 512],
+    marks: &mut [u32; 128],
+) -> usize
+    requires { ⌜ (n ≤ 128) × (m ≤ 512) × (endsFit (roads n m (now tails) (now heads)) ≡ true) × Whole (now marks) ⌝ }
+    ensures { λ r. ⌜ Swept n m (now (tails .entry)) (now (heads .entry)) (now (marks .entry)) 0 m (now (marks .exit)) r ⌝ }
+{
+    let mut count = 0;
+    let mut l = m;
+    while 0 < l {
+        l -= 1;
+        count += mark_tail(node(tails[l]), node(heads[l]), marks);
+    }
+    count
+}
+
+// Gives a link's tail the marks of its head. How many nodes got new marks: 0 or 1. No branch before
+// the store.
+fn mark_tail(tail: usize, head: usize, marks: &mut [u32; 128]) -> usize
     requires { ⌜ (tail < 128) × (head < 128) × Whole (now marks) ⌝ }
     ensures { λ r. ⌜ LinkSwept tail head (now (marks .entry)) (now (marks .exit)) r ⌝ }
 {
-    if !is_marked(marks, head) {
-        return 0;
-    }
-    if is_marked(marks, tail) {
-        return 0;
-    }
-    mark(marks, tail);
-    1
+    let own = marks[tail];
+    let both = own | marks[head];
+    marks[tail] = both;
+    if both == own { 0 } else { 1 }
 }
 
-// Whether every node with trips to destination k is marked.
-pub fn trips_marked(n: usize, k: usize, trips: &[u16; 4096], marks: &[bool; 128]) -> bool
-    requires { ⌜ (n ≤ 128) × (k * n + n ≤ 4096) ⌝ }
+// Whether every node with trips to destination k is marked for it. Counts the others, without an
+// early return: the compiler vectorises this loop.
+pub fn trips_marked(n: usize, k: usize, trips: &[u16; 4096], marks: &[u32; 128]) -> bool
+    requires { ⌜ (n ≤ 128) × (k < 32) × (k * n + n ≤ 4096) ⌝ }
     ensures { λ r. ⌜ r ≡ allMarked n k (now (trips .entry)) (now (marks .entry)) ⌝ }
 {
+    let mut count: u32 = 0;
     let mut j = 0;
     while j < n {
-        if trips[k * n + j] != 0 && !is_marked(marks, j) {
-            return false;
-        }
+        count += stranded(trips[k * n + j], marks[j], k);
         j += 1;
     }
-    true
+    count == 0
 }
 
-fn is_marked(marks: &[bool; 128], j: usize) -> bool
-    requires { ⌜ j < 128 ⌝ }
-    ensures { λ r. ⌜ r ≡ marked (now (marks .entry)) j ⌝ }
+// 1 where a node has trips and its word has no mark for destination k, else 0.
+fn stranded(count: u16, word: u32, k: usize) -> u32
+    requires { ⌜ k < 32 ⌝ }
+    ensures { λ r. ⌜ Stranded count word k r ⌝ }
 {
-    marks[j]
-}
-
-fn mark(marks: &mut [bool; 128], j: usize)
-    requires { ⌜ (j < 128) × Whole (now marks) ⌝ }
-    ensures { λ r. ⌜ Marks j (now (marks .entry)) (now (marks .exit)) ⌝ }
-{
-    marks[j] = true;
+    let path = word >> k & 1;
+    if count == 0 { 0 } else { 1 - path }
 }

@@ -10,10 +10,10 @@ pub fn step_of(capacity: u16, share: u32, flow: u64) -> u64
     requires { ⌜ (1 ≤ capacity) × ShareFits share × (flow ≤ mostFlow) ⌝ }
     ensures { λ r. ⌜ (r ≡ step capacity share flow) × (r ≤ 256) ⌝ }
 {
-    let width = capacity as u64 * share as u64;
-    let treads = 64 * flow / width;
+    let width = capacity as u32 * share;
+    let treads = (64 * flow) as u32 / width;
     if treads < 256 {
-        return treads;
+        return treads as u64;
     }
     256
 }

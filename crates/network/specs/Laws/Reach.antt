@@ -1,118 +1,190 @@
--- What a sweep leaves, link by link, and what the marks say once a sweep marks no node.
-use Prim.Native.Nat.{ℕ, _+_, _*_, _≤_, _<_}
+-- What a sweep leaves, link by link, and what the marks say once a sweep gives no node a mark.
+use Prim.Native.Nat.{ℕ, _+_, _-_, _*_, _/_, _^_, _≤_, _<_}
+use native.Mathlib.Nat.{zero-add}
 use native.Mathlib.Omega.{arith}
-use mathlib.Core.Bool.{Bool, true, false, _||_, cond}
+use mathlib.Core.Bool.{Bool, true, false, _||_, _&&_, cond, and-comm, or-true, or-false}
 use mathlib.Core.List.{List, [], _∷_}
-use mathlib.Core.Logic.{⊎-elim}
+use mathlib.Core.Logic.{_⊎_, inl, inr, ⊎-elim}
 use mathlib.Core.Path.{_≡_, refl, sym, _∙_, ap}
+use lib.Bits.{bitAnd, bitOr, or-lt}
 use lib.Dec.{eqb}
-use lib.ListN.{getD, set, replicate, length-set, getD-replicate, length-replicate, List·getD-eq-default}
+use lib.ListN.{getD, length, set, replicate, length-set, getD-replicate, length-replicate, List·getD-eq-default}
+use lib.Pow.{pow-lt}
 use lib.Seq.{getD-set-same, getD-set-other}
-use borrow.Author.Tests.{eq-eqb, ne-eqb}
-use Rattle.theory.specs.Finite.{all, tabulate}
+use borrow.Author.Tests.{eq-eqb, ne-eqb, eqb-true}
+use Rattle.theory.specs.Finite.{all}
 use Rattle.theory.specs.Laws.Cases.{on-equal, true-false}
-use Rattle.theory.specs.Laws.Finite.{order, below-suc, sum-cong, sum-add, sum-pick, sum-bound, all-cong, getD-tabulate, tabulate-cong}
+use Rattle.theory.specs.Laws.Finite.{order, below-suc, sum-add, sum-mono, sum-pick, all-cong, all-suc, and-left, and-right, getD-tabulate, tabulate-cong}
 use Rattle.theory.specs.Laws.Paths.{WellFormed}
 use Rattle.theory.specs.Laws.Reach.{Reaches, marked-has-distance}
 use Rattle.calls.specs.Questions.{hasPath, tripsReach}
 use Rattle.calls.specs.Study.{networkFrom}
 use Rattle.network.specs.Networks.{toward, served}
-use Rattle.network.specs.Reach.{marked, Whole, noMarks, Marks, markedTest, allMarked, unmarked, toDestination, LinkKept, LinkMarked, LinkSwept, Swept, Searched}
+use Rattle.network.specs.Reach.{bit, marked, Whole, noMarks, Marks, Started, Stranded, markedTest, allMarked, room, toDestination, PathTo, LinkSwept, Swept, Searched, Found}
+use Rattle.network.specs.Laws.Bits.{bit-or, bit-one, bit-zero, or-grows, read-bit}
 use Rattle.network.specs.Laws.Questions.{Ends}
 
+-- One of two tests holds where their `or` does.
+either : (a b : Bool) → (a || b) ≡ true → (a ≡ true) ⊎ (b ≡ true)
+either true b e = inl refl
+either false b e = inr e
+
 -- How marks are kept: none at the outset,
-pub none-whole : Whole noMarks
-unfolding Whole noMarks
-none-whole = length-replicate 128 false
-
-none-in : (size j : ℕ) → getD (replicate size false) j false ≡ false
+none-in : (size j : ℕ) → getD {A = ℕ} (replicate size 0) j 0 ≡ 0
 none-in size j =
-    ⊎-elim (getD-replicate size j false false) (λ h. List·getD-eq-default (replicate size false) false (rw length-replicate h)) (order j size)
+    ⊎-elim (getD-replicate size j 0 0) (λ h. List·getD-eq-default (replicate size 0) 0 (rw length-replicate h)) (order j size)
 
-pub none-marked : (j : ℕ) → marked noMarks j ≡ false
+pub started-none : (destinations : List ℕ) → Started destinations 0 noMarks
 unfolding marked noMarks
-none-marked j = none-in 128 j
-
--- and one more where its place is set.
-pub set-marks : (marks : List Bool) (j : ℕ) → Whole marks → j < 128 → Marks j marks (set marks j true)
-unfolding marked Whole
-set-marks marks j whole h =
+started-none destinations =
     record {
-      whole = length-set marks j true ∙ whole;
-      here = getD-set-same marks j true false (omega arith);
-      elsewhere = λ i n. getD-set-other marks j i true false n;
+      whole = record { size = length-replicate {A = ℕ} 128 0; words = λ j. rw (none-in 128 j) (omega arith) };
+      own = λ k h. absurd (omega arith);
+      only = λ k j e. true-false e (rw (none-in 128 j) (bit-zero k));
     }
 
--- Marks stay.
-pub mark-stays : {j : ℕ} {before after : List Bool} → Marks j before after → (i : ℕ) → marked before i ≡ true → marked after i ≡ true
-mark-stays {j} {before} {after} marks i e = on-equal i j (λ same. ap (marked after) same ∙ marks .here) (λ n. marks .elsewhere i n ∙ e)
+-- and more where a node's word gets more bits.
+module _ (marks : List ℕ) (j word : ℕ) (whole : Whole marks) (here : j < 128) where
+  place : j < length marks
+  place = omega (arith, whole .size)
 
--- At most n nodes are unmarked, and a new mark leaves one fewer.
-pub unmarked-most : (n : ℕ) (marks : List Bool) → unmarked n marks ≤ n
-unfolding unmarked
-unmarked-most n marks = omega (arith, sum-bound n 1 (λ j. cond (marked marks j) 0 1) (λ j h. at-most (marked marks j)))
-  where
-    at-most : (b : Bool) → cond b 0 1 ≤ 1
-    at-most true = omega arith
-    at-most false = omega arith
-
-unmarked-fewer : (n j : ℕ) (before after : List Bool) → j < n → Marks j before after → marked before j ≡ false → 1 + unmarked n after ≡ unmarked n before
-unfolding unmarked
-unmarked-fewer n j before after h marks fresh =
-    let split = sum-cong n (λ i. cond (marked before i) 0 1) (λ i. cond (marked after i) 0 1 + cond (eqb j i) 1 0) (λ i p. at i) in
-    let parts = sum-add n (λ i. cond (marked after i) 0 1) (λ i. cond (eqb j i) 1 0) in
-    let one = sum-pick n (λ i. 1) j h in
-    omega arith
-  where
-    at : (i : ℕ) → cond (marked before i) 0 1 ≡ cond (marked after i) 0 1 + cond (eqb j i) 1 0
-    at i =
-        on-equal i j
-        (λ e. rw (e, fresh, marks .here, eq-eqb j j refl))
-        (λ n. rw (marks .elsewhere i n, ne-eqb j i (λ e. n (sym e))) (omega arith))
-
--- A sweep over no links leaves the marks,
-pub swept-none : (n m : ℕ) (tails heads : List ℕ) (marks : List Bool) → Whole marks → Swept n m tails heads marks 0 marks 0
-swept-none n m tails heads marks whole =
-    record {
-      whole = whole;
-      stays = λ j e. e;
-      supports = λ s paths j e. paths j e;
-      counts = omega arith;
-      closes = λ z i h. absurd (omega arith);
-    }
-
--- and one link more goes by what is done at the link.
-module _ {n m : ℕ} {tails heads : List ℕ} {before : List Bool} {l : ℕ} {marks : List Bool} {count : ℕ} (swept : Swept n m tails heads before l marks count) (below : l < m) (ends : Ends n m tails heads) where
-  closed-more : count ≡ 0 → (marked marks (getD heads l 0) ≡ true → marked marks (getD tails l 0) ≡ true) → (i : ℕ) → i < l + 1 → marked marks (getD heads i 0) ≡ true → marked marks (getD tails i 0) ≡ true
-  closed-more z here i h = ⊎-elim (swept .closes z i) (λ e. rw e here) (below-suc l i (omega arith))
-
-  kept-next : {after : List Bool} {more : ℕ} → LinkKept (getD tails l 0) (getD heads l 0) marks after more → Swept n m tails heads before (l + 1) after (count + more)
-  kept-next {after} {more} kept =
-      let total : count + more ≡ count = omega (arith, kept .none) in
-      rw (kept .same, total)
-      (record {
-        whole = swept .whole;
-        stays = swept .stays;
-        supports = swept .supports;
-        counts = swept .counts;
-        closes = λ z. closed-more z (kept .closed);
-      })
-
-  marked-next : {after : List Bool} {more : ℕ} → LinkMarked (getD tails l 0) (getD heads l 0) marks after more → Swept n m tails heads before (l + 1) after (count + more)
-  unfolding networkFrom
-  marked-next {after} {more} new =
+  set-whole : word < 2 ^ 32 → Whole (set marks j (bitOr (getD marks j 0) word))
+  set-whole h =
       record {
-        whole = new .marks .whole;
-        stays = λ j e. mark-stays (new .marks) j (swept .stays j e);
-        supports = λ s paths j e. on-equal j (getD tails l 0)
-            (λ same. let (path, p) = swept .supports s paths (getD heads l 0) (new .led) in (l ∷ path, (below, refl, sym same, p)))
-            (λ n. swept .supports s paths j (sym (new .marks .elsewhere j n) ∙ e));
-        counts = omega (arith, swept .counts, new .one, unmarked-fewer n (getD tails l 0) marks after (ends .tail-node l below) (new .marks) (new .fresh));
-        closes = λ z. absurd (omega (arith, new .one));
+        size = length-set marks j (bitOr (getD marks j 0) word) ∙ whole .size;
+        words = λ i. on-equal i j
+            (λ e. rw (e, getD-set-same marks j (bitOr (getD marks j 0) word) 0 place) (or-lt 32 (getD marks j 0) word (whole .words j) h))
+            (λ n. rw (getD-set-other marks j i (bitOr (getD marks j 0) word) 0 n) (whole .words i));
       }
 
-  pub swept-next : {after : List Bool} {more : ℕ} → LinkSwept (getD tails l 0) (getD heads l 0) marks after more → Swept n m tails heads before (l + 1) after (count + more)
-  swept-next link = ⊎-elim kept-next marked-next link
+  set-marked : (k i : ℕ) → marked (set marks j (bitOr (getD marks j 0) word)) k i ≡ (marked marks k i || (eqb j i && bit word k))
+  unfolding marked
+  set-marked k i =
+      on-equal i j
+      (λ e. rw (e, getD-set-same marks j (bitOr (getD marks j 0) word) 0 place, eq-eqb j j refl) (bit-or (getD marks j 0) word k))
+      (λ n. rw (getD-set-other marks j i (bitOr (getD marks j 0) word) 0 n, ne-eqb j i (λ e. n (sym e)), or-false))
+
+-- A node's own destination is marked by one bit.
+pub set-marks : (k j : ℕ) (marks : List ℕ) → k < 32 → j < 128 → Whole marks → Marks k j marks (set marks j (bitOr (getD marks j 0) (2 ^ k)))
+set-marks k j marks h here whole =
+    record {
+      whole = set-whole marks j (2 ^ k) whole here (pow-lt h);
+      marks = λ a b. set-marked marks j (2 ^ k) whole here a b ∙ rw (bit-one k a) (ap (λ both. marked marks a b || both) (and-comm (eqb j b) (eqb k a)));
+    }
+
+pub started-next : {destinations before after : List ℕ} {k : ℕ} → Started destinations k before → Marks k (getD destinations k 0) before after → Started destinations (k + 1) after
+started-next {destinations} {before} {after} {k} started new =
+    record {
+      whole = new .whole;
+      own = λ i h. new .marks i (getD destinations i 0) ∙ ⊎-elim (λ p. rw (started .own i p)) (λ (e : i ≡ k). rw (e, eq-eqb k k refl, eq-eqb (getD destinations k 0) (getD destinations k 0) refl, or-true)) (below-suc k i (omega arith));
+      only = λ i j e. ⊎-elim (started .only i j)
+          (λ f. let same = eqb-true k i (and-left (eqb k i) (eqb (getD destinations k 0) j) f) in
+          sym (eqb-true (getD destinations k 0) j (and-right (eqb k i) (eqb (getD destinations k 0) j) f)) ∙ ap (λ x. getD destinations x 0) same)
+          (either (marked before i j) (eqb k i && eqb (getD destinations k 0) j) (sym (new .marks i j) ∙ e));
+    }
+
+-- The tail of a link gets the marks of its head: a word that grows leaves less room,
+room-less : (n j word count : ℕ) (marks : List ℕ) → Whole marks → j < 128 → j < n → word < 2 ^ 32 → getD marks j 0 + count ≤ word → count + room n (set marks j word) ≤ room n marks
+unfolding room
+room-less n j word count marks whole here below fits grows =
+    let parts = sum-add n (λ i. cond (eqb j i) count 0) (λ i. 2 ^ 32 - getD (set marks j word) i 0) in
+    let one = sum-pick n (λ i. count) j below in
+    let most = sum-mono n (λ i. cond (eqb j i) count 0 + (2 ^ 32 - getD (set marks j word) i 0)) (λ i. 2 ^ 32 - getD marks i 0) (λ i p. at i) in
+    omega arith
+  where
+    at : (i : ℕ) → cond (eqb j i) count 0 + (2 ^ 32 - getD (set marks j word) i 0) ≤ 2 ^ 32 - getD marks i 0
+    at i =
+        on-equal i j
+        (λ e. rw (e, eq-eqb j j refl, getD-set-same marks j word 0 (omega (arith, whole .size))) (omega arith))
+        (λ n. rw (ne-eqb j i (λ e. n (sym e)), getD-set-other marks j i word 0 n) (omega arith))
+
+-- and one that stays leaves every mark as it was.
+same-marks : (marks : List ℕ) (j word : ℕ) → j < length marks → word ≡ getD marks j 0 → (k i : ℕ) → marked (set marks j word) k i ≡ marked marks k i
+unfolding marked
+same-marks marks j word h same k i =
+    on-equal i j
+    (λ e. rw (e, getD-set-same marks j word 0 h, same))
+    (λ n. rw (getD-set-other marks j i word 0 n))
+
+mark-is-bit : (marks : List ℕ) (k j : ℕ) → bit (getD marks j 0) k ≡ marked marks k j
+unfolding marked
+mark-is-bit marks k j = refl
+
+link-swept : (tail head : ℕ) (marks : List ℕ) (count : ℕ) → Whole marks → tail < 128 → count ≤ 1 → getD marks tail 0 + count ≤ bitOr (getD marks tail 0) (getD marks head 0) → (count ≡ 0 → bitOr (getD marks tail 0) (getD marks head 0) ≡ getD marks tail 0) → LinkSwept tail head marks (set marks tail (bitOr (getD marks tail 0) (getD marks head 0))) count
+link-swept tail head marks count whole here most grows same =
+    record {
+      whole = set-whole marks tail (getD marks head 0) whole here (whole .words head);
+      marks = λ k j. set-marked marks tail (getD marks head 0) whole here k j ∙ ap (λ mark. marked marks k j || (eqb tail j && mark)) (mark-is-bit marks k head);
+      most = most;
+      counts = λ n below. room-less n tail (bitOr (getD marks tail 0) (getD marks head 0)) count marks whole here below (or-lt 32 (getD marks tail 0) (getD marks head 0) (whole .words tail) (whole .words head)) grows;
+      same = λ z k j. same-marks marks tail (bitOr (getD marks tail 0) (getD marks head 0)) (omega (arith, whole .size)) (same z) k j;
+    }
+
+pub link-kept : (tail head : ℕ) (marks : List ℕ) → Whole marks → tail < 128 → bitOr (getD marks tail 0) (getD marks head 0) ≡ getD marks tail 0 → LinkSwept tail head marks (set marks tail (bitOr (getD marks tail 0) (getD marks head 0))) 0
+link-kept tail head marks whole here same = link-swept tail head marks 0 whole here (omega arith) (omega arith) (λ z. same)
+
+pub link-grown : (tail head : ℕ) (marks : List ℕ) → Whole marks → tail < 128 → (bitOr (getD marks tail 0) (getD marks head 0) ≡ getD marks tail 0 → ⊥) → LinkSwept tail head marks (set marks tail (bitOr (getD marks tail 0) (getD marks head 0))) 1
+link-grown tail head marks whole here other =
+    link-swept tail head marks 1 whole here (omega arith) (omega (arith, or-grows (getD marks tail 0) (getD marks head 0))) (λ z. absurd (omega arith))
+
+-- A sweep over no links leaves the marks,
+pub swept-none : (n m : ℕ) (tails heads marks : List ℕ) (l : ℕ) → Whole marks → Swept n m tails heads marks l l marks 0
+swept-none n m tails heads marks l whole =
+    record {
+      whole = whole;
+      stays = λ k j e. e;
+      supports = λ k s paths j e. paths j e;
+      most = omega arith;
+      counts = omega arith;
+      closes = λ z k i low high. absurd (omega arith);
+    }
+
+-- and one link more, l, goes by what is done at the link.
+module _ {n m : ℕ} {tails heads before : List ℕ} {first end : ℕ} {marks : List ℕ} {count : ℕ} (swept : Swept n m tails heads before first end marks count) (l : ℕ) (below : l < m) (ends : Ends n m tails heads) where
+  module _ {after : List ℕ} {more : ℕ} (link : LinkSwept (getD tails l 0) (getD heads l 0) marks after more) where
+    came : (k j : ℕ) → marked after k j ≡ true → (marked marks k j ≡ true) ⊎ ((getD tails l 0 ≡ j) × (marked marks k (getD heads l 0) ≡ true))
+    came k j e =
+        ⊎-elim inl
+        (λ f. inr (eqb-true (getD tails l 0) j (and-left (eqb (getD tails l 0) j) (marked marks k (getD heads l 0)) f), and-right (eqb (getD tails l 0) j) (marked marks k (getD heads l 0)) f))
+        (either (marked marks k j) (eqb (getD tails l 0) j && marked marks k (getD heads l 0)) (sym (link .marks k j) ∙ e))
+
+    supported : (k s : ℕ) → ((j : ℕ) → marked before k j ≡ true → PathTo n m tails heads s j) → (j : ℕ) → marked after k j ≡ true → PathTo n m tails heads s j
+    unfolding networkFrom
+    supported k s paths j e =
+        ⊎-elim (swept .supports k s paths j)
+        (λ (same, led). let (path, p) = swept .supports k s paths (getD heads l 0) led in (l ∷ path, (below, refl, same, p)))
+        (came k j e)
+
+    closed : more ≡ 0 → (k : ℕ) → marked after k (getD heads l 0) ≡ true → marked after k (getD tails l 0) ≡ true
+    closed z k e =
+        let led : marked marks k (getD heads l 0) ≡ true = sym (link .same z k (getD heads l 0)) ∙ e in
+        link .marks k (getD tails l 0) ∙ rw (led, eq-eqb (getD tails l 0) (getD tails l 0) refl, or-true)
+
+    closed-before : count ≡ 0 → more ≡ 0 → (k i : ℕ) → first ≤ i → i < end → marked after k (getD heads i 0) ≡ true → marked after k (getD tails i 0) ≡ true
+    closed-before z y k i low high e =
+        link .same y k (getD tails i 0) ∙ swept .closes z k i low high (sym (link .same y k (getD heads i 0)) ∙ e)
+
+    swept-wider : (first′ end′ : ℕ) → 1 + first′ + end ≤ first + end′ → ((i : ℕ) → first′ ≤ i → i < end′ → ((first ≤ i) × (i < end)) ⊎ (i ≡ l)) → Swept n m tails heads before first′ end′ after (count + more)
+    swept-wider first′ end′ wider which =
+        record {
+          whole = link .whole;
+          stays = λ k j e. link .marks k j ∙ rw (swept .stays k j e);
+          supports = supported;
+          most = omega (arith, swept .most, link .most);
+          counts = omega (arith, swept .counts, link .counts n (ends .tail-node l below));
+          closes = λ z k i low high e. ⊎-elim
+              (λ (p, q). closed-before (omega arith) (omega arith) k i p q e)
+              (λ same. rw same (closed (omega arith) k (rw same at e)))
+              (which i low high);
+        }
+
+  -- The next link up,
+  pub swept-up : {after : List ℕ} {more : ℕ} → end ≡ l → LinkSwept (getD tails l 0) (getD heads l 0) marks after more → Swept n m tails heads before first (l + 1) after (count + more)
+  swept-up e link = swept-wider link first (l + 1) (omega arith) (λ i low high. ⊎-elim (λ p. inl (low, omega arith)) inr (below-suc l i (omega arith)))
+
+  -- and the next link down.
+  pub swept-down : {after : List ℕ} {more : ℕ} → first ≡ l + 1 → LinkSwept (getD tails l 0) (getD heads l 0) marks after more → Swept n m tails heads before l end after (count + more)
+  swept-down e link = swept-wider link l end (omega arith) (λ i low high. ⊎-elim (λ p. inl (omega arith, high)) (λ p. inr (omega arith)) (order l i))
 
 -- The routing of the search is well formed.
 routing-well-formed : (n m : ℕ) (tails heads : List ℕ) (s : ℕ) → Ends n m tails heads → s < n → WellFormed (toDestination n m tails heads s)
@@ -125,37 +197,56 @@ routing-well-formed n m tails heads s ends h =
       some-time = λ l p. rw (getD-replicate {A = ℕ} m l 1 0 p) (omega arith);
     }
 
--- A search sets out with s alone marked,
-pub searched-first : (n m : ℕ) (tails heads : List ℕ) (s : ℕ) (marks : List Bool) → Marks s noMarks marks → Searched n m tails heads s marks
+-- A search sets out with each destination's own node marked,
+pub searched-first : (n m p : ℕ) (tails heads destinations marks : List ℕ) → Started destinations p marks → Searched n m p tails heads destinations marks
 unfolding networkFrom
-searched-first n m tails heads s marks first =
+searched-first n m p tails heads destinations marks started =
     record {
-      whole = first .whole;
-      at-destination = first .here;
-      supported = λ j e. on-equal j s (λ same. ([], same)) (λ apart. true-false e (first .elsewhere j apart ∙ none-marked j));
+      whole = started .whole;
+      own = started .own;
+      supported = λ k j e. ([], started .only k j e);
     }
 
 -- goes on with each sweep,
-pub searched-next : {n m : ℕ} {tails heads : List ℕ} {s : ℕ} {before after : List Bool} {count : ℕ} → Searched n m tails heads s before → Swept n m tails heads before m after count → Searched n m tails heads s after
-searched-next {s} searched swept =
+pub searched-next : {n m p : ℕ} {tails heads destinations before after : List ℕ} {count : ℕ} → Searched n m p tails heads destinations before → Swept n m tails heads before 0 m after count → Searched n m p tails heads destinations after
+searched-next {destinations} searched swept =
     record {
       whole = swept .whole;
-      at-destination = swept .stays s (searched .at-destination);
-      supported = swept .supports s (searched .supported);
+      own = λ k h. swept .stays k (getD destinations k 0) (searched .own k h);
+      supported = λ k. swept .supports k (getD destinations k 0) (searched .supported k);
     }
 
--- and where a sweep marks no node the marked nodes are those with a path to s.
-pub searched-all : (n m : ℕ) (tails heads : List ℕ) (s : ℕ) (before after : List Bool) → Ends n m tails heads → s < n → Searched n m tails heads s before → Swept n m tails heads before m after 0 → tabulate n (marked after) ≡ hasPath (toward n m tails heads s) 0
+-- and where a sweep gives no node a mark the nodes marked for a destination are those with a path to it.
+pub searched-all : {n m p : ℕ} {tails heads destinations before after : List ℕ} → Ends n m tails heads → ((k : ℕ) → k < p → getD destinations k 0 < n) → Searched n m p tails heads destinations before → Swept n m tails heads before 0 m after 0 → Found n m p tails heads destinations after
 unfolding hasPath networkFrom
-searched-all n m tails heads s before after ends h searched swept =
-    let q = toDestination n m tails heads s in
+searched-all {n} {m} {p} {tails} {heads} {destinations} {before} {after} ends below searched swept k h =
+    let q = toDestination n m tails heads (getD destinations k 0) in
     let done = searched-next searched swept in
-    let reaches : Reaches q (marked after) = record {
-      at-destination = done .at-destination;
-      over-link = λ l p u e. swept .closes refl l p e;
-      supported = λ j p e. done .supported j e;
+    let reaches : Reaches q (marked after k) = record {
+      at-destination = done .own k h;
+      over-link = λ l p u e. swept .closes refl k l (omega arith) p e;
+      supported = λ j p e. done .supported k j e;
     } in
-    tabulate-cong n _ _ (λ j p. marked-has-distance q (routing-well-formed n m tails heads s ends h) (marked after) reaches j p)
+    tabulate-cong n _ _ (λ j p. marked-has-distance q (routing-well-formed n m tails heads (getD destinations k 0) ends (below k h)) (marked after k) reaches j p)
+
+-- A node strands no trips where it has none, and else by its mark.
+pub stranded-none : (trips word k : ℕ) → trips ≡ 0 → Stranded trips word k 0
+stranded-none trips word k e = record { most = omega arith; none = rw e }
+
+pub stranded-some : (trips word k : ℕ) → (trips ≡ 0 → ⊥) → Stranded trips word k (1 - bitAnd (word / 2 ^ k) 1)
+stranded-some trips word k n = record { most = omega arith; none = rw (ne-eqb trips 0 n) (read-bit word k) }
+
+-- A count of the nodes that strand trips is 0 where every node before j passes the test.
+pub stranded-next : (n k : ℕ) (trips marks : List ℕ) (j count more : ℕ) → eqb count 0 ≡ all j (markedTest n k trips marks) → Stranded (getD trips (k * n + j) 0) (getD marks j 0) k more → eqb (count + more) 0 ≡ all (j + 1) (markedTest n k trips marks)
+unfolding markedTest marked
+stranded-next n k trips marks j count more before here =
+    rw (all-suc, ← before, ← here .none) (no-sum count more)
+  where
+    no-sum : (a b : ℕ) → eqb (a + b) 0 ≡ (eqb a 0 && eqb b 0)
+    no-sum a b =
+        on-equal a 0
+        (λ e. rw (e, zero-add))
+        (λ n. rw (ne-eqb a 0 n, ne-eqb (a + b) 0 (λ e. n (omega arith))))
 
 -- Question 11 is a test of each destination, which goes by the links and that destination alone,
 unfoldable pub reachTest : ℕ → ℕ → List ℕ → List ℕ → List ℕ → List ℕ → ℕ → Bool
@@ -168,12 +259,10 @@ unfolding tripsReach networkFrom hasPath reachTest
 reach-all n m p tails heads destinations trips = refl
 
 -- and the marks of a search answer it.
-pub marks-answer : (n m : ℕ) (tails heads destinations trips : List ℕ) (k s : ℕ) (marks : List Bool) → s ≡ getD destinations k 0 → tabulate n (marked marks) ≡ hasPath (toward n m tails heads s) 0 → allMarked n k trips marks ≡ reachTest n m tails heads destinations trips k
+pub marks-answer : (n m p : ℕ) (tails heads destinations trips : List ℕ) (k : ℕ) (marks : List ℕ) → k < p → Found n m p tails heads destinations marks → allMarked n k trips marks ≡ reachTest n m tails heads destinations trips k
 unfolding allMarked markedTest reachTest
-marks-answer n m tails heads destinations trips k s marks e found =
-    all-cong n _ _ (λ j p. ap (λ mark. eqb (getD trips (k * n + j) 0) 0 || mark) (at j p))
+marks-answer n m p tails heads destinations trips k marks below found =
+    all-cong n _ _ (λ j h. ap (λ mark. eqb (getD trips (k * n + j) 0) 0 || mark) (at j h))
   where
-    at : (j : ℕ) → j < n → marked marks j ≡ getD (hasPath (toward n m tails heads (getD destinations k 0)) 0) j true
-    at j p =
-        sym (getD-tabulate n (marked marks) true j p)
-        ∙ ap (λ list. getD list j true) (found ∙ ap (λ node. hasPath (toward n m tails heads node) 0) e)
+    at : (j : ℕ) → j < n → marked marks k j ≡ getD (hasPath (toward n m tails heads (getD destinations k 0)) 0) j true
+    at j h = sym (getD-tabulate n (marked marks k) true j h) ∙ ap (λ list. getD list j true) (found k below)

@@ -1,41 +1,46 @@
 -- `network::reach::mark_tail` meets its contract.
-use borrow.Author.Needs.{needs}
-use mathlib.Core.Logic.{inl, inr}
-use mathlib.Core.Path.{refl, sym, _∙_}
-use Rattle.study.proofs.Flags.{was-yes, was-no}
-use Rattle.theory.specs.Laws.Cases.{true-false}
+use Rattle.network.specs.Laws.Reach.{link-kept, link-grown}
 use borrow.Author.Needs.{needs}
 use Rattle.network.proofs.reach.mark_tail.Statement.{statement}
 use Rattle.network.proofs.reach.mark_tail.Tie as tie
 
-is-marked-requires : tie.Need-is-marked-requires
-is-marked-requires c κs = search needs
+mul-own : tie.Need-mul-own
+mul-own c = search needs
+
+element-copy-out-own : tie.Need-element-copy-out-own
+element-copy-out-own c = search needs
+
+mul-both : tie.Need-mul-both
+mul-both c = search needs
+
+element-copy-out-both : tie.Need-element-copy-out-both
+element-copy-out-both c = search needs
+
+mul-marks : tie.Need-mul-marks
+mul-marks c = search needs
+
+element-write-marks : tie.Need-element-write-marks
+element-write-marks c = search needs
 
 returns : tie.Need-returns
 returns c =
-    inl (record { same = refl; none = refl; closed = λ e. true-false e (was-no (c .before .is-marked .ensures) (c .if1 .taken)) })
-
-is-marked-requires-2 : tie.Need-is-marked-requires-2
-is-marked-requires-2 c κs = search needs
+    let start = c .before .before .before in
+    link-kept _ _ _ (start .pre .2) (start .pre .0) (c .if1 .taken)
 
 returns-2 : tie.Need-returns-2
 returns-2 c =
-    inl (record { same = refl; none = refl; closed = λ e. sym (c .before .is-marked2 .ensures) ∙ c .if2 .taken })
-
-mark-requires : tie.Need-mark-requires
-mark-requires c κs = search needs
-
-returns-3 : tie.Need-returns-3
-returns-3 c =
-    inr
-    (record {
-      marks = c .mark .ensures;
-      one = refl;
-      led = was-yes (c .before .before .before .before .before .before .is-marked .ensures) (c .before .before .before .before .before .if1 .left);
-      fresh = sym (c .before .before .before .is-marked2 .ensures) ∙ c .before .before .if2 .left;
-    })
+    let start = c .before .before .before in
+    link-grown _ _ _ (start .pre .2) (start .pre .0) (c .if1 .left)
 
 pub mark-tail-spec : {M : Type 1} → statement M
 mark-tail-spec =
     tie.close
-    (tie.spec is-marked-requires returns is-marked-requires-2 returns-2 mark-requires returns-3)
+    (tie.spec
+    mul-own
+    element-copy-out-own
+    mul-both
+    element-copy-out-both
+    mul-marks
+    element-write-marks
+    returns
+    returns-2)

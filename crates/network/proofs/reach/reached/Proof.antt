@@ -1,43 +1,66 @@
--- `network::reach::reached` meets its contract: between two sweeps the marked nodes have a path to s.
+-- `network::reach::reached` meets its contract: between two sweeps the nodes marked for a destination have a path to it.
+use denote.Ref.{now}
+use mathlib.Core.List.{[]}
 use native.Mathlib.Omega.{arith}
-use Rattle.network.specs.Reach.{noMarks, unmarked, Searched}
-use Rattle.network.specs.Laws.Questions.{ends-below}
-use Rattle.network.specs.Laws.Reach.{none-whole, searched-first, searched-next, searched-all}
+use Rattle.network.specs.Reach.{noMarks, room, Searched}
+use Rattle.network.specs.Laws.Questions.{ends-below, destination-below}
+use Rattle.network.specs.Laws.Reach.{started-none, searched-first, searched-next, searched-all}
 use Rattle.network.proofs.reach.reached.Statement.{statement}
 use Rattle.network.proofs.reach.reached.Tie as tie
 
 abbrev Inv-loop : tie.InvT-loop
-Inv-loop n m tails heads s marks₀ marks = Searched n m tails heads s marks
+Inv-loop n m p tails heads destinations marks₀ marks = Searched n m p tails heads destinations marks
 
 abbrev μ-loop : tie.MeasureT-loop
-μ-loop n m tails heads s marks₀ marks = unmarked n marks
+μ-loop n m p tails heads destinations marks₀ marks = room n marks
 
-mark-requires : tie.Need-mark-requires Inv-loop μ-loop
+mark-destinations-requires : tie.Need-mark-destinations-requires Inv-loop μ-loop
 unfolding noMarks
-mark-requires c κs = (omega arith, none-whole)
+mark-destinations-requires c κs = ((c .before .pre .0 .0, c .before .pre .0 .2, c .before .pre .1 .1), started-none _)
 
 loop-holds : tie.Need-loop-holds Inv-loop μ-loop
-unfolding noMarks
-loop-holds c = searched-first _ _ _ _ _ _ (c .mark .ensures)
+loop-holds c = searched-first _ _ _ _ _ _ _ (c .mark-destinations .ensures)
 
-sweep-requires : tie.Need-sweep-requires Inv-loop μ-loop
-sweep-requires c κs =
+sweep-up-requires : tie.Need-sweep-up-requires Inv-loop μ-loop
+sweep-up-requires c κs =
     let start = c .before .before .before .before in
-    (start .pre .0, start .pre .1, start .pre .3, c .before .loop .inv .whole)
+    (start .pre .0 .0, start .pre .0 .1, start .pre .1 .0, c .before .loop .inv .whole)
 
 returns : tie.Need-returns Inv-loop μ-loop
 returns c =
     let start = c .before .before .before .before .before .before in
-    let last = rw (c .if1 .taken) at (c .before .sweep .ensures) in
-    searched-all _ _ _ _ _ _ _ (ends-below _ _ _ _ (start .pre .3)) (start .pre .2) (c .before .before .before .loop .inv) last
+    let last = rw (c .if1 .taken) at (c .before .sweep-up .ensures) in
+    searched-all (ends-below _ _ _ _ (start .pre .1 .0)) (destination-below _ _ (now (start .args .destinations)) [] (start .pre .1 .1)) (c .before .before .before .loop .inv) last
+
+sweep-down-requires : tie.Need-sweep-down-requires Inv-loop μ-loop
+sweep-down-requires c κs =
+    let start = c .before .before .before .before .before .before .before in
+    (start .pre .0 .0, start .pre .0 .1, start .pre .1 .0, c .before .before .sweep-up .ensures .whole)
+
+returns-2 : tie.Need-returns-2 Inv-loop μ-loop
+returns-2 c =
+    let start = c .before .before .before .before .before .before .before .before .before in
+    let searched = searched-next (c .before .before .before .before .before .before .loop .inv) (c .before .before .before .before .sweep-up .ensures) in
+    let last = rw (c .if2 .taken) at (c .before .sweep-down .ensures) in
+    searched-all (ends-below _ _ _ _ (start .pre .1 .0)) (destination-below _ _ (now (start .args .destinations)) [] (start .pre .1 .1)) searched last
 
 loop-less : tie.Need-loop-less Inv-loop μ-loop
-loop-less c = omega (arith, c .before .sweep .ensures .counts)
+loop-less c = omega (arith, c .before .before .before .before .sweep-up .ensures .counts, c .before .sweep-down .ensures .counts)
 
 loop-again : tie.Need-loop-again Inv-loop μ-loop
-loop-again c = searched-next (c .before .before .before .loop .inv) (c .before .sweep .ensures)
+loop-again c = searched-next (searched-next (c .before .before .before .before .before .before .loop .inv) (c .before .before .before .before .sweep-up .ensures)) (c .before .sweep-down .ensures)
 
 pub reached-spec : {M : Type 1} → statement M
 reached-spec =
     tie.close
-    (tie.spec Inv-loop μ-loop mark-requires loop-holds sweep-requires returns loop-less loop-again)
+    (tie.spec
+    Inv-loop
+    μ-loop
+    mark-destinations-requires
+    loop-holds
+    sweep-up-requires
+    returns
+    sweep-down-requires
+    returns-2
+    loop-less
+    loop-again)

@@ -1,46 +1,48 @@
--- `network::reach::trips_marked` meets its contract: the nodes before j are marked or have no trips.
-use borrow.Author.Needs.{needs}
-use borrow.Author.Tests.{eq-eqb, ne-eqb}
-use mathlib.Core.Bool.{true, or-true}
-use mathlib.Core.Logic.{⊎-elim}
+-- `network::reach::trips_marked` meets its contract: the count is 0 where the nodes before j are marked or have no trips.
+use native.Mathlib.Omega.{arith}
 use mathlib.Core.Path.{_≡_, refl}
+use lib.Dec.{eqb}
 use Prim.Native.Nat.{_≤_, _-_}
-use Rattle.study.proofs.Flags.{was-yes, was-no}
 use Rattle.theory.specs.Finite.{all}
 use Rattle.network.specs.Reach.{allMarked, markedTest}
-use Rattle.network.specs.Laws.Questions.{all-more, all-failed, all-held}
+use Rattle.network.specs.Laws.Reach.{stranded-next}
+use borrow.Author.Needs.{needs}
 use Rattle.network.proofs.reach.trips_marked.Statement.{statement}
 use Rattle.network.proofs.reach.trips_marked.Tie as tie
 
 abbrev Inv-loop : tie.InvT-loop
-Inv-loop n k trips marks j₀ j = (j ≤ n) × (all j (markedTest n k trips marks) ≡ true)
+Inv-loop n k trips marks count₀ j₀ count j = (j ≤ n) × (count ≤ j) × (eqb count 0 ≡ all j (markedTest n k trips marks))
 
 abbrev μ-loop : tie.MeasureT-loop
-μ-loop n k trips marks j₀ j = n - j
+μ-loop n k trips marks count₀ j₀ count j = n - j
 
 loop-holds : tie.Need-loop-holds Inv-loop μ-loop
 unfolding all
-loop-holds c = (search needs, refl)
+loop-holds c = (search needs, search needs, refl)
 
-mul-if1 : tie.Need-mul-if1 Inv-loop μ-loop
-mul-if1 c = search needs
+mul-stranded : tie.Need-mul-stranded Inv-loop μ-loop
+mul-stranded c = search needs
 
-add-if1 : tie.Need-add-if1 Inv-loop μ-loop
-add-if1 c = search needs
+add-stranded : tie.Need-add-stranded Inv-loop μ-loop
+add-stranded c = search needs
 
-mul-if1-2 : tie.Need-mul-if1-2 Inv-loop μ-loop
-mul-if1-2 c = search needs
+mul-stranded-2 : tie.Need-mul-stranded-2 Inv-loop μ-loop
+mul-stranded-2 c = search needs
 
-element-copy-out-if1 : tie.Need-element-copy-out-if1 Inv-loop μ-loop
-element-copy-out-if1 c = search needs
+element-copy-out-stranded : tie.Need-element-copy-out-stranded Inv-loop μ-loop
+element-copy-out-stranded c = search needs
 
-is-marked-requires : tie.Need-is-marked-requires Inv-loop μ-loop
-is-marked-requires c κs = search needs
+mul-stranded-3 : tie.Need-mul-stranded-3 Inv-loop μ-loop
+mul-stranded-3 c = search needs
 
-returns : tie.Need-returns Inv-loop μ-loop
-unfolding allMarked markedTest
-returns c =
-    all-failed _ _ (c .before .before .before .before .before .loop .j) (search needs) (rw (ne-eqb _ _ (c .before .before .if1 .taken)) (was-no (c .before .is-marked .ensures) (c .if2 .taken)))
+element-copy-out-stranded-2 : tie.Need-element-copy-out-stranded-2 Inv-loop μ-loop
+element-copy-out-stranded-2 c = search needs
+
+stranded-requires : tie.Need-stranded-requires Inv-loop μ-loop
+stranded-requires c κs = search needs
+
+add-count : tie.Need-add-count Inv-loop μ-loop
+add-count c = omega (arith, c .stranded .ensures .most)
 
 add-j : tie.Need-add-j Inv-loop μ-loop
 add-j c = search needs
@@ -49,16 +51,15 @@ loop-less : tie.Need-loop-less Inv-loop μ-loop
 loop-less c = search needs
 
 loop-again : tie.Need-loop-again Inv-loop μ-loop
-unfolding markedTest
-loop-again c = (
-  search needs,
-  all-more (c .before .before .before .loop .j) _ (c .before .before .before .loop .inv .1)
-      (⊎-elim (λ w. rw (was-yes (w .1 .ensures) (w .2 .left), or-true)) (λ w. rw (eq-eqb _ _ (w .left))) (c .if1 .came)),
-)
+loop-again c =
+    let inv = c .before .before .before .before .loop .inv in
+    (search needs, omega (arith, c .stranded .ensures .most), stranded-next _ _ _ _ _ _ _ (inv .2) (c .stranded .ensures))
 
-returns-2 : tie.Need-returns-2 Inv-loop μ-loop
+returns : tie.Need-returns Inv-loop μ-loop
 unfolding allMarked
-returns-2 c = all-held _ _ (c .before .loop .inv .0) (c .loop-test .left) (c .before .loop .inv .1)
+returns c =
+    let last : c .before .loop .j ≡ c .before .before .args .n = omega arith in
+    rw last at (c .before .loop .inv .2)
 
 pub trips-marked-spec : {M : Type 1} → statement M
 trips-marked-spec =
@@ -67,13 +68,15 @@ trips-marked-spec =
     Inv-loop
     μ-loop
     loop-holds
-    mul-if1
-    add-if1
-    mul-if1-2
-    element-copy-out-if1
-    is-marked-requires
-    returns
+    mul-stranded
+    add-stranded
+    mul-stranded-2
+    element-copy-out-stranded
+    mul-stranded-3
+    element-copy-out-stranded-2
+    stranded-requires
+    add-count
     add-j
     loop-less
     loop-again
-    returns-2)
+    returns)

@@ -14,8 +14,14 @@ mul-width c = omega (arith, width-most (c .args .capacity) (c .args .share) (sea
 mul-treads : tie.Need-mul-treads
 mul-treads c = search needs
 
+cast-treads : tie.Need-cast-treads
+cast-treads c = search needs
+
 div-treads : tie.Need-div-treads
 div-treads c = omega (arith, width-some (c .args .capacity) (c .args .share) (search needs) (search needs))
+
+cast-result : tie.Need-cast-result
+cast-result c = omega arith
 
 returns : tie.Need-returns
 unfolding step
@@ -26,4 +32,4 @@ unfolding step
 returns-2 c = (sym (min-eq-left {n = 256} (omega arith)), search needs)
 
 pub step-of-spec : {M : Type 1} → statement M
-step-of-spec = tie.close (tie.spec mul-width mul-treads div-treads returns returns-2)
+step-of-spec = tie.close (tie.spec mul-width mul-treads cast-treads div-treads cast-result returns returns-2)

@@ -1,24 +1,24 @@
--- `network::reach::sweep` meets its contract: the links before l are swept.
+-- `network::reach::sweep_up` meets its contract: the links before l are swept.
 use borrow.Author.Needs.{needs}
 use denote.Ref.{now}
-use mathlib.Core.Path.{_≡_}
+use mathlib.Core.Path.{_≡_, refl}
 use native.Mathlib.Omega.{arith}
 use Prim.Native.Nat.{_+_, _≤_, _-_}
 use Rattle.network.specs.Reach.{Swept}
 use Rattle.network.specs.Laws.Questions.{Ends, ends-below}
-use Rattle.network.specs.Laws.Reach.{swept-none, swept-next, unmarked-most}
-use Rattle.network.proofs.reach.sweep.Statement.{statement}
-use Rattle.network.proofs.reach.sweep.Tie as tie
+use Rattle.network.specs.Laws.Reach.{swept-none, swept-up}
+use Rattle.network.proofs.reach.sweep_up.Statement.{statement}
+use Rattle.network.proofs.reach.sweep_up.Tie as tie
 
 abbrev Inv-loop : tie.InvT-loop
 Inv-loop n m tails heads marks₀ count₀ l₀ marks count l =
-    (l ≤ m) × Swept n m tails heads marks₀ l marks count
+    (l ≤ m) × Swept n m tails heads marks₀ 0 l marks count
 
 abbrev μ-loop : tie.MeasureT-loop
 μ-loop n m tails heads marks₀ count₀ l₀ marks count l = m - l
 
 loop-holds : tie.Need-loop-holds Inv-loop μ-loop
-loop-holds c = (search needs, swept-none _ _ _ _ _ (c .pre .3))
+loop-holds c = (search needs, swept-none _ _ _ _ _ 0 (c .pre .3))
 
 mul-node : tie.Need-mul-node Inv-loop μ-loop
 mul-node c = search needs
@@ -51,13 +51,13 @@ mark-tail-requires c κs =
     (omega arith, omega arith, c .before .before .before .before .before .before .loop .inv .1 .whole)
 
 -- What is swept with link l.
-swept : (c : tie.After-mark-tail Inv-loop μ-loop) → Swept (c .before .before .before .before .before .before .before .before .args .n) (c .before .before .before .before .before .before .before .before .args .m) (now (c .before .before .before .before .before .before .before .before .args .tails)) (now (c .before .before .before .before .before .before .before .before .args .heads)) (now (c .before .before .before .before .before .before .before .before .args .marks)) (c .before .before .before .before .before .before .before .loop .l + 1) (c .mark-tail .last .1 .1 .0) (c .before .before .before .before .before .before .before .loop .count + c .mark-tail .result)
+swept : (c : tie.After-mark-tail Inv-loop μ-loop) → Swept (c .before .before .before .before .before .before .before .before .args .n) (c .before .before .before .before .before .before .before .before .args .m) (now (c .before .before .before .before .before .before .before .before .args .tails)) (now (c .before .before .before .before .before .before .before .before .args .heads)) (now (c .before .before .before .before .before .before .before .before .args .marks)) 0 (c .before .before .before .before .before .before .before .loop .l + 1) (c .mark-tail .last .1 .1 .0) (c .before .before .before .before .before .before .before .loop .count + c .mark-tail .result)
 swept c =
     let link = rw (c .before .before .before .before .node .ensures, c .before .before .node2 .ensures) at (c .mark-tail .ensures) in
-    swept-next (c .before .before .before .before .before .before .before .loop .inv .1) (search needs) (ends (c .before .before .before .before .before .before .before .before)) link
+    swept-up (c .before .before .before .before .before .before .before .loop .inv .1) _ (search needs) (ends (c .before .before .before .before .before .before .before .before)) refl link
 
 add-count : tie.Need-add-count Inv-loop μ-loop
-add-count c = omega (arith, swept c .counts, unmarked-most (c .before .before .before .before .before .before .before .before .args .n) (now (c .before .before .before .before .before .before .before .before .args .marks)))
+add-count c = omega (arith, swept c .most)
 
 add-l : tie.Need-add-l Inv-loop μ-loop
 add-l c = search needs
@@ -74,8 +74,8 @@ returns c =
     let last : c .before .loop .l ≡ start .args .m = omega arith in
     rw last at (c .before .loop .inv .1)
 
-pub sweep-spec : {M : Type 1} → statement M
-sweep-spec =
+pub sweep-up-spec : {M : Type 1} → statement M
+sweep-up-spec =
     tie.close
     (tie.spec
     Inv-loop
