@@ -3,11 +3,13 @@ use Prim.Native.Nat.{ℕ, _+_, _<_}
 use mathlib.Core.Path.{_≡_}
 use mathlib.Core.Bool.{false}
 use mathlib.Core.List.{List}
+use Rattle.theory.specs.Network.{totalTrips}
 use Rattle.theory.specs.Moves.{started, afterMoves, stops}
 use Rattle.calls.specs.Study.{networkOf}
 use Rattle.calls.specs.Calls.{overwritten, runNumber, runAnswer, runTable}
 use Rattle.calls.specs.declared.RunAnswer.{RunAnswer}
 use Rattle.judging.specs.declared.Decoded.{Decoded}
+use Rattle.judging.specs.Study.{networkIn}
 use Rattle.assignment.specs.Decoded.{decodedOf}
 
 -- i tables have been judged and moved, and none of them stopped the run: the lent table holds the next one, number i + 1 of document 01,
@@ -25,7 +27,8 @@ pub record Begun (file before : List ℕ) (budget : ℕ) (d : Decoded) (table : 
   pub started : table ≡ overwritten (started (networkOf file) .table) before
 
 -- They find what they would of some file and some lent table.
-pub record Begins (budget : ℕ) (d : Decoded) (table : List ℕ) : Type 0 where
+pub record Begins (budget : ℕ) (d : Decoded) (total : ℕ) (table : List ℕ) : Type 0 where
+  pub total-is : total ≡ totalTrips (networkIn d)
   pub file : List ℕ
   pub before : List ℕ
   pub begun : Begun file before budget d table

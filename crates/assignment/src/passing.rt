@@ -13,11 +13,39 @@ pub fn pass(file: &[u8], table: &mut [u32], share: u32) -> PassAnswer
     ensures { λ r. ⌜ now (table .exit) ≡ passTable (now (file .entry)) (now (table .entry)) share ⌝ }
 {
     let d = decode(file);
-    let refusal = table_refusal(file, d, table, share);
+    let refusal = table_refusal(
+        file,
+        d.nodes,
+        d.links,
+        d.destinations,
+        &d.tails,
+        &d.heads,
+        &d.free_times,
+        &d.rises,
+        &d.capacities,
+        &d.destination_nodes,
+        &d.trips,
+        d.total_trips,
+        table,
+        share,
+    );
     if refusal != 0 {
         return refused_pass(refusal);
     }
-    let passed = judging::pass_table(d, table, share);
+    let passed = judging::pass_table(
+        d.nodes,
+        d.links,
+        d.destinations,
+        &d.tails,
+        &d.heads,
+        &d.free_times,
+        &d.rises,
+        &d.capacities,
+        &d.destination_nodes,
+        &d.trips,
+        table,
+        share,
+    );
     let outcome = outcome_of(passed.moved);
     PassAnswer {
         refusal: 0,

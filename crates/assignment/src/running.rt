@@ -1,9 +1,12 @@
-ghost use Prim.Native.Nat.{ℕ};
 ghost use mathlib.Core.List.{List};
 ghost use mathlib.Core.Path.{_≡_};
-ghost use Rattle.theory.specs.Cost.{cost};
 ghost use Rattle.calls.specs.Calls.{runAnswer, runTable};
-ghost use Rattle.judging.specs.Study.{Ready, Judgeable, networkIn};
+ghost use Prim.Native.Nat.{ℕ, _*_, _≤_};
+ghost use lib.ListN.{length};
+ghost use Rattle.theory.specs.Flows.{linkTotal};
+ghost use Rattle.travel.specs.Links.{padded, listCost};
+ghost use Rattle.travel.specs.Ranges.{LinksFit, ShareFits, Within, mostFlow};
+ghost use Rattle.judging.specs.Study.{studyOf};
 ghost use Rattle.assignment.specs.Runs.{Begun, Begins, Ran};
 ghost use Rattle.assignment.specs.Answers.{endingOf, endedAnswer};
 use crate::answers::refused_run;
@@ -11,7 +14,6 @@ use crate::decoding::decode;
 use crate::refusals::run_refusal;
 use calls::Ending;
 use calls::RunAnswer;
-use judging::Decoded;
 use judging::Step;
 
 // Run: a start, and then turns of one judged table each.
@@ -20,39 +22,121 @@ pub fn run(file: &[u8], table: &mut [u32], budget: u32, excess: u16) -> RunAnswe
     ensures { λ r. ⌜ now (table .exit) ≡ runTable (now (file .entry)) (now (table .entry)) budget excess ⌝ }
 {
     let d = decode(file);
-    let refusal = run_refusal(file, d, table, budget);
+    let refusal = run_refusal(
+        file,
+        d.nodes,
+        d.links,
+        d.destinations,
+        &d.tails,
+        &d.heads,
+        &d.free_times,
+        &d.rises,
+        &d.capacities,
+        &d.destination_nodes,
+        &d.trips,
+        table,
+        budget,
+    );
     if refusal != 0 {
         return refused_run(refusal);
     }
-    judging::start_table(d, table);
-    turns(d, table, budget, excess)
+    judging::start_table(
+        d.nodes,
+        d.links,
+        d.destinations,
+        &d.tails,
+        &d.heads,
+        &d.free_times,
+        &d.rises,
+        &d.capacities,
+        &d.destination_nodes,
+        &d.trips,
+        table,
+    );
+    turns(
+        d.nodes,
+        d.links,
+        d.destinations,
+        &d.tails,
+        &d.heads,
+        &d.free_times,
+        &d.rises,
+        &d.capacities,
+        &d.destination_nodes,
+        &d.trips,
+        d.total_trips,
+        table,
+        budget,
+        excess,
+    )
 }
 
 // The turns of a run from the table that a start left, until one ends it.
-fn turns(d: Decoded, table: &mut [u32], budget: u32, excess: u16) -> RunAnswer
-    requires { ⌜ Begins budget d (now table) ⌝ }
-    ensures { λ r. ⌜ ((file before : List ℕ) → Begun file before budget d (now (table .entry)) → Ran file before budget excess r (now (table .exit))) ⌝ }
+fn turns<'a>(
+    n: usize,
+    m: usize,
+    p: usize,
+    tails: &'a [u16; 512],
+    heads: &'a [u16; 512],
+    free: &'a [u16; 512],
+    rises: &'a [u16; 512],
+    capacities: &'a [u16; 512],
+    nodes: &'a [u16; 32],
+    trips: &'a [u16; 4096],
+    total: u64,
+    table: &mut [u32],
+    budget: u32,
+    excess: u16,
+) -> RunAnswer
+    requires { ⌜ Begins budget (studyOf n m p (now tails) (now heads) (now free) (now rises) (now capacities) (now nodes) (now trips)) total (now table) ⌝ }
+    ensures { λ r. ⌜ ((file before : List ℕ) → Begun file before budget (studyOf n m p (now (tails .entry)) (now (heads .entry)) (now (free .entry)) (now (rises .entry)) (now (capacities .entry)) (now (nodes .entry)) (now (trips .entry))) (now (table .entry)) → Ran file before budget excess r (now (table .exit))) ⌝ }
 {
+    let mut times = [0u32; 512];
+    let mut next = [[0u16; 128]; 32];
+    let mut volumes = [[0u32; 128]; 32];
+    let mut loads = [0u64; 512];
     let mut judged = 0;
     let mut share = 1;
+    let mut known = false;
     loop {
         judged += 1;
-        let turn = judging::turn_table(d, table, share, excess, judged == budget);
+        let turn = judging::turn_table(
+            n,
+            m,
+            p,
+            tails,
+            heads,
+            free,
+            rises,
+            capacities,
+            nodes,
+            trips,
+            total,
+            known,
+            &mut times,
+            &mut next,
+            &mut volumes,
+            &mut loads,
+            table,
+            share,
+            excess,
+            judged == budget,
+        );
         let step = turn.step;
         let Step::Moved = step else {
-            return ended(d, table, step, judged, share, turn.gap);
+            let cost = table_cost(m, p, free, rises, capacities, table, share);
+            return ended(step, judged, share, turn.gap, cost);
         };
         share = turn.share;
+        known = turn.doubled;
     }
 }
 
 // The answer of a run that ended with a step, by its last judged table.
-fn ended(d: Decoded, table: &[u32], step: Step, judged: u32, share: u32, gap: u64) -> RunAnswer
-    requires { ⌜ Ready d × Judgeable d (now table) share ⌝ }
-    ensures { λ r. ⌜ r ≡ endedAnswer step judged share gap (cost (networkIn d) share (now (table .entry))) ⌝ }
+fn ended(step: Step, judged: u32, share: u32, gap: u64, cost: u64) -> RunAnswer
+    ensures { λ r. ⌜ r ≡ endedAnswer step judged share gap cost ⌝ }
 {
     let ending = ending_of(step);
-    let cost = table_cost(d, table, share);
     RunAnswer {
         refusal: 0,
         ending,
@@ -75,14 +159,19 @@ fn ending_of(step: Step) -> Ending
     }
 }
 
-fn table_cost(d: Decoded, table: &[u32], share: u32) -> u64
-    requires { ⌜ Ready d × Judgeable d (now table) share ⌝ }
-    ensures { λ r. ⌜ r ≡ cost (networkIn d) share (now (table .entry)) ⌝ }
+fn table_cost(
+    m: usize,
+    p: usize,
+    free: &[u16; 512],
+    rises: &[u16; 512],
+    capacities: &[u16; 512],
+    table: &[u32],
+    share: u32,
+) -> u64
+    requires { ⌜ LinksFit m (now free) (now rises) (now capacities) × ShareFits share × (p ≤ 32) × (p * m ≤ length (now table)) ⌝ }
+    requires { ⌜ Within m mostFlow (padded m (linkTotal p m (now table))) ⌝ }
+    ensures { λ r. ⌜ r ≡ listCost m (now (free .entry)) (now (rises .entry)) (now (capacities .entry)) share (padded m (linkTotal p m (now (table .entry)))) ⌝ }
 {
-    let m = d.links;
-    let free = d.free_times;
-    let rises = d.rises;
-    let capacities = d.capacities;
-    let totals = travel::totals(table, d.destinations, m);
-    travel::cost(&free, &rises, &capacities, &totals, m, share)
+    let totals = travel::totals(table, p, m);
+    travel::cost(free, rises, capacities, &totals, m, share)
 }

@@ -9,10 +9,35 @@ pub fn start(file: &[u8], table: &mut [u32]) -> u8
     ensures { λ r. ⌜ now (table .exit) ≡ startTable (now (file .entry)) (now (table .entry)) ⌝ }
 {
     let d = decode(file);
-    let refusal = start_refusal(file, d, table);
+    let refusal = start_refusal(
+        file,
+        d.nodes,
+        d.links,
+        d.destinations,
+        &d.tails,
+        &d.heads,
+        &d.free_times,
+        &d.rises,
+        &d.capacities,
+        &d.destination_nodes,
+        &d.trips,
+        table,
+    );
     if refusal != 0 {
         return refusal;
     }
-    judging::start_table(d, table);
+    judging::start_table(
+        d.nodes,
+        d.links,
+        d.destinations,
+        &d.tails,
+        &d.heads,
+        &d.free_times,
+        &d.rises,
+        &d.capacities,
+        &d.destination_nodes,
+        &d.trips,
+        table,
+    );
     0
 }

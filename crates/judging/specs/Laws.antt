@@ -8,6 +8,7 @@ pub mod Moves
 pub mod Study
 pub mod Routes
 pub mod Judged
+pub mod Doubled
 pub mod Questions
 pub mod Start
 pub mod Turns

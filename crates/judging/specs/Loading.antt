@@ -1,10 +1,12 @@
 -- The loading that next links give, and tables that it is added to, over lists.
 use Prim.Native.Nat.{ℕ, _+_, _*_, _≤_, _<_, _^_}
+use mathlib.Core.Path.{_≡_}
 use mathlib.Core.List.{List, [], _++_}
 use lib.ListN.{length, getD, drop}
 use Rattle.theory.specs.Finite.{tabulate, rows}
 use Rattle.theory.specs.Flows.{linkTotal}
-use Rattle.routes.specs.Along.{flowAlong, Followable}
+use Rattle.routes.specs.Search.{noLink}
+use Rattle.routes.specs.Along.{flowAlong, volumeOver, Followable}
 
 -- What the trips to destination k send over link l along its next links.
 unfoldable pub rowAlong : ℕ → List ℕ → List ℕ → List (List ℕ) → ℕ → ℕ → ℕ
@@ -13,6 +15,10 @@ rowAlong n heads trips nexts k l = flowAlong n heads (getD nexts k []) (λ j. ge
 -- The loading that next links give: a table of p rows, each of m flows.
 unfoldable pub loadingAlong : ℕ → ℕ → ℕ → List ℕ → List ℕ → List (List ℕ) → List ℕ
 loadingAlong n m p heads trips nexts = rows p (λ k. tabulate m (rowAlong n heads trips nexts k))
+
+-- The loading that volumes by destination and node give, each at its node's next link: a table of p rows, each of m flows.
+unfoldable pub volumeRows : ℕ → ℕ → ℕ → List (List ℕ) → List (List ℕ) → List ℕ
+volumeRows n m p nexts volumes = rows p (λ k. tabulate m (volumeOver n (getD nexts k []) (getD volumes k [])))
 
 -- Lent memory whose first numbers are f 0, f 1, .., and whose later ones are as they were.
 unfoldable pub front : ℕ → (ℕ → ℕ) → List ℕ → List ℕ
@@ -32,9 +38,11 @@ pub record AllFollowable (n m p : ℕ) (heads trips : List ℕ) (nexts : List (L
   pub followable : (k : ℕ) → k < p → Followable n m heads (getD nexts k [])
   pub small-totals : (l : ℕ) → l < m → linkTotal p m (loadingAlong n m p heads trips nexts) l ≤ 65535
 
--- What adding weight × the loading to a table asks: the table has all its rows, and its numbers stay within 32 bits.
-pub record AllAddable (n m p : ℕ) (heads trips : List ℕ) (nexts : List (List ℕ)) (weight : ℕ) (table : List ℕ) : Type 0 where
-  pub followable : AllFollowable n m p heads trips nexts
-  pub small-weight : weight ≤ 64
+-- What adding weight × a loading to a table asks: next links are links, the table has all its rows, and its numbers stay within 32 bits.
+pub record Addable (n m p : ℕ) (nexts volumes : List (List ℕ)) (weight : ℕ) (table : List ℕ) : Type 0 where
+  pub few-nodes : n ≤ 128
+  pub few-links : m ≤ 512
+  pub few-destinations : p ≤ 32
+  pub next-link : (k j : ℕ) → k < p → j < n → (getD (getD nexts k []) j 0 ≡ noLink → ⊥) → getD (getD nexts k []) j 0 < m
   pub holds : p * m ≤ length table
-  pub fits : (i : ℕ) → i < p * m → getD table i 0 + weight * getD (loadingAlong n m p heads trips nexts) i 0 < 2 ^ 32
+  pub fits : (i : ℕ) → i < p * m → getD table i 0 + weight * getD (volumeRows n m p nexts volumes) i 0 < 2 ^ 32

@@ -1,14 +1,16 @@
 -- What a pass that chose j makes of a table, over lists.
 use Prim.Native.Nat.{ℕ, _+_, _*_, _≤_, _<_}
+use mathlib.Core.Path.{_≡_}
 use mathlib.Core.Bool.{Bool, _||_}
-use mathlib.Core.List.{List}
+use mathlib.Core.List.{List, []}
 use mathlib.Core.Option.{Option}
 use lib.ListN.{length, getD}
 use lib.Dec.{ltb, leb}
 use Rattle.theory.specs.Finite.{tabulate}
 use Rattle.theory.specs.Moves.{Shared}
 use Rattle.theory.specs.Laws.Local.{moveBy}
-use Rattle.judging.specs.Loading.{AllFollowable}
+use Rattle.routes.specs.Search.{noLink}
+use Rattle.judging.specs.Loading.{volumeRows}
 
 -- There is a move where a j is chosen, or 2W is at most 1,024.
 unfoldable pub canMove : ℕ → ℕ → Bool
@@ -19,10 +21,15 @@ abbrev pub moveAlong : ℕ → ℕ → ℕ → List ℕ → List ℕ → Option 
 moveAlong size share j y table =
     moveBy share j (tabulate size (λ i. getD table i 0 + j * getD y i 0)) (tabulate size (λ i. 2 * getD table i 0))
 
--- What a move asks: the table has all its rows, a share and a j of which the sum is at most 1,024, and flows of at most share × 65,535.
-pub record Movable (n m p : ℕ) (heads trips : List ℕ) (nexts : List (List ℕ)) (share j : ℕ) (table : List ℕ) : Type 0 where
-  pub followable : AllFollowable n m p heads trips nexts
+-- What a move asks: next links are links, the table has all its rows, a share and a j of which the sum is at most 1,024, flows of at most
+-- share × 65,535, and a loading of at most 65,535 on each link.
+pub record Movable (n m p : ℕ) (nexts volumes : List (List ℕ)) (share j : ℕ) (table : List ℕ) : Type 0 where
+  pub few-nodes : n ≤ 128
+  pub few-links : m ≤ 512
+  pub few-destinations : p ≤ 32
+  pub next-link : (k i : ℕ) → k < p → i < n → (getD (getD nexts k []) i 0 ≡ noLink → ⊥) → getD (getD nexts k []) i 0 < m
   pub small-step : j ≤ 64
   pub small-share : share + j ≤ 1024
   pub holds : p * m ≤ length table
   pub flows : (i : ℕ) → i < p * m → getD table i 0 ≤ share * 65535
+  pub loads : (i : ℕ) → i < p * m → getD (volumeRows n m p nexts volumes) i 0 ≤ 65535

@@ -1,9 +1,9 @@
 -- A decoded study as a network, what the functions of this crate ask of it and of a table, and what a turn does.
-use Prim.Native.Nat.{ℕ, _+_, _*_, _≤_, _<_}
+use Prim.Native.Nat.{ℕ, _≤_, _<_}
 use mathlib.Core.Path.{_≡_}
-use mathlib.Core.Bool.{Bool, true, false, cond}
+use mathlib.Core.Bool.{Bool, true, cond}
 use mathlib.Core.List.{List, [], _∷_}
-use mathlib.Core.Option.{Option, none, some}
+use mathlib.Core.Option.{Option}
 use lib.ListN.{length, getD, replicate}
 use Rattle.study.specs.Questions.{Question}
 use Rattle.theory.specs.Network.{Network, Sound, totalTrips}
@@ -23,6 +23,34 @@ networkIn d =
     networkFrom (d .nodes) (d .links) (d .destinations) (d .tails) (d .heads) (d .«free_times») (d .rises) (d .capacities)
     (d .«destination_nodes»)
     (d .trips)
+
+-- A decoded study whose fields stand in arrays.
+abbrev pub studyOf : ℕ → ℕ → ℕ → List ℕ → List ℕ → List ℕ → List ℕ → List ℕ → List ℕ → List ℕ → Decoded
+studyOf n m p tails heads free rises capacities nodes trips =
+    record {
+      nodes = n;
+      links = m;
+      destinations = p;
+      «total_trips» = totalTrips (networkFrom n m p tails heads free rises capacities nodes trips);
+      tails = tails;
+      heads = heads;
+      «free_times» = free;
+      rises = rises;
+      capacities = capacities;
+      «destination_nodes» = nodes;
+      trips = trips;
+    }
+
+-- What the questions of a table go by, in arrays, is that of a decoded study.
+pub record Same (d : Decoded) (n m p total : ℕ) (tails heads nodes trips : List ℕ) : Type 0 where
+  pub nodes-are : d .nodes ≡ n
+  pub links-are : d .links ≡ m
+  pub destinations-are : d .destinations ≡ p
+  pub total-is : d .«total_trips» ≡ total
+  pub tails-are : d .tails ≡ tails
+  pub heads-are : d .heads ≡ heads
+  pub destination-nodes-are : d .«destination_nodes» ≡ nodes
+  pub trips-are : d .trips ≡ trips
 
 -- A decoded study that passes questions 1 to 11.
 pub record Ready (d : Decoded) : Type 0 where
@@ -44,6 +72,13 @@ pub record Judgeable (d : Decoded) (table : List ℕ) (share : ℕ) : Type 0 whe
   pub share-most : share ≤ 1024
   pub totals-fit : totalsFit (networkIn d) share table ≡ true
   pub conserving : conserves (networkIn d) share table ≡ true
+
+-- A decoded study whose trips stand in an array of 4,096, and a table of it.
+abbrev pub ReadyOf : Decoded → Type 0
+ReadyOf d = Ready d × (length (d .trips) ≡ 4096)
+
+abbrev pub JudgeableOf : Decoded → List ℕ → ℕ → Type 0
+JudgeableOf d table share = ReadyOf d × Judgeable d table share
 
 -- Questions 14 to 16 of a table and a share.
 unfoldable pub tableQuestionsIn : Decoded → List ℕ → ℕ → List Question

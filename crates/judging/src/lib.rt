@@ -2,6 +2,7 @@
 // bytes: a study stands decoded in arrays.
 mod audit;
 mod gaps;
+mod judge;
 mod loading;
 mod moves;
 mod pass;
@@ -56,9 +57,10 @@ pub enum Step {
     Moved,
 }
 
-// One turn of a run: one judged table, its gap, and the share after the turn.
+// One turn of a run: one judged table, its gap, the share after the turn, and whether it doubled the table.
 pub struct Turn {
     pub step: Step,
     pub share: u32,
     pub gap: u64,
+    pub doubled: bool,
 }

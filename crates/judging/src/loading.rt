@@ -1,31 +1,37 @@
-// The loading that next links give: its totals, and a multiple of it added to a table.
+// The loading that next links give: volumes by destination and node, its totals, and a multiple of it added to a table.
 ghost use mathlib.Core.Path.{_≡_};
 ghost use Prim.Native.Nat.{_*_, _≤_};
 ghost use lib.ListN.{getD};
 ghost use Rattle.theory.specs.Flows.{linkTotal};
 ghost use Rattle.travel.specs.Links.{padded};
-ghost use Rattle.judging.specs.Loading.{loadingAlong, addedRows, AllFollowable, AllAddable};
+ghost use Rattle.judging.specs.Loading.{loadingAlong, volumeRows, addedRows, AllFollowable, Addable};
 use crate::widths::wide;
 
-// Y's totals: what the trips of all destinations send over each link.
-pub fn loading_totals(
+// The volumes of each destination, by node, and Y's totals: what the trips of all destinations send over each link.
+pub fn load(
     n: usize,
     m: usize,
     p: usize,
     heads: &[u16; 512],
     trips: &[u16],
     next: &[[u16; 128]; 32],
+    volumes: &mut [[u32; 128]; 32],
 ) -> [u64; 512]
     requires { ⌜ AllFollowable n m p (now heads) (now trips) (now next) ⌝ }
     ensures { λ r. ⌜ r ≡ padded m (linkTotal p m (loadingAlong n m p (now (heads .entry)) (now (trips .entry)) (now (next .entry)))) ⌝ }
+    ensures { λ r. ⌜ volumeRows n m p (now (next .entry)) (now (volumes .exit)) ≡ loadingAlong n m p (now (heads .entry)) (now (trips .entry)) (now (next .entry)) ⌝ }
 {
+    // written whole, so that the array is known to have its 32 rows
+    *volumes = [[0u32; 128]; 32];
     let mut sums = [0u32; 512];
     let mut k: usize = 0;
     while k < p {
         let links = next[k];
         let first = k * n;
         let past = first + n;
-        routes::add_loading(&mut sums, n, m, heads, &links, &trips[first..past], 1);
+        let row = routes::volumes(n, m, heads, &links, &trips[first..past]);
+        routes::add_volumes(&mut sums, n, m, &links, &row, 1);
+        volumes[k] = row;
         k += 1;
     }
     widened(&sums, m)
@@ -51,30 +57,20 @@ pub fn add_loadings(
     n: usize,
     m: usize,
     p: usize,
-    heads: &[u16; 512],
-    trips: &[u16],
     next: &[[u16; 128]; 32],
+    volumes: &[[u32; 128]; 32],
     weight: u32,
 )
-    requires { ⌜ AllAddable n m p (now heads) (now trips) (now next) weight (now table) ⌝ }
-    ensures { λ _. ⌜ now (table .exit) ≡ addedRows (p * m) weight (loadingAlong n m p (now (heads .entry)) (now (trips .entry)) (now (next .entry))) (now (table .entry)) ⌝ }
+    requires { ⌜ Addable n m p (now next) (now volumes) weight (now table) ⌝ }
+    ensures { λ _. ⌜ now (table .exit) ≡ addedRows (p * m) weight (volumeRows n m p (now (next .entry)) (now (volumes .entry))) (now (table .entry)) ⌝ }
 {
     let mut k: usize = 0;
     while k < p {
         let links = next[k];
-        let first = k * n;
-        let past = first + n;
+        let row = volumes[k];
         let start = k * m;
         let end = start + m;
-        routes::add_loading(
-            &mut table[start..end],
-            n,
-            m,
-            heads,
-            &links,
-            &trips[first..past],
-            weight,
-        );
+        routes::add_volumes(&mut table[start..end], n, m, &links, &row, weight);
         k += 1;
     }
 }

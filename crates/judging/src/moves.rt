@@ -3,7 +3,7 @@ ghost use mathlib.Core.Path.{_≡_};
 ghost use Prim.Native.Nat.{ℕ, _*_, _≤_, _<_, _^_};
 ghost use lib.ListN.{length, getD};
 ghost use Rattle.calls.specs.Calls.{shareAfter, tableAfter};
-ghost use Rattle.judging.specs.Loading.{loadingAlong, front};
+ghost use Rattle.judging.specs.Loading.{volumeRows, front};
 ghost use Rattle.judging.specs.Moves.{canMove, moveAlong, Movable};
 use crate::loading::add_loadings;
 
@@ -48,18 +48,17 @@ pub fn move_table(
     n: usize,
     m: usize,
     p: usize,
-    heads: &[u16; 512],
-    trips: &[u16],
     next: &[[u16; 128]; 32],
+    volumes: &[[u32; 128]; 32],
     share: u32,
     j: u32,
 ) -> u32
-    requires { ⌜ Movable n m p (now heads) (now trips) (now next) share j (now table) ⌝ }
-    ensures { λ r. ⌜ r ≡ shareAfter share (moveAlong (p * m) share j (loadingAlong n m p (now (heads .entry)) (now (trips .entry)) (now (next .entry))) (now (table .entry))) ⌝ }
-    ensures { λ r. ⌜ now (table .exit) ≡ tableAfter (now (table .entry)) (moveAlong (p * m) share j (loadingAlong n m p (now (heads .entry)) (now (trips .entry)) (now (next .entry))) (now (table .entry))) ⌝ }
+    requires { ⌜ Movable n m p (now next) (now volumes) share j (now table) ⌝ }
+    ensures { λ r. ⌜ r ≡ shareAfter share (moveAlong (p * m) share j (volumeRows n m p (now (next .entry)) (now (volumes .entry))) (now (table .entry))) ⌝ }
+    ensures { λ r. ⌜ now (table .exit) ≡ tableAfter (now (table .entry)) (moveAlong (p * m) share j (volumeRows n m p (now (next .entry)) (now (volumes .entry))) (now (table .entry))) ⌝ }
 {
     if 0 < j {
-        add_loadings(table, n, m, p, heads, trips, next, j);
+        add_loadings(table, n, m, p, next, volumes, j);
         return share + j;
     }
     if 2 * share <= 1024 {

@@ -1,35 +1,37 @@
 // Questions 14 to 16 of a table and a share.
 ghost use mathlib.Core.Path.{_≡_};
 ghost use Prim.Native.Nat.{_*_, _≤_};
-ghost use lib.ListN.{length};
 ghost use Rattle.study.specs.Questions.{firstNo};
-ghost use Rattle.theory.specs.Moves.{tableSize};
 ghost use Rattle.calls.specs.Questions.{shareFits};
-ghost use Rattle.judging.specs.Study.{Ready, networkIn, tableQuestionsIn};
+ghost use Rattle.judging.specs.declared.Decoded.{Decoded};
+ghost use Rattle.judging.specs.Study.{Ready, Same, tableQuestionsIn};
 ghost use Rattle.judging.specs.Rows.{rowsConserve, TableFits};
-use crate::Decoded;
 use crate::widths::index;
 
 // The number of the first of questions 14 to 16 that refuses, or 0.
-pub fn table_refusal(d: Decoded, table: &[u32], share: u32) -> u8
-    requires { ⌜ Ready d × (tableSize (networkIn d) ≤ length (now table)) ⌝ }
-    ensures { λ r. ⌜ r ≡ firstNo (tableQuestionsIn d (now (table .entry)) share) ⌝ }
+pub fn table_refusal<'a>(
+    n: usize,
+    m: usize,
+    p: usize,
+    total: u64,
+    tails: &'a [u16; 512],
+    heads: &'a [u16; 512],
+    nodes: &'a [u16; 32],
+    trips: &'a [u16; 4096],
+    table: &[u32],
+    share: u32,
+) -> u8
+    requires { ⌜ TableFits n m p (now tails) (now heads) (now trips) (now table) × (total ≤ 65535) ⌝ }
+    ensures { λ r. ⌜ ((d : Decoded) → Ready d → Same d n m p total (now (tails .entry)) (now (heads .entry)) (now (nodes .entry)) (now (trips .entry)) → r ≡ firstNo (tableQuestionsIn d (now (table .entry)) share)) ⌝ }
 {
     if !share_fits(share) {
         return 14;
     }
-    let n = d.nodes;
-    let m = d.links;
-    let p = d.destinations;
     let totals = travel::totals(table, p, m);
-    if !travel::totals_fit(&totals, m, share as u64 * d.total_trips) {
+    if !travel::totals_fit(&totals, m, share as u64 * total) {
         return 15;
     }
-    let tails = d.tails;
-    let heads = d.heads;
-    let nodes = d.destination_nodes;
-    let trips = d.trips;
-    if !rows_conserve(n, m, p, &tails, &heads, &nodes, &trips, table, share) {
+    if !rows_conserve(n, m, p, tails, heads, nodes, trips, table, share) {
         return 16;
     }
     0

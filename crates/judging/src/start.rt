@@ -4,29 +4,53 @@ ghost use Prim.Native.Nat.{_≤_};
 ghost use lib.ListN.{length};
 ghost use Rattle.theory.specs.Moves.{tableSize, started};
 ghost use Rattle.calls.specs.Calls.{overwritten};
-ghost use Rattle.judging.specs.Study.{Ready, networkIn};
-use crate::Decoded;
+ghost use Rattle.judging.specs.Study.{networkIn, studyOf, ReadyOf};
+use crate::judge::judge;
 use crate::loading::add_loadings;
 use crate::moves::empty_flows;
 
 // Start: the table becomes the loading at empty roads, whatever it held before.
-pub fn start_table(d: Decoded, table: &mut [u32])
-    requires { ⌜ Ready d × (tableSize (networkIn d) ≤ length (now table)) ⌝ }
-    ensures { λ _. ⌜ now (table .exit) ≡ overwritten (started (networkIn d) .table) (now (table .entry)) ⌝ }
+pub fn start_table<'a>(
+    n: usize,
+    m: usize,
+    p: usize,
+    tails: &'a [u16; 512],
+    heads: &'a [u16; 512],
+    free: &'a [u16; 512],
+    rises: &'a [u16; 512],
+    capacities: &'a [u16; 512],
+    nodes: &'a [u16; 32],
+    trips: &'a [u16; 4096],
+    table: &mut [u32],
+)
+    requires { ⌜ ReadyOf (studyOf n m p (now tails) (now heads) (now free) (now rises) (now capacities) (now nodes) (now trips)) ⌝ }
+    requires { ⌜ tableSize (networkIn (studyOf n m p (now tails) (now heads) (now free) (now rises) (now capacities) (now nodes) (now trips))) ≤ length (now table) ⌝ }
+    ensures { λ _. ⌜ now (table .exit) ≡ overwritten (started (networkIn (studyOf n m p (now (tails .entry)) (now (heads .entry)) (now (free .entry)) (now (rises .entry)) (now (capacities .entry)) (now (nodes .entry)) (now (trips .entry)))) .table) (now (table .entry)) ⌝ }
 {
-    let n = d.nodes;
-    let m = d.links;
-    let p = d.destinations;
-    let tails = d.tails;
-    let heads = d.heads;
-    let free = d.free_times;
-    let rises = d.rises;
-    let capacities = d.capacities;
-    let nodes = d.destination_nodes;
-    let trips = d.trips;
+    let mut times = [0u32; 512];
+    let mut next = [[0u16; 128]; 32];
+    let mut volumes = [[0u32; 128]; 32];
+    let mut loads = [0u64; 512];
     let empty = [0u64; 512];
-    let times = travel::times(&free, &rises, &capacities, &empty, m, 1);
-    let next = routes::next_table(n, m, p, &tails, &heads, &times, &nodes);
+    judge(
+        n,
+        m,
+        p,
+        tails,
+        heads,
+        free,
+        rises,
+        capacities,
+        nodes,
+        trips,
+        &empty,
+        1,
+        false,
+        &mut times,
+        &mut next,
+        &mut volumes,
+        &mut loads,
+    );
     empty_flows(table, p * m);
-    add_loadings(table, n, m, p, &heads, &trips, &next, 1);
+    add_loadings(table, n, m, p, &next, &volumes, 1);
 }

@@ -1,54 +1,88 @@
-// A turn of a run. Data flows once: totals, times, next links and the loading's totals are computed once.
+// A turn of a run. Data flows once: totals, times, next links and the loading are computed once, and not again after a doubling.
 ghost use mathlib.Core.Path.{_≡_};
-ghost use Rattle.theory.specs.Cost.{gap};
-ghost use Rattle.judging.specs.Study.{Ready, Judgeable, networkIn, moveOf, stepOf, shareAfterStep, tableAfterStep};
-ghost use Rattle.judging.specs.Judged.{turnOf};
-use crate::Decoded;
+ghost use mathlib.Core.Bool.{true};
+ghost use Rattle.theory.specs.Network.{totalTrips};
+ghost use Rattle.judging.specs.Study.{networkIn, studyOf, JudgeableOf};
+ghost use Rattle.judging.specs.Judged.{KnownOf, Turned, turnOf};
 use crate::Step;
 use crate::Turn;
 use crate::gaps::gap_of;
-use crate::loading::loading_totals;
+use crate::judge::judge;
 use crate::moves::can_move;
 use crate::moves::move_table;
 
-// A turn of a run: judges the table, and moves it where the run goes on.
-pub fn turn_table(d: Decoded, table: &mut [u32], share: u32, excess: u16, last: bool) -> Turn
-    requires { ⌜ Ready d × Judgeable d (now table) share ⌝ }
-    ensures { λ r. ⌜ (r .step ≡ stepOf d (now (table .entry)) share excess last) × (r .gap ≡ gap (networkIn d) share (now (table .entry))) ⌝ }
-    ensures { λ r. ⌜ r .share ≡ shareAfterStep (r .step) share (moveOf d (now (table .entry)) share) ⌝ }
-    ensures { λ r. ⌜ now (table .exit) ≡ tableAfterStep (r .step) (now (table .entry)) (moveOf d (now (table .entry)) share) ⌝ }
+// A turn of a run: judges the table, and moves it where the run goes on. The arrays hold what judging computes; they may be known from the
+// turn before, if it doubled the table.
+pub fn turn_table<'a>(
+    n: usize,
+    m: usize,
+    p: usize,
+    tails: &'a [u16; 512],
+    heads: &'a [u16; 512],
+    free: &'a [u16; 512],
+    rises: &'a [u16; 512],
+    capacities: &'a [u16; 512],
+    nodes: &'a [u16; 32],
+    trips: &'a [u16; 4096],
+    total: u64,
+    known: bool,
+    times: &mut [u32; 512],
+    next: &mut [[u16; 128]; 32],
+    volumes: &mut [[u32; 128]; 32],
+    loads: &mut [u64; 512],
+    table: &mut [u32],
+    share: u32,
+    excess: u16,
+    last: bool,
+) -> Turn
+    requires { ⌜ JudgeableOf (studyOf n m p (now tails) (now heads) (now free) (now rises) (now capacities) (now nodes) (now trips)) (now table) share ⌝ }
+    requires { ⌜ total ≡ totalTrips (networkIn (studyOf n m p (now tails) (now heads) (now free) (now rises) (now capacities) (now nodes) (now trips))) ⌝ }
+    requires { ⌜ (known ≡ true → KnownOf (studyOf n m p (now tails) (now heads) (now free) (now rises) (now capacities) (now nodes) (now trips)) (now table) share (now times) (now next) (now volumes) (now loads)) ⌝ }
+    ensures { λ r. ⌜ Turned (studyOf n m p (now (tails .entry)) (now (heads .entry)) (now (free .entry)) (now (rises .entry)) (now (capacities .entry)) (now (nodes .entry)) (now (trips .entry))) (now (table .entry)) share excess last r (now (table .exit)) ⌝ }
+    ensures { λ r. ⌜ (r .doubled ≡ true → KnownOf (studyOf n m p (now (tails .entry)) (now (heads .entry)) (now (free .entry)) (now (rises .entry)) (now (capacities .entry)) (now (nodes .entry)) (now (trips .entry))) (now (table .exit)) (r .share) (now (times .exit)) (now (next .exit)) (now (volumes .exit)) (now (loads .exit))) ⌝ }
 {
-    let n = d.nodes;
-    let m = d.links;
-    let p = d.destinations;
-    let tails = d.tails;
-    let heads = d.heads;
-    let free = d.free_times;
-    let rises = d.rises;
-    let capacities = d.capacities;
-    let nodes = d.destination_nodes;
-    let trips = d.trips;
     let totals = travel::totals(table, p, m);
-    let times = travel::times(&free, &rises, &capacities, &totals, m, share);
-    let next = routes::next_table(n, m, p, &tails, &heads, &times, &nodes);
-    let loads = loading_totals(n, m, p, &heads, &trips, &next);
-    let gap = gap_of(&times, &totals, &loads, m, share);
-    if gap <= excess as u64 * share as u64 * d.total_trips {
-        return turned(Step::Reached, share, gap);
+    judge(
+        n,
+        m,
+        p,
+        tails,
+        heads,
+        free,
+        rises,
+        capacities,
+        nodes,
+        trips,
+        &totals,
+        share,
+        known,
+        times,
+        next,
+        volumes,
+        loads,
+    );
+    let gap = gap_of(times, &totals, loads, m, share);
+    if gap <= excess as u64 * share as u64 * total {
+        return turned(Step::Reached, share, gap, false);
     }
-    let j = travel::chosen(&free, &rises, &capacities, &totals, &loads, m, share);
+    let j = travel::chosen(free, rises, capacities, &totals, loads, m, share);
     if !can_move(share, j) {
-        return turned(Step::Finest, share, gap);
+        return turned(Step::Finest, share, gap, false);
     }
     if last {
-        return turned(Step::Spent, share, gap);
+        return turned(Step::Spent, share, gap, false);
     }
-    let after = move_table(table, n, m, p, &heads, &trips, &next, share, j);
-    turned(Step::Moved, after, gap)
+    let after = move_table(table, n, m, p, next, volumes, share, j);
+    turned(Step::Moved, after, gap, j == 0)
 }
 
-fn turned(step: Step, share: u32, gap: u64) -> Turn
-    ensures { λ r. ⌜ r ≡ turnOf step share gap ⌝ }
+fn turned(step: Step, share: u32, gap: u64, doubled: bool) -> Turn
+    ensures { λ r. ⌜ r ≡ turnOf step share gap doubled ⌝ }
 {
-    Turn { step, share, gap }
+    Turn {
+        step,
+        share,
+        gap,
+        doubled,
+    }
 }

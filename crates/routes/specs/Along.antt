@@ -1,10 +1,10 @@
--- Trips sent along a list of next links.
-use Prim.Native.Nat.{ℕ, _+_, _*_, _≤_, _<_, _^_}
+-- Trips sent along a list of next links, walk by walk and node by node.
+use Prim.Native.Nat.{ℕ, zero, suc, _+_, _*_, _≤_, _<_, _^_}
 use mathlib.Core.Path.{_≡_}
 use mathlib.Core.Bool.{cond}
-use mathlib.Core.List.{List, [], _∷_, _++_, map}
+use mathlib.Core.List.{List, _++_, map}
 use mathlib.Core.Option.{Option, none, some}
-use lib.ListN.{length, getD, set, drop}
+use lib.ListN.{length, getD, drop}
 use lib.Dec.{eqb}
 use Rattle.theory.specs.Finite.{sum, tabulate}
 use Rattle.theory.specs.Routes.{walk, occurrences}
@@ -17,11 +17,6 @@ linkOf l = cond (eqb l noLink) none (some l)
 -- The links that a trip from node j goes by, at most `most` of them.
 unfoldable pub walkAlong : List ℕ → List ℕ → ℕ → ℕ → List ℕ
 walkAlong heads next most j = walk (λ l. getD heads l 0) (map linkOf next) most j
-
--- A row with an amount added at each link of a walk.
-unfoldable pub addedAlong : ℕ → List ℕ → List ℕ → List ℕ
-addedAlong amount [] row = row
-addedAlong amount (l ∷ path) row = addedAlong amount path (set row l (getD row l 0 + amount))
 
 -- What the trips of the nodes below k send over a link along next links, over n nodes.
 unfoldable pub flowAlong : ℕ → List ℕ → List ℕ → (ℕ → ℕ) → ℕ → ℕ → ℕ
@@ -36,30 +31,46 @@ sentAlong n m heads next trips weight k row =
 abbrev pub loadedAlong : ℕ → ℕ → List ℕ → List ℕ → (ℕ → ℕ) → ℕ → List ℕ → List ℕ
 loadedAlong n m heads next trips weight row = sentAlong n m heads next trips weight n row
 
--- Walks along next links stay in the network.
+-- 1 where two numbers are the same, and 0 otherwise.
+unfoldable pub oneIfSame : ℕ → ℕ → ℕ
+oneIfSame i j = cond (eqb i j) 1 0
+
+-- How often a trip from node i leaves node j, within the first `most` links that it goes by.
+unfoldable pub leaves : List ℕ → List ℕ → ℕ → ℕ → ℕ → ℕ
+leaves heads next zero i j = 0
+leaves heads next (suc most) i j =
+    cond (eqb (getD next i 0) noLink) 0 (oneIfSame i j + leaves heads next most (getD heads (getD next i 0) 0) j)
+
+-- By node: the trips that leave it, its own and those that come through it.
+unfoldable pub volumesAlong : ℕ → List ℕ → List ℕ → (ℕ → ℕ) → List ℕ
+volumesAlong n heads next trips = tabulate 128 (λ j. sum n (λ i. trips i * leaves heads next n i j))
+
+-- What leaves the nodes below k by link l, where each node's volume goes by its next link.
+unfoldable pub volumeOver : ℕ → List ℕ → List ℕ → ℕ → ℕ
+volumeOver k next volumes l = sum k (λ j. oneIfSame (getD next j 0) l * getD volumes j 0)
+
+-- A row with a multiple of the volumes of the nodes below k added to its first m numbers, each at its node's next link.
+unfoldable pub scattered : ℕ → ℕ → List ℕ → List ℕ → ℕ → List ℕ → List ℕ
+scattered k m next volumes weight row = tabulate m (λ l. getD row l 0 + weight * volumeOver k next volumes l) ++ drop m row
+
+-- Walks along next links stay in the network, and end by themselves.
 pub record Followable (n m : ℕ) (heads next : List ℕ) : Type 0 where
   pub few-nodes : n ≤ 128
   pub few-links : m ≤ 512
   pub size : length next ≡ 128
   pub head-node : (l : ℕ) → l < m → getD heads l 0 < n
   pub next-link : (j : ℕ) → j < n → (getD next j 0 ≡ noLink → ⊥) → getD next j 0 < m
+  pub ends : (j : ℕ) → j < n → length (walkAlong heads next n j) < n
 
--- An amount can be added along a walk: the row has a number for each link, and each number stays within 32 bits.
-pub record Addable (m amount : ℕ) (path row : List ℕ) : Type 0 where
-  pub has-links : m ≤ length row
-  pub fits : (l : ℕ) → l < m → getD row l 0 + amount * occurrences l path < 2 ^ 32
-
--- A loading can be added: the row has a number for each link, there are trips for each node, and all numbers stay within 32 bits.
-pub record Loadable (n m : ℕ) (heads next trips : List ℕ) (weight : ℕ) (row : List ℕ) : Type 0 where
+-- Trips can be sent: along next links that can be followed, from each node.
+pub record Sendable (n m : ℕ) (heads next trips : List ℕ) : Type 0 where
   pub followable : Followable n m heads next
-  pub has-links : m ≤ length row
   pub has-trips : n ≤ length trips
-  pub amount-fits : (j : ℕ) → j < n → weight * getD trips j 0 < 2 ^ 32
-  pub fits : (l : ℕ) → l < m → getD row l 0 + weight * flowAlong n heads next (λ j. getD trips j 0) n l < 2 ^ 32
 
--- An amount is on its way along the walk from node j: it is at node i with at most `left` links to go.
-pub record Adding (n m amount : ℕ) (heads next : List ℕ) (j : ℕ) (row₀ row : List ℕ) (i left : ℕ) : Type 0 where
-  pub node : i < n
-  pub size : length row ≡ length row₀
-  pub rest : addedAlong amount (walkAlong heads next left i) row ≡ addedAlong amount (walkAlong heads next n j) row₀
-  pub addable : Addable m amount (walkAlong heads next left i) row
+-- Volumes can be added to a row: it has a number for each link, next links are links, and all numbers stay within 32 bits.
+pub record Scatterable (n m : ℕ) (next volumes : List ℕ) (weight : ℕ) (row : List ℕ) : Type 0 where
+  pub few-nodes : n ≤ 128
+  pub few-links : m ≤ 512
+  pub next-link : (j : ℕ) → j < n → (getD next j 0 ≡ noLink → ⊥) → getD next j 0 < m
+  pub has-links : m ≤ length row
+  pub fits : (l : ℕ) → l < m → getD row l 0 + weight * volumeOver n next volumes l < 2 ^ 32

@@ -4,7 +4,13 @@ pub mod Filled
 pub mod Chains
 pub mod Sweep
 pub mod Found
+pub mod Rows
+pub mod Lanes
 pub mod Next
+pub mod Seek
 pub mod Table
 pub mod Along
+pub mod Leaves
+pub mod Sending
+pub mod Scattered
 pub mod Loaded

@@ -4,7 +4,10 @@ pub mod Search
 pub mod Given
 pub mod Chains
 pub mod Marks
+pub mod Rows
+pub mod Lanes
 pub mod Next
 pub mod Table
 pub mod Along
+pub mod Sending
 pub mod Laws

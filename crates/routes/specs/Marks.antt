@@ -75,10 +75,3 @@ module _ (m : ℕ) (tails heads times : List ℕ) where
     pub size : length p ≡ 128
     pub above : (j : ℕ) → j < 128 → getD d j 0 ≤ getD p j 0
     pub settled : (l : ℕ) → l < m → getD d (getD tails l 0) 0 ≤ getD times l 0 + getD p (getD heads l 0) 0
-
-  -- A sweep over the nodes below k has scanned c of them, those whose marks were below the marks p₀ of their last scans.
-  pub record Swept (n s k : ℕ) (p₀ d p : List ℕ) (c : ℕ) : Type 0 where
-    pub scans : Scans n s d p
-    pub falls : total p + c ≤ total p₀
-    pub quiet : c ≡ 0 → (j : ℕ) → j < k → getD p j 0 ≤ getD d j 0
-    pub few : c ≤ k

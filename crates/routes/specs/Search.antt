@@ -20,9 +20,9 @@ routingFrom n m tails heads times destination =
       time = λ l. getD times l 0;
     }
 
--- A node without a path is marked unreached, by the largest number of 32 bits.
+-- A node without a path is marked unreached, by 2^31.
 abbrev pub unreached : ℕ
-unreached = 4294967295
+unreached = 2147483648
 
 unfoldable pub mark : Option ℕ → ℕ
 mark none = unreached

@@ -1,26 +1,31 @@
 -- What a call of a decoded file may judge, and what it answers and leaves.
 use Prim.Native.Nat.{ℕ, zero, suc, _≤_}
+use native.Mathlib.Omega.{arith}
 use mathlib.Core.Path.{_≡_, refl, sym, _∙_, ap}
 use mathlib.Core.List.{List}
 use mathlib.Core.Option.{Option, none, some}
 use lib.ListN.{length}
 use Rattle.study.specs.Questions.{firstNo}
-use Rattle.theory.specs.Cost.{cost, gap}
 use Rattle.theory.specs.Moves.{Shared, tableSize, started, moves}
 use Rattle.calls.specs.Study.{networkOf}
-use Rattle.calls.specs.Calls.{overwritten, startNumber, startTable, tableNumber, auditAnswer, passOutcome, shareAfter, tableAfter, passAnswer, passTable, runNumber, runAnswer}
+use Rattle.calls.specs.Calls.{overwritten, startNumber, startTable, tableNumber, auditAnswer, passOutcome, passAnswer, passTable, runNumber, runAnswer}
 use Rattle.calls.specs.Laws.Calls.{refusedAudit, refusedPass, refusedRun, start-written, audit-accepted, audit-refused, pass-accepted, pass-refused, pass-table, run-refused}
 use Rattle.calls.specs.Laws.Networks.{holds-length}
 use Rattle.calls.specs.Laws.Questions.{check-passed, start-both, table-both, run-both}
 use Rattle.calls.specs.declared.AuditAnswer.{AuditAnswer}
 use Rattle.calls.specs.declared.PassAnswer.{PassAnswer}
-use Rattle.judging.specs.Study.{networkIn, Ready, Judgeable, tableQuestionsIn, moveOf}
+use Rattle.judging.specs.Rows.{TableFits}
+use Rattle.judging.specs.Study.{networkIn, Ready, tableQuestionsIn, moveOf}
+use Rattle.judging.specs.Laws.Study.{table-fits}
 use Rattle.judging.specs.declared.Decoded.{Decoded}
 use Rattle.judging.specs.declared.Passed.{Passed}
+use Rattle.judging.specs.declared.Sums.{Sums}
+use Rattle.judging.specs.Study.{Same, ReadyOf, JudgeableOf}
+use Rattle.judging.specs.Judged.{Audited, PassedOn}
 use Rattle.assignment.specs.Answers.{outcomeOf}
 use Rattle.assignment.specs.Decoded.{decodedOf}
 use Rattle.assignment.specs.Runs.{Begun}
-use Rattle.assignment.specs.Laws.Decoding.{network-of, questions-decoded, ready, judgeable}
+use Rattle.assignment.specs.Laws.Decoding.{network-of, questions-decoded, ready-of, judgeable}
 use Rattle.assignment.specs.Laws.Numbers.{table-shared}
 
 -- A refusal is the number of the first question that refuses, and 0 in every other field.
@@ -47,17 +52,41 @@ module _ (file table : List ℕ) (d : Decoded) (decoded : d ≡ decodedOf file) 
   network-is = network-of file d decoded
 
   -- An accepted start: what it asks of the judging, and what it leaves.
-  pub start-ready : startNumber file table ≡ 0 → Ready d × (tableSize (networkIn d) ≤ length table)
+  pub start-ready : startNumber file table ≡ 0 → ReadyOf d × (tableSize (networkIn d) ≤ length table)
   start-ready e =
       let parts = start-both file table e in
-      (rw decoded (ready file (check-passed file (parts .0))), rw network-is (holds-length (networkOf file) table (parts .1)))
+      (rw decoded (ready-of file (check-passed file (parts .0))), rw network-is (holds-length (networkOf file) table (parts .1)))
+
+  -- The questions of its table: what they ask, and that they go by the same fields.
+  module _ (total : ℕ) (total-is : total ≡ decodedOf file .«total_trips») where
+    pub table-asks : startNumber file table ≡ 0
+        → TableFits (d .nodes) (d .links) (d .destinations) (d .tails) (d .heads) (d .trips) table × (total ≤ 65535)
+    table-asks e =
+        let known = start-ready e in
+        let study : Ready d = known .0 .0 in (
+          table-fits study (known .1) (known .0 .1),
+          omega (arith, total-is, ap (λ x. x .«total_trips») decoded, study .total, study .few-trips),
+        )
+
+    pub table-same : Same d (d .nodes) (d .links) (d .destinations) total (d .tails) (d .heads) (d .«destination_nodes») (d .trips)
+    table-same =
+        record {
+          nodes-are = refl;
+          links-are = refl;
+          destinations-are = refl;
+          total-is = ap (λ x. x .«total_trips») decoded ∙ sym total-is;
+          tails-are = refl;
+          heads-are = refl;
+          destination-nodes-are = refl;
+          trips-are = refl;
+        }
 
   -- The judging's questions of the decoded study are the file's.
   pub table-numbered : (share : ℕ) → startNumber file table ≡ 0 → firstNo (tableQuestionsIn d table share) ≡ tableNumber file table share
   table-numbered share e =
       rw decoded (ap firstNo (questions-decoded file table share)) ∙ sym (table-shared file table share e)
 
-  pub run-ready : (budget : ℕ) → runNumber file table budget ≡ 0 → Ready d × (tableSize (networkIn d) ≤ length table)
+  pub run-ready : (budget : ℕ) → runNumber file table budget ≡ 0 → ReadyOf d × (tableSize (networkIn d) ≤ length table)
   run-ready budget e = start-ready (run-both file table budget e .0)
 
   -- After an accepted run's start, its turns may begin.
@@ -74,22 +103,22 @@ module _ (file table : List ℕ) (d : Decoded) (decoded : d ≡ decodedOf file) 
 
   module _ (share : ℕ) (accepted : tableNumber file table share ≡ 0) where
     -- An accepted audit or pass.
-    pub table-ready : Ready d × Judgeable d table share
+    pub table-ready : JudgeableOf d table share
     table-ready =
         let parts = table-both file table share accepted in
         let holds = start-both file table (parts .0) .1 in
         (start-ready (parts .0) .0, rw decoded (judgeable file table share holds (parts .1)))
 
-    pub audit-answers : (gap′ cost′ : ℕ) → gap′ ≡ gap (networkIn d) share table → cost′ ≡ cost (networkIn d) share table
-        → _≡_ {A = AuditAnswer} (record { refusal = 0; gap = gap′; cost = cost′ }) (auditAnswer file table share)
-    audit-answers gap′ cost′ eg ec = rw (eg, ec, network-is) (sym (audit-accepted file table share accepted))
+    pub audit-answers : (sums : Sums) → Audited d table share sums
+        → _≡_ {A = AuditAnswer} (record { refusal = 0; gap = sums .gap; cost = sums .cost }) (auditAnswer file table share)
+    audit-answers sums a = rw (a .gap-is, a .cost-is, network-is) (sym (audit-accepted file table share accepted))
 
-    pub pass-answers : (p : Passed) → p .moved ≡ moves (moveOf d table share) → p .share ≡ shareAfter share (moveOf d table share)
-        → p .gap ≡ gap (networkIn d) share table → p .cost ≡ cost (networkIn d) share table
-        → _≡_ {A = PassAnswer} (record { refusal = 0; outcome = outcomeOf (p .moved); gap = p .gap; cost = p .cost; share = p .share })
-        (passAnswer file table share)
-    pass-answers p em es eg ec =
-        rw (em, es, eg, ec, outcome-moves (moveOf d table share), network-is) (sym (pass-accepted file table share accepted))
+    module _ (p : Passed) (after : List ℕ) (on : PassedOn d table share p after) where
+      pub pass-answers : _≡_ {A = PassAnswer} (record { refusal = 0; outcome = outcomeOf (p .moved); gap = p .gap; cost = p .cost; share = p .share })
+          (passAnswer file table share)
+      pass-answers =
+          rw (on .moved-is, on .share-is, on .gap-is, on .cost-is, outcome-moves (moveOf d table share), network-is)
+          (sym (pass-accepted file table share accepted))
 
-    pub pass-leaves : (after : List ℕ) → after ≡ tableAfter table (moveOf d table share) → after ≡ passTable file table share
-    pass-leaves after e = e ∙ rw network-is (sym (pass-table file table share accepted))
+      pub pass-leaves : after ≡ passTable file table share
+      pass-leaves = on .table-is ∙ rw network-is (sym (pass-table file table share accepted))

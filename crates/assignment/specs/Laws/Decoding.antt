@@ -1,19 +1,22 @@
 -- The decoded study describes the file's network, and passes to the judging what questions 1 to 11 say.
-use Prim.Native.Nat.{ℕ, _*_, _<_}
+use Prim.Native.Nat.{ℕ, _*_, _-_, _≤_, _<_}
+use native.Mathlib.Nat.{mul-le-mul}
 use native.Mathlib.Omega.{arith}
-use mathlib.Core.Path.{_≡_, refl, ap}
+use mathlib.Core.Path.{_≡_, refl, sym, _∙_, ap}
 use mathlib.Core.Bool.{true}
 use mathlib.Core.List.{List}
-use lib.ListN.{getD, replicate}
-use Rattle.study.specs.Fields.{freeTime, rise, capacity}
+use lib.ListN.{length, getD, replicate, length-append, length-replicate}
+use Rattle.study.specs.Fields.{trips, freeTime, rise, capacity}
 use Rattle.study.specs.Questions.{refusal}
-use Rattle.study.specs.Sections.{nodes, links, destinations}
+use Rattle.study.specs.Sections.{nodes, links, destinations, tripPart}
 use Rattle.study.specs.Laws.{Accepted, accepted, nodes-refused, links-refused, destinations-refused}
+use Rattle.theory.specs.Finite.{tabulate}
 use Rattle.theory.specs.Network.{totalTrips}
 use Rattle.theory.specs.Moves.{tableSize}
 use Rattle.theory.specs.Laws.Cases.{on-equal}
+use Rattle.theory.specs.Laws.Finite.{length-tabulate, length-rows}
 use Rattle.theory.specs.Laws.Routings.{AllServed}
-use Rattle.calls.specs.Study.{linkFields, networkFrom, networkOf}
+use Rattle.calls.specs.Study.{linkFields, tripEntries, networkFrom, networkOf}
 use Rattle.calls.specs.Questions.{tableHolds, shareQuestions}
 use Rattle.calls.specs.Laws.Questions.{Passed, SharePassed}
 use Rattle.calls.specs.Laws.Networks.{share-range, holds-length, FieldsFit, fields-fit, sound, few-trips}
@@ -23,6 +26,7 @@ use Rattle.network.specs.Laws.Decoding.{getD-padded}
 use Rattle.network.specs.Laws.Answers.{counts as counts-accepted, decoded-network}
 use Rattle.judging.specs.Study.{networkIn, Ready, Judgeable, tableQuestionsIn}
 use Rattle.judging.specs.declared.Decoded.{Decoded}
+use Rattle.judging.specs.Study.{studyOf, ReadyOf}
 use Rattle.assignment.specs.Decoded.{decodedOf}
 
 -- The counts of any file are few, those of a refused one 0.
@@ -87,6 +91,45 @@ network-of file d e = decoded-network (decoded-fields file d e)
 pub network-decoded : (file : List ℕ) → networkIn (decodedOf file) ≡ networkOf file
 network-decoded file = network-of file (decodedOf file) refl
 
+-- The study in the arrays of a decoded study: the total of trips is that of its network.
+abbrev pub studyIn : Decoded → Decoded
+studyIn d =
+    studyOf (d .nodes) (d .links) (d .destinations) (d .tails) (d .heads) (d .«free_times») (d .rises) (d .capacities)
+    (d .«destination_nodes»)
+    (d .trips)
+
+-- That of a decoded file is the decoded file.
+pub study-decoded : (file : List ℕ) (d : Decoded) → d ≡ decodedOf file → studyIn d ≡ decodedOf file
+study-decoded file d e =
+    let fields = decoded-fields file d e in
+    fields-decoded file (studyIn d) fields (ap totalTrips (decoded-network fields))
+
+pub total-decoded : (file : List ℕ) (d : Decoded) → d ≡ decodedOf file → d .«total_trips» ≡ totalTrips (networkIn (studyIn d))
+unfolding decodedOf
+total-decoded file d e =
+    ap (λ x. x .«total_trips») e ∙ ap totalTrips (sym (network-of file (studyIn d) (study-decoded file d e)))
+
+-- Its trips stand in an array of 4,096.
+padded-length : (size : ℕ) (list : List ℕ) → length list ≤ size → length (padded size list) ≡ size
+unfolding padded
+padded-length size list h =
+    omega (arith, length-append list (replicate (size - length list) 0), length-replicate {A = ℕ} (size - length list) 0)
+
+entries-few : (file : List ℕ) → length (tripEntries file) ≤ 4096
+unfolding tripEntries
+entries-few file =
+    let few : Counts file (nodes file) (links file) (destinations file) = counted file refl refl refl in
+    let row : ℕ → List ℕ = λ k. tabulate (nodes file) (trips (tripPart file) (nodes file) k) in
+    omega (
+      arith,
+      length-rows (destinations file) (nodes file) row (λ k h. length-tabulate (nodes file) (trips (tripPart file) (nodes file) k)),
+      mul-le-mul {n₁ = destinations file} {m₁ = nodes file} {n₂ = 32} {m₂ = 128} (few .destinations-most) (few .nodes-most),
+    )
+
+pub trips-long : (file : List ℕ) → length (decodedOf file .trips) ≡ 4096
+unfolding decodedOf
+trips-long file = padded-length 4096 (tripEntries file) (entries-few file)
+
 -- Questions 14 to 16 are the same of both.
 pub questions-decoded : (file table : List ℕ) (share : ℕ) → tableQuestionsIn (decodedOf file) table share ≡ shareQuestions file table share
 unfolding tableQuestionsIn shareQuestions
@@ -120,6 +163,9 @@ module _ (file : List ℕ) (h : Passed file) where
         few-trips = rw (network-decoded file) (few-trips file (h .described));
         total = rw (network-decoded file);
       }
+
+  pub ready-of : ReadyOf (decodedOf file)
+  ready-of = (ready, trips-long file)
 
 -- A table and a share that pass questions 12 and 14 to 16 can be judged.
 pub judgeable : (file table : List ℕ) (share : ℕ) → tableHolds (networkOf file) table ≡ true → SharePassed file table share → Judgeable (decodedOf file) table share

@@ -1,5 +1,5 @@
 -- The turns of a run, and what it answers where it ends.
-use Prim.Native.Nat.{ℕ, pred, _+_, _<_}
+use Prim.Native.Nat.{ℕ, pred, _+_, _*_, _≤_, _<_}
 use native.Mathlib.Numerals.{add-one}
 use native.Mathlib.Omega.{arith}
 use mathlib.Core.Path.{_≡_, refl, sym, _∙_, ap, subst}
@@ -12,6 +12,7 @@ use lib.Seq.{drop-at}
 use lib.Dec.{eqb}
 use borrow.Author.Tests.{eqb-true, eqb-false}
 use Rattle.theory.specs.Network.{Network}
+use Rattle.theory.specs.Flows.{linkTotal}
 use Rattle.theory.specs.Cost.{cost, gap}
 use Rattle.theory.specs.Moves.{Shared, tableSize, started, move, moves, afterMoves, reaches, stops, judged, lastJudged}
 use Rattle.theory.specs.Laws.Finite.{below-suc}
@@ -24,14 +25,19 @@ use Rattle.calls.specs.Laws.Questions.{Passed, check-passed, start-both, run-bo
 use Rattle.calls.specs.Laws.Calls.{run-accepted, run-written}
 use Rattle.calls.specs.Laws.Networks.{budget-range, holds-length, length-holds}
 use Rattle.calls.specs.Laws.Tables.{run-length, run-passes, overwritten-front, overwritten-length, overwritten-passes}
-use Rattle.judging.specs.Study.{networkIn, Ready, Judgeable, moveOf, stepOf, shareAfterStep, tableAfterStep}
+use Rattle.travel.specs.Links.{padded, listCost}
+use Rattle.travel.specs.Ranges.{LinksFit, ShareFits, Within, mostFlow}
+use Rattle.judging.specs.Study.{networkIn, Judgeable, moveOf, stepOf, shareAfterStep, tableAfterStep}
+use Rattle.judging.specs.Laws.Study.{links-fit}
+use Rattle.judging.specs.Laws.Judged.{share-fits, holds, totals-within, cost-is}
 use Rattle.judging.specs.declared.Decoded.{Decoded}
 use Rattle.judging.specs.declared.Step.{Step}
 use Rattle.judging.specs.declared.Step.the-variants as step
+use Rattle.judging.specs.Study.{ReadyOf, JudgeableOf}
 use Rattle.assignment.specs.Decoded.{decodedOf}
 use Rattle.assignment.specs.Answers.{endingOf, endedAnswer}
 use Rattle.assignment.specs.Runs.{Running, Begun, Ran}
-use Rattle.assignment.specs.Laws.Decoding.{network-decoded, network-of, ready, judgeable}
+use Rattle.assignment.specs.Laws.Decoding.{network-decoded, network-of, ready-of, judgeable}
 
 -- What the definitions read of a table that stands in the first numbers of a lent one.
 module _ (file before : List ℕ) (study : Passed file) (i : ℕ) where
@@ -234,17 +240,39 @@ step-stays step.Finest table next stays = refl
 step-stays step.Spent table next stays = refl
 step-stays step.Moved table next stays = absurd (stays refl)
 
+-- What the cost of a table asks, and that it is the definition's.
+module _ {d : Decoded} {table : List ℕ} {share : ℕ} (known : JudgeableOf d table share) where
+  pub cost-asks :
+      LinksFit (d .links) (d .«free_times») (d .rises) (d .capacities)
+      × ShareFits share
+      × (d .destinations ≤ 32)
+      × (d .destinations * d .links ≤ length table)
+  cost-asks =
+      let study = known .0 .0 in
+      (links-fit study, share-fits study (known .1), study .few-destinations, holds study (known .1))
+
+  pub cost-within : Within (d .links) mostFlow (padded (d .links) (linkTotal (d .destinations) (d .links) table))
+  cost-within = totals-within (known .0 .0) (known .1) refl
+
+  pub cost-of :
+      listCost (d .links) (d .«free_times») (d .rises) (d .capacities) share
+      (padded (d .links) (linkTotal (d .destinations) (d .links) table))
+      ≡ cost (networkIn d) share table
+  cost-of = cost-is (known .0 .0) (known .1) refl
+
 -- The turns of an accepted run, over the decoded file.
-pub begun-ready : (file before : List ℕ) (budget : ℕ) (d : Decoded) (start : List ℕ) → Begun file before budget d start → Ready d
-begun-ready file before budget d start begun = rw (begun .decoded) (ready file (run-study file before budget 0 (begun .accepted)))
+pub begun-ready : (file before : List ℕ) (budget : ℕ) (d : Decoded) (start : List ℕ) → Begun file before budget d start → ReadyOf d
+begun-ready file before budget d start begun = rw (begun .decoded) (ready-of file (run-study file before budget 0 (begun .accepted)))
 
 module _ (file before : List ℕ) (budget excess : ℕ) (d : Decoded) (start : List ℕ) (begun : Begun file before budget d start) where
   pub begun-running : Running file before budget excess 0 start 1
   begun-running = rw (begun .started) (run-begins file before budget excess (begun .accepted))
 
   module _ (i : ℕ) (table : List ℕ) (share : ℕ) (running : Running file before budget excess i table share) where
-    pub turn-judgeable : Judgeable d table share
-    turn-judgeable = rw (begun .decoded) (running-judgeable file before budget excess (begun .accepted) i table share running)
+    pub turn-judgeable : JudgeableOf d table share
+    turn-judgeable =
+        let known = running-judgeable file before budget excess (begun .accepted) i table share running in
+        (begun-ready file before budget d start begun, rw (begun .decoded) known)
 
     -- What a turn's step, share and table afterwards are.
     module _ (last : Step) (after : List ℕ) (taken : last ≡ stepOf d table share excess (eqb (i + 1) budget))
@@ -265,17 +293,18 @@ module _ (file before : List ℕ) (budget excess : ℕ) (d : Decoded) (start : L
         end : Ended file before budget excess i last
         end = running-ends file before budget excess (begun .accepted) i table share running last step-is stays
 
-        pub turn-left : Judgeable d after share
+        pub turn-left : JudgeableOf d after share
         turn-left = rw same turn-judgeable
 
-        pub turn-ends : (gap′ : ℕ) (answer : RunAnswer) → gap′ ≡ gap (networkIn d) share table
-            → answer ≡ endedAnswer last (i + 1) share gap′ (cost (networkIn d) share after)
+        pub turn-ends : (gap′ cost′ : ℕ) (answer : RunAnswer) → gap′ ≡ gap (networkIn d) share table
+            → cost′ ≡ cost (networkIn d) share after
+            → answer ≡ endedAnswer last (i + 1) share gap′ cost′
             → Ran file before budget excess answer after
-        turn-ends gap′ answer judged-gap e =
+        turn-ends gap′ cost′ answer judged-gap judged-cost e =
             record {
               answers =
                   e
-                  ∙ rw (judged-gap, same, network-of file d (begun .decoded))
+                  ∙ rw (judged-gap, judged-cost, same, network-of file d (begun .decoded))
                   (sym (ended-answer file before budget excess (begun .accepted) i table share running last end));
               leaves = same ∙ sym (ended-table file before budget excess (begun .accepted) i table share running last end);
             }

@@ -27,13 +27,13 @@ use Rattle.travel.specs.Ranges.{Within, ShareFits, TimesFit, MoveFits, mostFlow
 use Rattle.travel.specs.Laws.Padded.{getD-padded, getD-padded-rest}
 use Rattle.judging.specs.declared.Decoded.{Decoded}
 use Rattle.judging.specs.Study.{networkIn, Ready, Judgeable, moveOf}
-use Rattle.judging.specs.Loading.{loadingAlong}
+use Rattle.judging.specs.Loading.{loadingAlong, volumeRows}
 use Rattle.judging.specs.Moves.{canMove, moveAlong, Movable}
-use Rattle.judging.specs.Judged.{Computed, GapFits}
+use Rattle.judging.specs.Judged.{Known, KnownOf, GapFits}
 use Rattle.judging.specs.Laws.Study.{holds-rows, links-fit}
 use Rattle.judging.specs.Laws.Tables.{number-most}
 use Rattle.judging.specs.Laws.Moves.{moves-by}
-use Rattle.judging.specs.Laws.Routes.{TimesIn, timed, served, loading-is, load-most, followable-all}
+use Rattle.judging.specs.Laws.Routes.{TimesIn, timed, served, loading-is, load-most, next-links}
 
 -- The choice of j goes by the flows of the links, their capacities and their times.
 chosen-roads :
@@ -48,6 +48,13 @@ chosen-roads d share s y s′ y′ same-s same-y =
   where
     time : ℕ → ℕ → ℕ → ℕ
     time j l flow = stepTime (getD (d .«free_times») l 0) (getD (d .rises) l 0) (step (getD (d .capacities) l 0) (share + j) flow)
+
+-- What is known of a table's totals is known where they stand in an array.
+pub known-at :
+    {d : Decoded} (table : List ℕ) {share : ℕ} {totals times : List ℕ} {nexts volumes : List (List ℕ)} {loads : List ℕ} →
+    totals ≡ padded (d .links) (linkTotal (d .destinations) (d .links) table) → KnownOf d table share times nexts volumes loads →
+    Known d totals share times nexts volumes loads
+known-at table e known = rw e known
 
 module _ {d : Decoded} {table : List ℕ} {share : ℕ} (ready : Ready d) (judgeable : Judgeable d table share) where
   -- The times of the table, in link order.
@@ -108,16 +115,18 @@ module _ {d : Decoded} {table : List ℕ} {share : ℕ} (ready : Ready d) (judge
           ∙ getD-padded-rest (d .links) _ l h
           ∙ sym (List·getD-eq-default exact 0 (omega (arith, length-times (networkIn d) share table)))
 
-      pub times-in : TimesIn d times′ exact
+      times-in : TimesIn d times′ exact
       times-in = record { fit = fit; same = λ l. ⊎-elim (time-at l) (time-past l) (order l (d .links)) }
 
   -- All that is computed of the table stands in arrays.
-  module _ {totals times′ : List ℕ} {nexts : List (List ℕ)} {loads : List ℕ} (c : Computed d table share totals times′ nexts loads) where
+  module _ {totals times′ : List ℕ} {nexts volumes : List (List ℕ)} {loads : List ℕ}
+      (totals-are : totals ≡ padded (d .links) (linkTotal (d .destinations) (d .links) table))
+      (c : Known d totals share times′ nexts volumes loads) where
     abbrev y : List ℕ
     y = loadingAlong (d .nodes) (d .links) (d .destinations) (d .heads) (d .trips) nexts
 
     t : TimesIn d times′ exact
-    t = times-in (c .totals-are) (c .times-are) (c .times-fit)
+    t = times-in totals-are (c .times-are) (c .times-fit)
 
     y-is : y ≡ loading (networkIn d) exact
     y-is = loading-is ready t (c .nexts-are)
@@ -134,7 +143,7 @@ module _ {d : Decoded} {table : List ℕ} {share : ℕ} (ready : Ready d) (judge
 
     spent-is : listProduct (d .links) times′ totals ≡ spentTimes (networkIn d) exact table
     unfolding listProduct spentTimes networkIn networkFrom
-    spent-is = sum-cong (d .links) _ _ (λ l h. ap₂ (λ a b. a * b) (t .same l) (total-at (c .totals-are) l h))
+    spent-is = sum-cong (d .links) _ _ (λ l h. ap₂ (λ a b. a * b) (t .same l) (total-at totals-are l h))
 
     least-is : listProduct (d .links) times′ loads ≡ leastTimes (networkIn d) exact
     unfolding listProduct spentTimes networkIn networkFrom
@@ -153,7 +162,7 @@ module _ {d : Decoded} {table : List ℕ} {share : ℕ} (ready : Ready d) (judge
         record {
           few-links = ready .few-links;
           times-fit = c .times-fit .times-fit;
-          totals-fit = totals-within (c .totals-are);
+          totals-fit = totals-within totals-are;
           loads-fit = λ l h. omega (arith, loads-within l h);
           least =
               let exactly =
@@ -165,7 +174,7 @@ module _ {d : Decoded} {table : List ℕ} {share : ℕ} (ready : Ready d) (judge
     -- The choice of j,
     pub move-fits : MoveFits (d .links) (d .«free_times») (d .rises) (d .capacities) totals loads share
     move-fits =
-        record { links = links-fit ready; shared = share-fits; flows = flows-within (c .totals-are); loaded = loads-within }
+        record { links = links-fit ready; shared = share-fits; flows = flows-within totals-are; loaded = loads-within }
 
     abbrev Chosen : ℕ → Type 0
     Chosen j =
@@ -173,27 +182,32 @@ module _ {d : Decoded} {table : List ℕ} {share : ℕ} (ready : Ready d) (judge
 
     step-is : {j : ℕ} → Chosen j → j ≡ chosenOf (networkIn d) (record { table = table; share = share })
     unfolding networkIn networkFrom
-    step-is e = e ∙ chosen-roads d share _ _ _ _ (total-at (c .totals-are)) load-is
+    step-is e = e ∙ chosen-roads d share _ _ _ _ (total-at totals-are) load-is
 
     module _ {j : ℕ} (j-is : Chosen j) where
       -- and the move.
-      pub movable : length (d .trips) ≡ 4096 →
-          Movable (d .nodes) (d .links) (d .destinations) (d .heads) (d .trips) nexts share j table
+      pub movable : length (d .trips) ≡ 4096 → Movable (d .nodes) (d .links) (d .destinations) nexts volumes share j table
       movable long =
           let most = chosen-le (networkIn d) share (total (networkIn d) table) (total (networkIn d) (loading (networkIn d) exact)) in
           let chose = step-is j-is in
           record {
-            followable = followable-all ready t (c .nexts-are) long;
+            few-nodes = ready .few-nodes;
+            few-links = ready .few-links;
+            few-destinations = ready .few-destinations;
+            next-link = next-links ready t (c .nexts-are) long;
             small-step = omega arith;
             small-share = omega (arith, judgeable .share-most);
             holds = holds;
             flows = number-most (d .destinations) (d .links) table (share * 65535) total-most;
+            loads = λ i h. rw (c .volumes-are) (number-most (d .destinations) (d .links) y 65535 (load-most ready t (c .nexts-are)) i h);
           }
 
-      pub move-is : moveAlong (d .destinations * d .links) share j y table ≡ moveOf d table share
+      pub move-is :
+          moveAlong (d .destinations * d .links) share j (volumeRows (d .nodes) (d .links) (d .destinations) nexts volumes) table
+          ≡ moveOf d table share
       unfolding added doubled networkIn networkFrom
       move-is =
-          ap₂ (λ j y. moveBy share j (added (networkIn d) table j y) (doubled (networkIn d) table)) (step-is j-is) y-is
+          ap₂ (λ j y. moveBy share j (added (networkIn d) table j y) (doubled (networkIn d) table)) (step-is j-is) (c .volumes-are ∙ y-is)
           ∙ sym (move-by (networkIn d) (record { table = table; share = share }))
 
       -- There is a move exactly where the code says so.

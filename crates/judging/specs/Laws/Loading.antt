@@ -1,30 +1,41 @@
--- The loading that next links give: its entries, its totals, and a table that it is added to, destination by destination.
-use Prim.Native.Nat.{ℕ, _+_, _*_, _-_, _≤_, _<_, _^_}
-use native.Mathlib.Nat.{le-of-lt, mul-le-mul, mul-le-mul-right}
+-- The loading that next links give: its entries, its totals, its volumes by destination and node, and a table that it is added to,
+-- destination by destination.
+use Prim.Native.Nat.{ℕ, _+_, _*_, _-_, _≤_, _<_}
+use native.Mathlib.Nat.{le-of-lt, mul-le-mul-right}
 use native.Mathlib.Omega.{arith}
 use mathlib.Core.Path.{_≡_, refl, sym, _∙_, ap}
 use mathlib.Core.List.{List, []}
 use mathlib.Core.Logic.{⊎-elim}
 use lib.Arith.{digits-lt}
-use lib.ListN.{length, getD}
+use lib.ListN.{length, getD, set, length-set}
+use lib.Seq.{getD-set-same, getD-set-other}
 use Rattle.theory.specs.Finite.{tabulate}
 use Rattle.theory.specs.Flows.{linkTotal}
 use Rattle.theory.specs.Routes.{occurrences}
-use Rattle.theory.specs.Laws.Finite.{order, sum-cong, sum-more, length-tabulate, getD-tabulate, length-rows, getD-rows}
+use Rattle.theory.specs.Laws.Cases.{on-equal}
+use Rattle.theory.specs.Laws.Finite.{order, sum-cong, sum-more, length-tabulate, getD-tabulate, tabulate-cong, length-rows, getD-rows}
 use Rattle.travel.specs.Links.{padded}
 use Rattle.travel.specs.Laws.Padded.{length-padded, getD-padded, getD-padded-rest, padded-is, padded-cong}
 use Rattle.travel.specs.Laws.Totals.{linkTotal-more}
-use Rattle.routes.specs.Along.{walkAlong, flowAlong, sentAlong, loadedAlong, Loadable}
-use Rattle.judging.specs.Loading.{rowAlong, loadingAlong, front, addedRows, AllFollowable, AllAddable}
+use Rattle.routes.specs.Along.{walkAlong, flowAlong, sentAlong, loadedAlong, volumeOver, scattered, Sendable, Scatterable}
+use Rattle.judging.specs.Loading.{rowAlong, loadingAlong, volumeRows, front, addedRows, AllFollowable, Addable}
 use Rattle.judging.specs.Laws.Front.{front-at, front-past, length-front, front-is, front-none}
 use Rattle.judging.specs.Laws.Parts.{part, replaced, row-within, part-at, length-part, length-replaced, replaced-before, replaced-within, replaced-past}
+use Rattle.judging.specs.Laws.Tables.{rows-cong}
 
--- A loaded row is a row with its first numbers replaced.
+-- A loaded row is a row with its first numbers replaced,
 pub loaded-front :
     (n m : ℕ) (heads next : List ℕ) (trips : ℕ → ℕ) (weight : ℕ) (row : List ℕ) →
     loadedAlong n m heads next trips weight row ≡ front m (λ l. getD row l 0 + weight * flowAlong n heads next trips n l) row
 unfolding sentAlong front
 loaded-front n m heads next trips weight row = refl
+
+-- and so is a row that volumes are added to.
+scattered-front :
+    (n m : ℕ) (next volumes : List ℕ) (weight : ℕ) (row : List ℕ) →
+    scattered n m next volumes weight row ≡ front m (λ l. getD row l 0 + weight * volumeOver n next volumes l) row
+unfolding scattered front
+scattered-front n m next volumes weight row = refl
 
 module _ (n m p : ℕ) (heads trips : List ℕ) (nexts : List (List ℕ)) where
   -- The loading has a number for each destination and link,
@@ -40,10 +51,60 @@ module _ (n m p : ℕ) (heads trips : List ℕ) (nexts : List (List ℕ)) where
       ∙ getD-tabulate m (rowAlong n heads trips nexts k) 0 l b
 
   -- The destination's trips are a part of all.
-  flow-part : (k l : ℕ) → flowAlong n heads (getD nexts k []) (λ j. getD (part trips (k * n) n) j 0) n l ≡ rowAlong n heads trips nexts k l
+  pub flow-part : (k l : ℕ) → flowAlong n heads (getD nexts k []) (λ j. getD (part trips (k * n) n) j 0) n l ≡ rowAlong n heads trips nexts k l
   unfolding flowAlong rowAlong
   flow-part k l =
       sum-cong n _ _ (λ j h. ap (λ x. x * occurrences l (walkAlong heads (getD nexts k []) n j)) (part-at trips (k * n) n j h))
+
+-- The loading that volumes give has the same places.
+module _ (n m p : ℕ) (nexts volumes : List (List ℕ)) where
+  abbrev over : ℕ → ℕ → ℕ
+  over k = volumeOver n (getD nexts k []) (getD volumes k [])
+
+  pub length-volumes : length (volumeRows n m p nexts volumes) ≡ p * m
+  unfolding volumeRows
+  length-volumes = length-rows p m _ (λ k h. length-tabulate m (over k))
+
+  pub entry-volumes : (k l : ℕ) → k < p → l < m →
+      getD (volumeRows n m p nexts volumes) (k * m + l) 0 ≡ volumeOver n (getD nexts k []) (getD volumes k []) l
+  unfolding volumeRows
+  entry-volumes k l h b =
+      getD-rows p m (λ k. tabulate m (over k)) (λ k h. length-tabulate m (over k)) 0 k l h b ∙ getD-tabulate m (over k) 0 l b
+
+-- Volumes of which the first k rows give the loading of their destinations.
+pub record LoadedRows (n m k : ℕ) (heads trips : List ℕ) (nexts volumes : List (List ℕ)) : Type 0 where
+  pub size : length volumes ≡ 32
+  pub over : (i l : ℕ) → i < k → l < m → volumeOver n (getD nexts i []) (getD volumes i []) l ≡ rowAlong n heads trips nexts i l
+
+-- There are none at first,
+pub loaded-none : {n m : ℕ} {heads trips : List ℕ} {nexts volumes : List (List ℕ)} → length volumes ≡ 32 → LoadedRows n m 0 heads trips nexts volumes
+loaded-none long = record { size = long; over = λ i l h b. absurd (omega arith) }
+
+-- then one more,
+pub loaded-more :
+    {n m k : ℕ} {heads trips : List ℕ} {nexts volumes : List (List ℕ)} → LoadedRows n m k heads trips nexts volumes → k < 32 →
+    (row : List ℕ) → ((l : ℕ) → l < m → volumeOver n (getD nexts k []) row l ≡ rowAlong n heads trips nexts k l) →
+    LoadedRows n m (k + 1) heads trips nexts (set volumes k row)
+loaded-more {n} {k} {nexts} {volumes} w h row gives =
+    record {
+      size = length-set volumes k row ∙ w .size;
+      over = λ i l b c.
+          on-equal i k
+          (λ e.
+          rw e
+          (ap (λ xs. volumeOver n (getD nexts k []) xs l) (getD-set-same volumes k row [] (omega (arith, w .size)))
+          ∙ gives l c))
+          (λ away.
+          ap (λ xs. volumeOver n (getD nexts i []) xs l) (getD-set-other volumes k i row [] away)
+          ∙ w .over i l (omega arith) c);
+    }
+
+-- and in the end all.
+pub loaded-all :
+    {n m p : ℕ} {heads trips : List ℕ} {nexts volumes : List (List ℕ)} → LoadedRows n m p heads trips nexts volumes →
+    volumeRows n m p nexts volumes ≡ loadingAlong n m p heads trips nexts
+unfolding volumeRows loadingAlong
+loaded-all {m} {p} w = rows-cong p _ _ (λ k h. tabulate-cong m _ _ (λ l b. w .over k l h b))
 
 module _ {n m p : ℕ} {heads trips : List ℕ} {nexts : List (List ℕ)} (w : AllFollowable n m p heads trips nexts) {k : ℕ} (h : k < p) where
   abbrev y : List ℕ
@@ -55,12 +116,14 @@ module _ {n m p : ℕ} {heads trips : List ℕ} {nexts : List (List ℕ)} (w : A
   abbrev sent : ℕ → ℕ
   sent j = getD (part trips (k * n) n) j 0
 
-  -- The trips to destination k stand within all.
+  -- The trips to destination k stand within all,
   pub trips-within : k * n + n ≤ length trips
   trips-within = omega (arith, row-within n h, w .has-trips)
 
-  length-sent : length (part trips (k * n) n) ≡ n
-  length-sent = length-part trips (k * n) n trips-within
+  -- and can be sent along its next links.
+  pub row-sendable : Sendable n m heads next (part trips (k * n) n)
+  row-sendable =
+      record { followable = w .followable k h; has-trips = omega (arith, length-part trips (k * n) n trips-within) }
 
   total-so-far : (l : ℕ) → l < m → linkTotal k m y l + rowAlong n heads trips nexts k l ≤ 65535
   unfolding linkTotal
@@ -69,38 +132,43 @@ module _ {n m p : ℕ} {heads trips : List ℕ} {nexts : List (List ℕ)} (w : A
       let all = sum-more (k + 1) p (λ k. getD y (k * m + l) 0) (omega arith) in
       omega (arith, entry-along n m p heads trips nexts k l h b, w .small-totals l b)
 
-  -- What destination k sends can be added to the totals of those before it,
-  pub totals-loadable :
-      ((i : ℕ) → getD trips i 0 < 2 ^ 16) → {sums : List ℕ} → sums ≡ padded m (linkTotal k m y) →
-      Loadable n m heads next (part trips (k * n) n) 1 sums
-  totals-loadable small {sums} e =
-      record {
-        followable = w .followable k h;
-        has-links = omega (arith, w .few-links, ap length e, length-padded m (linkTotal k m y) (w .few-links));
-        has-trips = omega (arith, length-sent);
-        amount-fits = λ j b. omega (arith, part-at trips (k * n) n j b, small (k * n + j));
-        fits = λ l b.
-            let so-far : getD sums l 0 ≡ linkTotal k m y l = ap (λ xs. getD xs l 0) e ∙ getD-padded m (linkTotal k m y) l b in
-            omega (arith, total-so-far l b, flow-part n m p heads trips nexts k l);
-      }
+  -- Volumes by which its trips go over the links give its row of the loading.
+  pub row-over :
+      (row : List ℕ) → ((l : ℕ) → l < m → volumeOver n next row l ≡ flowAlong n heads next sent n l) →
+      (l : ℕ) → l < m → volumeOver n next row l ≡ rowAlong n heads trips nexts k l
+  row-over row flows l b = flows l b ∙ flow-part n m p heads trips nexts k l
 
-  -- and gives the totals of one destination more.
-  pub totals-more :
-      {sums sums′ : List ℕ} → sums ≡ padded m (linkTotal k m y) → sums′ ≡ loadedAlong n m heads next sent 1 sums →
-      sums′ ≡ padded m (linkTotal (k + 1) m y)
-  totals-more {sums} {sums′} e f =
-      padded-is m (linkTotal (k + 1) m y) sums′ (w .few-links) (ap length is-front ∙ length-front m _ sums (omega (arith, long, w .few-links)) ∙ long)
-      (λ l b.
-      let so-far : getD sums l 0 ≡ linkTotal k m y l = ap (λ xs. getD xs l 0) e ∙ getD-padded m (linkTotal k m y) l b in
-      let now-there = ap (λ xs. getD xs l 0) is-front ∙ front-at m _ sums l b in
-      omega (arith, linkTotal-more m y l k, entry-along n m p heads trips nexts k l h b, flow-part n m p heads trips nexts k l))
-      (λ l b. ap (λ xs. getD xs l 0) is-front ∙ front-past m _ sums l b ∙ ap (λ xs. getD xs l 0) e ∙ getD-padded-rest m (linkTotal k m y) l b)
-    where
-      long : length sums ≡ 512
-      long = ap length e ∙ length-padded m (linkTotal k m y) (w .few-links)
+  -- Such volumes, with the totals of the destinations before it,
+  module _ (row : List ℕ) (gives : (l : ℕ) → l < m → volumeOver n next row l ≡ rowAlong n heads trips nexts k l)
+      {sums : List ℕ} (e : sums ≡ padded m (linkTotal k m y)) where
+    sums-long : length sums ≡ 512
+    sums-long = ap length e ∙ length-padded m (linkTotal k m y) (w .few-links)
 
-      is-front : sums′ ≡ front m (λ l. getD sums l 0 + 1 * flowAlong n heads next sent n l) sums
-      is-front = f ∙ loaded-front n m heads next sent 1 sums
+    so-far : (l : ℕ) → l < m → getD sums l 0 ≡ linkTotal k m y l
+    so-far l b = ap (λ xs. getD xs l 0) e ∙ getD-padded m (linkTotal k m y) l b
+
+    -- can be added to them,
+    pub totals-scatterable : Scatterable n m next row 1 sums
+    totals-scatterable =
+        record {
+          few-nodes = w .few-nodes;
+          few-links = w .few-links;
+          next-link = w .followable k h .next-link;
+          has-links = omega (arith, w .few-links, sums-long);
+          fits = λ l b. omega (arith, so-far l b, total-so-far l b, gives l b);
+        }
+
+    -- and give the totals of one destination more.
+    pub totals-more : {sums′ : List ℕ} → sums′ ≡ scattered n m next row 1 sums → sums′ ≡ padded m (linkTotal (k + 1) m y)
+    totals-more {sums′} f =
+        padded-is m (linkTotal (k + 1) m y) sums′ (w .few-links) (ap length is-front ∙ length-front m _ sums (omega (arith, sums-long, w .few-links)) ∙ sums-long)
+        (λ l b.
+        let now-there = ap (λ xs. getD xs l 0) is-front ∙ front-at m _ sums l b in
+        omega (arith, so-far l b, linkTotal-more m y l k, entry-along n m p heads trips nexts k l h b, gives l b))
+        (λ l b. ap (λ xs. getD xs l 0) is-front ∙ front-past m _ sums l b ∙ ap (λ xs. getD xs l 0) e ∙ getD-padded-rest m (linkTotal k m y) l b)
+      where
+        is-front : sums′ ≡ front m (λ l. getD sums l 0 + 1 * volumeOver n next row l) sums
+        is-front = f ∙ scattered-front n m next row 1 sums
 
 -- The totals of all destinations, in numbers of another width.
 pub totals-widened : (m : ℕ) (f : ℕ → ℕ) {sums : List ℕ} → m ≤ 512 → sums ≡ padded m f → padded m (λ l. getD sums l 0) ≡ padded m f
@@ -116,19 +184,19 @@ rows-none m weight loads table =
 
 -- which keeps its length,
 pub rows-length :
-    {n m p : ℕ} {heads trips : List ℕ} {nexts : List (List ℕ)} {weight : ℕ} {table : List ℕ} →
-    AllAddable n m p heads trips nexts weight table → {k : ℕ} → k ≤ p → {now : List ℕ} →
-    now ≡ addedRows (k * m) weight (loadingAlong n m p heads trips nexts) table → length now ≡ length table
+    {n m p : ℕ} {nexts volumes : List (List ℕ)} {weight : ℕ} {table : List ℕ} →
+    Addable n m p nexts volumes weight table → {k : ℕ} → k ≤ p → {now : List ℕ} →
+    now ≡ addedRows (k * m) weight (volumeRows n m p nexts volumes) table → length now ≡ length table
 unfolding addedRows
 rows-length {m} {p} {table} w {k} h e =
     let size = mul-le-mul-right m h in ap length e ∙ length-front (k * m) _ table (omega (arith, w .holds))
 
 -- then row by row.
-module _ {n m p : ℕ} {heads trips : List ℕ} {nexts : List (List ℕ)} {weight : ℕ} {table : List ℕ}
-    (w : AllAddable n m p heads trips nexts weight table) {k : ℕ} (h : k < p) {now : List ℕ}
-    (e : now ≡ addedRows (k * m) weight (loadingAlong n m p heads trips nexts) table) where
+module _ {n m p : ℕ} {nexts volumes : List (List ℕ)} {weight : ℕ} {table : List ℕ}
+    (w : Addable n m p nexts volumes weight table) {k : ℕ} (h : k < p) {now : List ℕ}
+    (e : now ≡ addedRows (k * m) weight (volumeRows n m p nexts volumes) table) where
   abbrev more : ℕ → ℕ
-  more i = getD table i 0 + weight * getD (loadingAlong n m p heads trips nexts) i 0
+  more i = getD table i 0 + weight * getD (volumeRows n m p nexts volumes) i 0
 
   -- Row k of the table stands within it,
   long : length now ≡ length table
@@ -146,32 +214,27 @@ module _ {n m p : ℕ} {heads trips : List ℕ} {nexts : List (List ℕ)} {weigh
   row-kept l b =
       part-at now (k * m) m l b ∙ ap (λ xs. getD xs (k * m + l) 0) e ∙ front-past (k * m) more table (k * m + l) (omega arith)
 
-  row-more : (l : ℕ) → l < m →
-      getD (part now (k * m) m) l 0 + weight * flowAlong n heads (getD nexts k []) (λ j. getD (part trips (k * n) n) j 0) n l
-      ≡ more (k * m + l)
-  row-more l b =
-      let flow = flow-part n m p heads trips nexts k l ∙ sym (entry-along n m p heads trips nexts k l h b) in
-      omega (arith, row-kept l b, ap (λ x. weight * x) flow)
+  abbrev over-link : ℕ → ℕ
+  over-link l = volumeOver n (getD nexts k []) (getD volumes k []) l
+
+  row-more : (l : ℕ) → l < m → getD (part now (k * m) m) l 0 + weight * over-link l ≡ more (k * m + l)
+  row-more l b = omega (arith, row-kept l b, ap (λ x. weight * x) (entry-volumes n m p nexts volumes k l h b))
 
   -- Its loading can be added to it,
-  pub row-loadable :
-      ((i : ℕ) → getD trips i 0 < 2 ^ 16) → Loadable n m heads (getD nexts k []) (part trips (k * n) n) weight (part now (k * m) m)
-  row-loadable small =
+  pub row-scatterable : Scatterable n m (getD nexts k []) (getD volumes k []) weight (part now (k * m) m)
+  row-scatterable =
       record {
-        followable = w .followable .followable k h;
+        few-nodes = w .few-nodes;
+        few-links = w .few-links;
+        next-link = λ j b. w .next-link k j h b;
         has-links = omega (arith, length-row);
-        has-trips = omega (arith, length-part trips (k * n) n (trips-within (w .followable) h));
-        amount-fits = λ j b.
-            let few : getD (part trips (k * n) n) j 0 ≤ 65535 = omega (arith, part-at trips (k * n) n j b, small (k * n + j)) in
-            let most = mul-le-mul {n₂ = 64} {m₂ = 65535} (w .small-weight) few in
-            omega arith;
         fits = λ l b. omega (arith, row-more l b, w .fits (k * m + l) (digits-lt {q = k} {m = p} {r = l} {c = m} h b));
       }
 
   -- and gives the table of one row more.
   pub rows-more :
-      {row : List ℕ} → row ≡ loadedAlong n m heads (getD nexts k []) (λ j. getD (part trips (k * n) n) j 0) weight (part now (k * m) m) →
-      replaced now (k * m) m row ≡ addedRows ((k + 1) * m) weight (loadingAlong n m p heads trips nexts) table
+      {row : List ℕ} → row ≡ scattered n m (getD nexts k []) (getD volumes k []) weight (part now (k * m) m) →
+      replaced now (k * m) m row ≡ addedRows ((k + 1) * m) weight (volumeRows n m p nexts volumes) table
   unfolding addedRows
   rows-more {row} f =
       front-is ((k + 1) * m) more table (omega (arith, row-within m h, w .holds)) (replaced now (k * m) m row)
@@ -182,8 +245,8 @@ module _ {n m p : ℕ} {heads trips : List ℕ} {nexts : List (List ℕ)} {weigh
       ∙ ap (λ xs. getD xs i 0) e
       ∙ front-past (k * m) more table i (omega arith))
     where
-      is-front : row ≡ front m (λ l. getD (part now (k * m) m) l 0 + weight * flowAlong n heads (getD nexts k []) (λ j. getD (part trips (k * n) n) j 0) n l) (part now (k * m) m)
-      is-front = f ∙ loaded-front n m heads (getD nexts k []) (λ j. getD (part trips (k * n) n) j 0) weight (part now (k * m) m)
+      is-front : row ≡ front m (λ l. getD (part now (k * m) m) l 0 + weight * over-link l) (part now (k * m) m)
+      is-front = f ∙ scattered-front n m (getD nexts k []) (getD volumes k []) weight (part now (k * m) m)
 
       row-long : length row ≡ m
       row-long = ap length is-front ∙ length-front m _ (part now (k * m) m) (omega (arith, length-row)) ∙ length-row

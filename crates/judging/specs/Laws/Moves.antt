@@ -14,9 +14,8 @@ use Rattle.theory.specs.Moves.{moves}
 use Rattle.theory.specs.Laws.Local.{moveBy}
 use Rattle.theory.specs.Laws.Finite.{order}
 use Rattle.calls.specs.Calls.{shareAfter, tableAfter}
-use Rattle.judging.specs.Loading.{loadingAlong, front, addedRows, AllAddable}
+use Rattle.judging.specs.Loading.{volumeRows, front, addedRows, Addable}
 use Rattle.judging.specs.Moves.{canMove, moveAlong, Movable}
-use Rattle.judging.specs.Laws.Tables.{number-most}
 use Rattle.judging.specs.Laws.Front.{overwritten-front}
 
 module _ (share j : ℕ) (more double : List ℕ) where
@@ -64,7 +63,7 @@ module _ (size share j : ℕ) (y table : List ℕ) where
       let e = by-adds share j _ _ h in
       (sym (ap (shareAfter share) e), sym (ap (tableAfter table) e ∙ overwritten-front size _ table))
 
-  doubles : j ≤ 0 → 2 * share ≤ 1024 → Moved (2 * share) (front size (λ i. 2 * getD table i 0) table)
+  pub doubles : j ≤ 0 → 2 * share ≤ 1024 → Moved (2 * share) (front size (λ i. 2 * getD table i 0) table)
   doubles h b =
       let e = by-doubles share j _ _ h b in
       (sym (ap (shareAfter share) e), sym (ap (tableAfter table) e ∙ overwritten-front size _ table))
@@ -73,18 +72,19 @@ module _ (size share j : ℕ) (y table : List ℕ) where
   rests h b = let e = by-rests share j _ _ h b in (sym (ap (shareAfter share) e), sym (ap (tableAfter table) e))
 
 -- A table that may be moved: j·Y can be added to it,
-module _ {n m p : ℕ} {heads trips : List ℕ} {nexts : List (List ℕ)} {share j : ℕ} {table : List ℕ}
-    (w : Movable n m p heads trips nexts share j table) where
-  pub movable-adds : AllAddable n m p heads trips nexts j table
+module _ {n m p : ℕ} {nexts volumes : List (List ℕ)} {share j : ℕ} {table : List ℕ}
+    (w : Movable n m p nexts volumes share j table) where
+  pub movable-adds : Addable n m p nexts volumes j table
   movable-adds =
       record {
-        followable = w .followable;
-        small-weight = w .small-step;
+        few-nodes = w .few-nodes;
+        few-links = w .few-links;
+        few-destinations = w .few-destinations;
+        next-link = w .next-link;
         holds = w .holds;
         fits = λ i h.
-            let load = number-most p m (loadingAlong n m p heads trips nexts) 65535 (w .followable .small-totals) i h in
             let shares = mul-le-mul-right 65535 (w .small-share) in
-            omega (arith, w .flows i h, mul-le-mul-left j load);
+            omega (arith, w .flows i h, mul-le-mul-left j (w .loads i h));
       }
 
   -- and it can be doubled where 2W is at most 1,024.
@@ -92,14 +92,14 @@ module _ {n m p : ℕ} {heads trips : List ℕ} {nexts : List (List ℕ)} {share
   movable-doubles b i h = omega (arith, w .flows i h)
 
   pub moved-adds :
-      0 < j → {table′ : List ℕ} → table′ ≡ addedRows (p * m) j (loadingAlong n m p heads trips nexts) table →
-      Moved (p * m) share j (loadingAlong n m p heads trips nexts) table (share + j) table′
-  moved-adds h e = let r = adds (p * m) share j (loadingAlong n m p heads trips nexts) table h in (r .0, e ∙ r .1)
+      0 < j → {table′ : List ℕ} → table′ ≡ addedRows (p * m) j (volumeRows n m p nexts volumes) table →
+      Moved (p * m) share j (volumeRows n m p nexts volumes) table (share + j) table′
+  moved-adds h e = let r = adds (p * m) share j (volumeRows n m p nexts volumes) table h in (r .0, e ∙ r .1)
 
   pub moved-doubles :
       j ≤ 0 → 2 * share ≤ 1024 → {table′ : List ℕ} → table′ ≡ front (p * m) (λ i. 2 * getD table i 0) table →
-      Moved (p * m) share j (loadingAlong n m p heads trips nexts) table (2 * share) table′
-  moved-doubles h b e = let r = doubles (p * m) share j (loadingAlong n m p heads trips nexts) table h b in (r .0, e ∙ r .1)
+      Moved (p * m) share j (volumeRows n m p nexts volumes) table (2 * share) table′
+  moved-doubles h b e = let r = doubles (p * m) share j (volumeRows n m p nexts volumes) table h b in (r .0, e ∙ r .1)
 
-  pub moved-rests : j ≤ 0 → 1024 < 2 * share → Moved (p * m) share j (loadingAlong n m p heads trips nexts) table share table
-  moved-rests h b = rests (p * m) share j (loadingAlong n m p heads trips nexts) table h b
+  pub moved-rests : j ≤ 0 → 1024 < 2 * share → Moved (p * m) share j (volumeRows n m p nexts volumes) table share table
+  moved-rests h b = rests (p * m) share j (volumeRows n m p nexts volumes) table h b

@@ -14,7 +14,7 @@ use Rattle.theory.specs.Laws.Routings.{Timed, AllServed, served-at-times}
 use Rattle.theory.specs.Laws.Loading.{length-row, loading-total}
 use Rattle.calls.specs.Study.{networkFrom}
 use Rattle.travel.specs.Ranges.{TimesFit}
-use Rattle.routes.specs.Search.{routingFrom, linkMarks, loaded}
+use Rattle.routes.specs.Search.{noLink, routingFrom, linkMarks, loaded}
 use Rattle.routes.specs.Given.{Searchable}
 use Rattle.routes.specs.Along.{flowAlong}
 use Rattle.routes.specs.Table.{nextTable}
@@ -24,13 +24,9 @@ use Rattle.judging.specs.declared.Decoded.{Decoded}
 use Rattle.judging.specs.Study.{networkIn, Ready}
 use Rattle.judging.specs.Loading.{front, rowAlong, loadingAlong, AllFollowable}
 use Rattle.judging.specs.Laws.Front.{front-at}
+use Rattle.judging.specs.Laws.Tables.{rows-cong}
 use Rattle.judging.specs.Laws.Loading.{loaded-front}
 use Rattle.judging.specs.Laws.Study.{searchable, trips-fit}
-
-rows-cong : (n : ℕ) (f g : ℕ → List ℕ) → ((k : ℕ) → k < n → f k ≡ g k) → rows n f ≡ rows n g
-unfolding rows
-rows-cong zero f g same = refl
-rows-cong (suc n) f g same = ap₂ (λ a b. a ++ b) (rows-cong n f g (λ k h. same k (omega arith))) (same n (omega arith))
 
 -- One destination: what its trips send along the next links over a link is the loading there.
 flow-is :
@@ -74,6 +70,10 @@ ones-timed g l h = omega (arith, getD-replicate {A = ℕ} (g .links) l 1 0 h)
 pub record TimesIn (d : Decoded) (times exact : List ℕ) : Type 0 where
   pub fit : TimesFit (d .links) times
   pub same : (l : ℕ) → getD times l 0 ≡ getD exact l 0
+
+-- They are those of the array itself.
+pub times-own : {d : Decoded} {times : List ℕ} → TimesFit (d .links) times → TimesIn d times times
+times-own fit = record { fit = fit; same = λ l. refl }
 
 module _ {d : Decoded} (ready : Ready d) {times exact : List ℕ} (t : TimesIn d times exact) where
   pub timed : Timed (networkIn d) exact
@@ -133,3 +133,8 @@ module _ {d : Decoded} (ready : Ready d) {times exact : List ℕ} (t : TimesIn d
           followable = λ k h. followable (searchable-to (searchable ready (t .fit)) h refl) (next-marks k h);
           small-totals = load-most;
         }
+
+    -- A next link of a node is a link.
+    pub next-links : length (d .trips) ≡ 4096 → (k j : ℕ) → k < d .destinations → j < d .nodes → (getD (getD nexts k []) j 0 ≡ noLink → ⊥) →
+        getD (getD nexts k []) j 0 < d .links
+    next-links long k j h = followable-all long .followable k h .next-link j

@@ -13,18 +13,18 @@ use Rattle.theory.specs.Moves.{tableSize, started}
 use Rattle.theory.specs.Laws.Finite.{order, length-tabulate, getD-tabulate}
 use Rattle.calls.specs.Study.{networkFrom}
 use Rattle.calls.specs.Calls.{overwritten}
-use Rattle.travel.specs.Links.{padded, listTime}
-use Rattle.travel.specs.Ranges.{Within, TimesFit, mostFlow}
+use Rattle.travel.specs.Links.{listTime}
+use Rattle.travel.specs.Ranges.{Within, mostFlow}
 use Rattle.travel.specs.Laws.Padded.{getD-padded, getD-padded-rest}
-use Rattle.routes.specs.Table.{nextTable}
 use Rattle.judging.specs.declared.Decoded.{Decoded}
 use Rattle.judging.specs.Study.{networkIn, Ready}
-use Rattle.judging.specs.Loading.{loadingAlong, front, addedRows, AllAddable}
+use Rattle.judging.specs.Loading.{loadingAlong, volumeRows, front, addedRows, Addable}
+use Rattle.judging.specs.Judged.{Known}
 use Rattle.judging.specs.Laws.Front.{front-at, front-past, length-front, front-is}
 use Rattle.judging.specs.Laws.Loading.{length-along}
 use Rattle.judging.specs.Laws.Tables.{number-most}
 use Rattle.judging.specs.Laws.Study.{holds-rows}
-use Rattle.judging.specs.Laws.Routes.{TimesIn, loading-is, load-most, followable-all}
+use Rattle.judging.specs.Laws.Routes.{TimesIn, loading-is, load-most, next-links}
 
 -- No flow on any link.
 unfoldable pub noFlows : List ℕ
@@ -53,9 +53,8 @@ overwritten-is new old =
     (ext-getD 0 new (tabulate (length new) (λ i. getD new i 0)) (sym same)
     (λ i h. sym (getD-tabulate (length new) (λ i. getD new i 0) 0 i h)))
 
-module _ {d : Decoded} (ready : Ready d) {times : List ℕ}
-    (times-are : times ≡ padded (d .links) (listTime (d .«free_times») (d .rises) (d .capacities) 1 noFlows))
-    (fit : TimesFit (d .links) times) where
+module _ {d : Decoded} (ready : Ready d) {times : List ℕ} {nexts volumes : List (List ℕ)} {loads : List ℕ}
+    (known : Known d noFlows 1 times nexts volumes loads) where
   abbrev emptyTimes : List ℕ
   emptyTimes = tabulate (d .links) (λ l. networkIn d .height l 0)
 
@@ -63,25 +62,23 @@ module _ {d : Decoded} (ready : Ready d) {times : List ℕ}
   unfolding listTime networkIn networkFrom
   times-in =
       record {
-        fit = fit;
+        fit = known .times-fit;
         same = λ l.
             ⊎-elim
             (λ h.
-            ap (λ xs. getD xs l 0) times-are
+            ap (λ xs. getD xs l 0) (known .times-are)
             ∙ getD-padded (d .links) _ l h
             ∙ ap (λ flow. stepTime (getD (d .«free_times») l 0) (getD (d .rises) l 0) (step (getD (d .capacities) l 0) 1 flow)) (no-flow l)
             ∙ ap (λ r. stepTime (getD (d .«free_times») l 0) (getD (d .rises) l 0) r) (step-none (getD (d .capacities) l 0))
             ∙ sym (getD-tabulate (d .links) (λ l. stepTime (getD (d .«free_times») l 0) (getD (d .rises) l 0) 0) 0 l h))
             (λ h.
-            ap (λ xs. getD xs l 0) times-are
+            ap (λ xs. getD xs l 0) (known .times-are)
             ∙ getD-padded-rest (d .links) _ l h
             ∙ sym (List·getD-eq-default emptyTimes 0 (omega (arith, length-tabulate (d .links) (λ l. networkIn d .height l 0)))))
             (order l (d .links));
       }
 
-  module _ {nexts : List (List ℕ)}
-      (found : nexts ≡ nextTable (d .nodes) (d .links) (d .destinations) (d .tails) (d .heads) times (d .«destination_nodes»))
-      (table : List ℕ) {emptied : List ℕ} (holds : tableSize (networkIn d) ≤ length table)
+  module _ (table : List ℕ) {emptied : List ℕ} (holds : tableSize (networkIn d) ≤ length table)
       (emptied-is : emptied ≡ front (d .destinations * d .links) (λ i. 0) table) where
     abbrev y : List ℕ
     y = loadingAlong (d .nodes) (d .links) (d .destinations) (d .heads) (d .trips) nexts
@@ -99,25 +96,32 @@ module _ {d : Decoded} (ready : Ready d) {times : List ℕ}
     empty-at i h = ap (λ xs. getD xs i 0) emptied-is ∙ front-at size (λ i. 0) table i h
 
     -- The loading can be added to the emptied table,
-    pub start-addable : length (d .trips) ≡ 4096 →
-        AllAddable (d .nodes) (d .links) (d .destinations) (d .heads) (d .trips) nexts 1 emptied
+    pub start-addable : length (d .trips) ≡ 4096 → Addable (d .nodes) (d .links) (d .destinations) nexts volumes 1 emptied
     start-addable trips-long =
         record {
-          followable = followable-all ready times-in found trips-long;
-          small-weight = omega arith;
+          few-nodes = ready .few-nodes;
+          few-links = ready .few-links;
+          few-destinations = ready .few-destinations;
+          next-link = next-links ready times-in (known .nexts-are) trips-long;
           holds = omega (arith, long, within);
           fits = λ i h.
-              omega (arith, empty-at i h, number-most (d .destinations) (d .links) y 65535 (load-most ready times-in found) i h);
+              rw (known .volumes-are)
+              (omega (
+                arith,
+                empty-at i h,
+                number-most (d .destinations) (d .links) y 65535 (load-most ready times-in (known .nexts-are)) i h,
+              ));
         }
 
     -- and stands there in place of what the table held.
-    pub start-is : {after : List ℕ} → after ≡ addedRows size 1 y emptied → after ≡ overwritten (started (networkIn d) .table) table
+    pub start-is : {after : List ℕ} → after ≡ addedRows size 1 (volumeRows (d .nodes) (d .links) (d .destinations) nexts volumes) emptied → after ≡ overwritten (started (networkIn d) .table) table
     unfolding started addedRows networkIn networkFrom
     start-is e =
         e
+        ∙ ap (λ y. addedRows size 1 y emptied) (known .volumes-are)
         ∙ front-is size (λ i. getD y i 0) table within _ (length-front size _ emptied (omega (arith, long, within)) ∙ long)
         (λ i h. front-at size _ emptied i h ∙ omega (arith, empty-at i h))
         (λ i h. front-past size _ emptied i h ∙ ap (λ xs. getD xs i 0) emptied-is ∙ front-past size (λ i. 0) table i h)
         ∙ ap (λ n. front n (λ i. getD y i 0) table) (sym (length-along (d .nodes) (d .links) (d .destinations) (d .heads) (d .trips) nexts))
         ∙ sym (overwritten-is y table)
-        ∙ ap (λ new. overwritten new table) (loading-is ready times-in found)
+        ∙ ap (λ new. overwritten new table) (loading-is ready times-in (known .nexts-are))

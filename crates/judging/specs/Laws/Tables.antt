@@ -1,12 +1,19 @@
--- Numbers of a table, and its totals.
-use Prim.Native.Nat.{ℕ, _+_, _*_, _/_, _%_, _≤_, _<_}
+-- A table's rows, its numbers, and its totals.
+use Prim.Native.Nat.{ℕ, zero, suc, _+_, _*_, _/_, _%_, _≤_, _<_}
 use native.Mathlib.Nat.{div-add-mod', mod-lt, div-lt-iff-lt-mul, pos-of-ne-zero, le-trans}
 use native.Mathlib.Omega.{arith}
-use mathlib.Core.Path.{_≡_, ap}
-use mathlib.Core.List.{List}
+use mathlib.Core.Path.{_≡_, refl, ap, ap₂}
+use mathlib.Core.List.{List, _++_}
 use lib.ListN.{getD}
+use Rattle.theory.specs.Finite.{rows}
 use Rattle.theory.specs.Flows.{linkTotal}
 use Rattle.theory.specs.Laws.Finite.{sum-term}
+
+-- A table goes by its rows.
+pub rows-cong : (n : ℕ) (f g : ℕ → List ℕ) → ((k : ℕ) → k < n → f k ≡ g k) → rows n f ≡ rows n g
+unfolding rows
+rows-cong zero f g same = refl
+rows-cong (suc n) f g same = ap₂ (λ a b. a ++ b) (rows-cong n f g (λ k h. same k (omega arith))) (same n (omega arith))
 
 -- A number of a table is at most its link's total, so at most what every total is at most.
 pub number-most :

@@ -14,23 +14,23 @@ use Rattle.judging.specs.declared.Step.the-variants as step
 use Rattle.judging.specs.Study.{networkIn, Ready, moveOf, stepOf}
 
 -- Excess × W × T fits 64 bits.
-pub excess-fits : {d : Decoded} → Ready d → {excess share : ℕ} → excess ≤ 65535 → share ≤ 1024 →
-    (excess * share ≤ 67107840) × (excess * share * d .«total_trips» ≤ 4397912294400)
-excess-fits {d} ready {excess} {share} e s =
-    let trips : d .«total_trips» ≤ 65535 = rw (ready .total) (ready .few-trips) in
+pub excess-fits : {d : Decoded} → Ready d → {trips : ℕ} → trips ≡ totalTrips (networkIn d) → {excess share : ℕ} → excess ≤ 65535 → share ≤ 1024 →
+    (excess * share ≤ 67107840) × (excess * share * trips ≤ 4397912294400)
+excess-fits ready {trips} is {excess} {share} e s =
+    let few : trips ≤ 65535 = rw is (ready .few-trips) in
     let a = mul-le-mul {n₁ = excess} {m₁ = share} {n₂ = 65535} {m₂ = 1024} e s in
-    (omega arith, mul-le-mul {n₁ = excess * share} {n₂ = 67107840} {m₂ = 65535} (omega arith) trips)
+    (omega arith, mul-le-mul {n₁ = excess * share} {n₂ = 67107840} {m₂ = 65535} (omega arith) few)
 
-module _ {d : Decoded} (ready : Ready d) (table : List ℕ) (share excess : ℕ) (last : Bool) {gap′ : ℕ}
+module _ (d : Decoded) (table : List ℕ) (share excess : ℕ) (last : Bool) {trips : ℕ} (trips-are : trips ≡ totalTrips (networkIn d)) {gap′ : ℕ}
     (gap-is : gap′ ≡ gap (networkIn d) share table) where
-  limit : excess * share * d .«total_trips» ≡ excess * share * totalTrips (networkIn d)
-  limit = ap (λ t. excess * share * t) (ready .total)
+  limit : excess * share * trips ≡ excess * share * totalTrips (networkIn d)
+  limit = ap (λ t. excess * share * t) trips-are
 
-  pub reached : gap′ ≤ excess * share * d .«total_trips» → step.Reached ≡ stepOf d table share excess last
+  pub reached : gap′ ≤ excess * share * trips → step.Reached ≡ stepOf d table share excess last
   unfolding stepOf reaches
   reached h = rw (le-leb (gap (networkIn d) share table) (excess * share * totalTrips (networkIn d)) (omega (arith, limit)))
 
-  module _ (above : excess * share * d .«total_trips» < gap′) where
+  module _ (above : excess * share * trips < gap′) where
     goes-on : reaches (networkIn d) excess (record { table = table; share = share }) ≡ false
     unfolding reaches
     goes-on = lt-leb (gap (networkIn d) share table) (excess * share * totalTrips (networkIn d)) (omega (arith, limit))

@@ -19,7 +19,7 @@ use Rattle.routes.specs.Given.{Searchable}
 use Rattle.routes.specs.Marks.{reach, reached, distanceOf, Searching}
 use Rattle.routes.specs.Laws.Padded.{padded-at, padded-is}
 
--- A mark below the largest number stands for itself,
+-- A mark below unreached stands for itself,
 some-distance : (x : ℕ) → x < unreached → distanceOf x ≡ some x
 unfolding distanceOf
 some-distance x h = rw (lt-ltb x unreached h)

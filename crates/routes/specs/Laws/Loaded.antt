@@ -1,27 +1,24 @@
 -- Where the next links are the definition's, what is sent along them is the loading.
-use Prim.Native.Nat.{ℕ, zero, suc, _+_, _*_, _≤_, _<_, _^_}
-use native.Mathlib.Nat.{mul-le-mul-left}
+use Prim.Native.Nat.{ℕ, zero, suc, _+_, _*_, _≤_, _<_}
 use native.Mathlib.Omega.{arith}
 use mathlib.Core.Path.{_≡_, refl, sym, _∙_, ap}
-use mathlib.Core.List.{List, _++_, map}
+use mathlib.Core.List.{List, [], _++_, map}
 use mathlib.Core.Logic.{⊎-elim}
 use mathlib.Core.Option.{Option, none, some}
 use lib.ListN.{length, getD, drop, length-map, List·getD-map, List·getD-eq-default}
 use borrow.Author.Tests.{ne-eqb}
-use Rattle.theory.specs.Finite.{sum}
 use Rattle.theory.specs.Routes.{Routing, distances, distance, fitsNext, nextLinks, walk, occurrences}
 use Rattle.theory.specs.Laws.Cases.{on-option}
-use Rattle.theory.specs.Laws.Finite.{order, sum-cong, sum-mono, sum-term, first-some, tabulate-cong}
+use Rattle.theory.specs.Laws.Finite.{order, sum-cong, first-some, tabulate-cong}
 use Rattle.theory.specs.Laws.Next.{length-next, next-first, next-without-path}
-use Rattle.theory.specs.Laws.Walks.{walkFrom, walk-once}
+use Rattle.theory.specs.Laws.Walks.{walkFrom, walked, walk-stops}
 use Rattle.theory.specs.Laws.Loading.{loaded as flow, row-loaded}
 use Rattle.routes.specs.Search.{routingFrom, noLink, linkMark, linkMarks, loaded}
 use Rattle.routes.specs.Given.{Searchable}
-use Rattle.routes.specs.Along.{linkOf, walkAlong, flowAlong, sentAlong, loadedAlong, Followable, Loadable}
+use Rattle.routes.specs.Along.{linkOf, walkAlong, flowAlong, sentAlong, loadedAlong, Followable}
 use Rattle.routes.specs.Laws.Padded.{getD-default, length-padded}
 use Rattle.routes.specs.Laws.Found.{well-formed}
 use Rattle.routes.specs.Laws.Next.{link-marks-at}
-use Rattle.routes.specs.Laws.Along.{walk-stops}
 
 -- Walks go by what the next links are, place by place.
 walk-cong : (head : ℕ → ℕ) (a b : List (Option ℕ)) → ((j : ℕ) → getD a j none ≡ getD b j none) → (most j : ℕ) → walk head a most j ≡ walk head b most j
@@ -31,6 +28,12 @@ walk-cong head a b same (suc most) j =
     on-option (getD b j none)
     (λ e. rw (walk, same j, e))
     (λ l e. rw (walk, same j, e, walk-cong head a b same most (head l)))
+
+-- A walk from a node without a next link has no link, under any limit.
+walk-none : (head : ℕ → ℕ) (next : List (Option ℕ)) (most j : ℕ) → getD next j none ≡ none → walk head next most j ≡ []
+unfolding walk
+walk-none head next zero j e = refl
+walk-none head next (suc most) j e = walk-stops head next most j e
 
 -- A mark of a next link stands for the link.
 module _ (q : Routing) (few-nodes : q .nodes ≤ 128) (few-links : q .links ≤ 512) where
@@ -67,6 +70,29 @@ module _ (q : Routing) (few-nodes : q .nodes ≤ 128) (few-links : q .links ≤ 
 
 module _ {n m : ℕ} {tails heads times : List ℕ} {s : ℕ} (g : Searchable n m tails heads times s)
     {next : List ℕ} (next≡ : next ≡ linkMarks (routingFrom n m tails heads times s)) where
+  walk-along : (j : ℕ) → walkAlong heads next n j ≡ walkFrom (routingFrom n m tails heads times s) j
+  unfolding routingFrom walkAlong
+  walk-along j =
+      rw next≡
+      (walk-cong (λ l. getD heads l 0) (map linkOf (linkMarks (routingFrom n m tails heads times s))) (nextLinks (routingFrom n m tails heads times s))
+      (links-of (routingFrom n m tails heads times s) (g .few-nodes) (g .few-links)) n j)
+
+  -- A node without a path has no walk,
+  walk-without : (j : ℕ) → j < n → distance (routingFrom n m tails heads times s) j ≡ none → walkAlong heads next n j ≡ []
+  unfolding routingFrom
+  walk-without j h e =
+      walk-along j
+      ∙ walk-none (λ l. getD heads l 0) (nextLinks (routingFrom n m tails heads times s)) n j
+      (next-without-path (routingFrom n m tails heads times s) j h e)
+
+  -- and any other ends at the destination.
+  walk-ends : (j : ℕ) → j < n → length (walkAlong heads next n j) < n
+  unfolding routingFrom
+  walk-ends j h =
+      on-option (distance (routingFrom n m tails heads times s) j)
+      (λ e. rw (walk-without j h e) (omega arith))
+      (λ y e. rw (walk-along j) (walked (routingFrom n m tails heads times s) (well-formed g) j y h e .short))
+
   pub followable : Followable n m heads next
   unfolding routingFrom linkMark
   followable =
@@ -81,14 +107,8 @@ module _ {n m : ℕ} {tails heads times : List ℕ} {s : ℕ} (g : Searchable n 
             on-option (getD (nextLinks (routingFrom n m tails heads times s)) j none)
             (λ e. absurd (some-link (at ∙ ap linkMark e)))
             (λ l e. rw (at, e) (next-below (routingFrom n m tails heads times s) (g .few-nodes) (g .few-links) j l h e));
+        ends = λ j h. rw next≡ at (walk-ends j h);
       })
-
-  walk-along : (j : ℕ) → walkAlong heads next n j ≡ walkFrom (routingFrom n m tails heads times s) j
-  unfolding routingFrom walkAlong
-  walk-along j =
-      rw next≡
-      (walk-cong (λ l. getD heads l 0) (map linkOf (linkMarks (routingFrom n m tails heads times s))) (nextLinks (routingFrom n m tails heads times s))
-      (links-of (routingFrom n m tails heads times s) (g .few-nodes) (g .few-links)) n j)
 
   flow-along : (trips : ℕ → ℕ) (l : ℕ) → flowAlong n heads next trips n l ≡ flow (routingFrom n m tails heads times s) trips l
   unfolding routingFrom flowAlong flow
@@ -101,34 +121,3 @@ module _ {n m : ℕ} {tails heads times : List ℕ} {s : ℕ} (g : Searchable n 
   loaded-along trips weight row =
       ap (λ front. front ++ drop m row)
       (tabulate-cong m _ _ (λ l h. ap (λ x. getD row l 0 + weight * x) (flow-along trips l ∙ sym (row-loaded (routingFrom n m tails heads times s) trips l h))))
-
-  -- A walk uses a link at most once, and a node without a path has no walk.
-  once : (j l : ℕ) → j < n → occurrences l (walkAlong heads next n j) ≤ 1
-  unfolding routingFrom linkMark
-  once j l h =
-      on-option (distance (routingFrom n m tails heads times s) j) without
-      (λ y e. rw (walk-along j) (walk-once (routingFrom n m tails heads times s) (well-formed g) j y h e l))
-    where
-      without : distance (routingFrom n m tails heads times s) j ≡ none → occurrences l (walkAlong heads next n j) ≤ 1
-      without e =
-          let at = link-marks-at (routingFrom n m tails heads times s) (g .few-nodes) j (omega (arith, g .few-nodes)) in
-          let no-next : getD next j 0 ≡ noLink = rw next≡ (at ∙ ap linkMark (next-without-path (routingFrom n m tails heads times s) j h e)) in
-          rw (walk-stops followable h n no-next) (omega arith)
-
-  -- So no link takes more than all trips, and a loading can be added wherever all trips can be added to each number.
-  pub loadable : {trips : List ℕ} {weight : ℕ} {row : List ℕ} → n ≤ length trips → m ≤ length row
-      → weight * sum n (λ j. getD trips j 0) < 2 ^ 32
-      → ((l : ℕ) → l < m → getD row l 0 + weight * sum n (λ j. getD trips j 0) < 2 ^ 32)
-      → Loadable n m heads next trips weight row
-  unfolding flowAlong
-  loadable {trips} {weight} {row} has-trips has-links small fits =
-      record {
-        followable = followable;
-        has-links = has-links;
-        has-trips = has-trips;
-        amount-fits = λ j h. omega (arith, mul-le-mul-left weight (sum-term n (λ j. getD trips j 0) j h));
-        fits = λ l h. omega (arith, fits l h, mul-le-mul-left weight (at-most l));
-      }
-    where
-      at-most : (l : ℕ) → sum n (λ j. getD trips j 0 * occurrences l (walkAlong heads next n j)) ≤ sum n (λ j. getD trips j 0)
-      at-most l = sum-mono n _ _ (λ j h. omega (arith, mul-le-mul-left (getD trips j 0) (once j l h)))

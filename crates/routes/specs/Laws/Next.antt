@@ -1,5 +1,5 @@
 -- The first fitting link, along the chain of a node's links.
-use Prim.Native.Nat.{ℕ, _+_, _-_, _≤_, _<_, _^_}
+use Prim.Native.Nat.{ℕ, _+_, _-_, _≤_, _<_}
 use native.Mathlib.Omega.{arith}
 use mathlib.Core.Path.{_≡_, refl, sym, _∙_, ap}
 use mathlib.Core.Bool.{true, false}
@@ -16,7 +16,7 @@ use Rattle.theory.specs.Laws.Next.{fits-through, through-fits, length-next}
 use Rattle.routes.specs.Search.{routingFrom, unreached, mark, marks, noLink, linkMark, linkMarks}
 use Rattle.routes.specs.Given.{Searchable}
 use Rattle.routes.specs.Chains.{Linked}
-use Rattle.routes.specs.Next.{Searched, Unfit, firstFitting}
+use Rattle.routes.specs.Next.{Picked, Unfit, firstFitting, Seeking}
 use Rattle.routes.specs.Laws.Padded.{padded-at}
 use Rattle.routes.specs.Laws.Filled.{Filled, filled-is, map-tabulate}
 use Rattle.routes.specs.Laws.Chains.{chain-begins, chain-goes}
@@ -54,59 +54,78 @@ module _ (q : Routing) (w : WellFormed q) (few : q .nodes ≤ 128) (j : ℕ) (h 
   elsewhere-unfit : (l : ℕ) → l < q .links → (q .tail l ≡ j → ⊥) → fitsNext q (distances q) j l ≡ false
   elsewhere-unfit l b away = on-test (fitsNext q (distances q) j l) (λ e. absurd (away (fits-equal l b e .0))) (λ e. e)
 
--- The search along the chain of node j.
-module _ {n m : ℕ} {tails heads times : List ℕ} {s : ℕ} {dist firsts nexts : List ℕ} (w : Searched n m tails heads times s dist firsts nexts)
-    {j : ℕ} (h : j < n) where
-  chains : Linked m tails firsts nexts
-  chains = (w .lowest, w .above)
+-- The search along the chain of node j, for one of the destinations.
+module _ {n m : ℕ} {tails heads times : List ℕ} {s : ℕ} (g : Searchable n m tails heads times s) {dist : List ℕ}
+    (least : dist ≡ marks (routingFrom n m tails heads times s)) {firsts nexts : List ℕ} (chains : Linked m tails firsts nexts) {j : ℕ}
+    (h : j < n) where
+  -- It begins at the lowest link, with none found,
+  pub seek-begins : {l r : ℕ} → l ≡ getD firsts j 0 → r ≡ noLink → Seeking n m tails heads times s j l r
+  seek-begins e none-found =
+      record {
+        none-yet = λ q. chain-begins (g .few-links) chains (omega (arith, g .few-nodes)) e;
+        found = λ some-link. absurd (some-link none-found);
+      }
 
-  -- It begins at the lowest link,
-  pub seek-begins : {l : ℕ} → l ≡ getD firsts j 0 → Unfit n m tails heads times s j l
-  seek-begins e = chain-begins (w .given .few-links) chains (omega (arith, w .given .few-nodes)) e
+  -- No lower link fits.
+  lower : {l : ℕ} → Unfit n m tails heads times s j l → (i : ℕ) → i < m → i < l
+      → fitsNext (routingFrom n m tails heads times s) (distances (routingFrom n m tails heads times s)) j i ≡ false
+  unfolding routingFrom
+  lower at i b c =
+      on-equal (getD tails i 0) j (at .passed i b c)
+      (elsewhere-unfit (routingFrom n m tails heads times s) (well-formed g) (g .few-nodes) j h i b)
 
-  module _ {l : ℕ} (at : Unfit n m tails heads times s j l) where
-    -- No lower link fits.
-    lower : (i : ℕ) → i < m → i < l → fitsNext (routingFrom n m tails heads times s) (distances (routingFrom n m tails heads times s)) j i ≡ false
-    unfolding routingFrom
-    lower i b c =
-        on-equal (getD tails i 0) j (at .passed i b c)
-        (elsewhere-unfit (routingFrom n m tails heads times s) (well-formed (w .given)) (w .given .few-nodes) j h i b)
-
+  module _ {l r : ℕ} (at : Seeking n m tails heads times s j l r) where
     -- ends past the last link,
-    pub seek-none : l ≡ noLink → l ≡ firstFitting n m tails heads times s j
+    pub seek-ends : l ≡ noLink → r ≡ firstFitting n m tails heads times s j
     unfolding linkMark
-    seek-none e = e ∙ ap linkMark (sym (none-first m _ (λ i b. lower i b (omega (arith, w .given .few-links)))))
+    seek-ends e =
+        on-equal r noLink
+        (λ none-found. none-found
+        ∙ ap linkMark (sym (none-first m _ (λ i b. lower (at .none-yet none-found) i b (omega (arith, g .few-links))))))
+        (at .found)
 
-    module _ (some-link : l ≡ noLink → ⊥) {k : ℕ} (k≡ : k ≡ l) where
-      -- is otherwise at a link of the network,
-      pub seek-at : (k < 512) × (getD heads k 0 < 128)
-      seek-at =
-          let (below, leaves) = at .on-chain some-link in
-          let k-below : k < m = omega arith in
-          (omega (arith, w .given .few-links), omega (arith, w .given .head-node k k-below, w .given .few-nodes))
+    module _ (below : l < m) (leaves : getD tails l 0 ≡ j) (own≤ : getD dist j 0 ≤ unreached) {given own r′ : ℕ}
+        (given≡ : given ≡ getD dist (getD heads l 0) 0 + getD times l 0) (own≡ : own ≡ getD dist j 0) (picked : Picked r given own l r′) where
+      -- finds a link that gives the node its mark,
+      here : r ≡ noLink → given ≡ own → r′ ≡ firstFitting n m tails heads times s j
+      unfolding routingFrom linkMark
+      here none-found same =
+          let equal : getD times l 0 + getD dist (getD heads l 0) 0 ≡ getD dist j 0 = omega arith in
+          let fits = equal-fits (routingFrom n m tails heads times s) (well-formed g) (g .few-nodes) j h l below refl leaves (rw least at own≤)
+          (rw least at equal) in
+          picked .took none-found same
+          ∙ ap linkMark (sym (some-first m _ l (record { below = below; fits = fits; lower = λ i b. lower (at .none-yet none-found) i (omega arith) b })))
 
-      module _ {own head given : ℕ} (own≡ : own ≡ getD dist j 0) (head≡ : head ≡ getD heads k 0) (given≡ : given ≡ getD times k 0 + getD dist head 0) where
-        -- ends where the link gives the node its mark,
-        pub seek-found : own < 2 ^ 32 → given ≡ own
-            → l ≡ firstFitting n m tails heads times s j
-        unfolding routingFrom linkMark
-        seek-found fits same =
-            let (below, leaves) = at .on-chain some-link in
-            let equal : getD times l 0 + getD dist (getD heads l 0) 0 ≡ getD dist j 0 = rw (head≡, k≡) at (sym given≡ ∙ same ∙ own≡) in
-            let small : getD (marks (routingFrom n m tails heads times s)) j 0 ≤ unreached = rw (← w .least, ← own≡) (omega arith) in
-            let fit = equal-fits (routingFrom n m tails heads times s) (well-formed (w .given)) (w .given .few-nodes) j h l below refl leaves small
-            (rw (w .least) at equal) in
-            ap linkMark (sym (some-first m _ l (record { below = below; fits = fit; lower = λ i b. lower i (omega arith) b })))
+      -- and passes any other.
+      unfit : (given ≡ own → ⊥) → fitsNext (routingFrom n m tails heads times s) (distances (routingFrom n m tails heads times s)) j l ≡ false
+      unfolding routingFrom
+      unfit differ =
+          let unequal : getD times l 0 + getD dist (getD heads l 0) 0 ≡ getD dist j 0 → ⊥ = λ same. differ (omega arith) in
+          unequal-unfit (routingFrom n m tails heads times s) (well-formed g) (g .few-nodes) j h l below (rw least at unequal)
 
-        -- and otherwise goes on to a higher one.
-        pub seek-goes : {l′ : ℕ} → (given ≡ own → ⊥) → l′ ≡ getD nexts k 0 → (l < l′) × Unfit n m tails heads times s j l′
-        unfolding routingFrom
-        seek-goes differ e =
-            let (below, leaves) = at .on-chain some-link in
-            let unequal : getD times l 0 + getD dist (getD heads l 0) 0 ≡ getD dist j 0 → ⊥ =
-            λ same. differ (given≡ ∙ rw (head≡, k≡) same ∙ sym own≡) in
-            chain-goes (w .given .few-links) chains at some-link
-            (unequal-unfit (routingFrom n m tails heads times s) (well-formed (w .given)) (w .given .few-nodes) j h l below (rw (w .least) at unequal)) k≡ e
+      -- What is found stays found.
+      pub seek-found : (r′ ≡ noLink → ⊥) → r′ ≡ firstFitting n m tails heads times s j
+      seek-found some-link =
+          on-equal r noLink
+          (λ none-found. on-equal given own (here none-found) (λ differ. absurd (some-link (picked .none none-found differ))))
+          (λ was. picked .kept was ∙ at .found was)
+
+      -- The search goes on to a higher link.
+      pub seek-goes : {k l′ : ℕ} → k ≡ l → l′ ≡ getD nexts k 0 → Seeking n m tails heads times s j l′ r′
+      seek-goes {l′ = l′} k≡ e =
+          record {
+            none-yet = λ none-found. on-equal r noLink (still none-found)
+                (λ was. absurd (was (sym (picked .kept was) ∙ none-found)));
+            found = seek-found;
+          }
+        where
+          some-link : l ≡ noLink → ⊥
+          some-link q = omega (arith, g .few-links)
+
+          still : r′ ≡ noLink → r ≡ noLink → Unfit n m tails heads times s j l′
+          still none-found was =
+              on-equal given own (λ same. absurd (some-link (sym (picked .took was same) ∙ none-found)))
+              (λ differ. chain-goes (g .few-links) chains (at .none-yet was) some-link (unfit differ) k≡ e .1)
 
 -- The marks of the next links, node by node.
 pub link-marks-at : (q : Routing) → q .nodes ≤ 128 → (j : ℕ) → j < 128 → getD (linkMarks q) j 0 ≡ linkMark (getD (nextLinks q) j none)

@@ -1,13 +1,12 @@
 -- A least-time search by scans: what it sets out with, what one link changes, and what a scan and a sweep of scans do.
-use Prim.Native.Nat.{ℕ, zero, suc, _+_, _*_, _≤_, _<_}
+use Prim.Native.Nat.{ℕ, zero, suc, _+_, _*_, _≤_, _<_, min}
 use native.Mathlib.Nat.{le-refl}
 use native.Mathlib.Omega.{arith}
 use mathlib.Core.Path.{_≡_, refl, sym, _∙_, ap}
 use mathlib.Core.List.{List}
 use mathlib.Core.Logic.{inl, inr, ⊎-elim}
 use lib.ListN.{length, getD, set, length-set, length-replicate, getD-replicate}
-use lib.Seq.{getD-set-same, getD-set-other}
-use borrow.Author.Count.{below-more}
+use lib.Seq.{getD-set-same, getD-set-other, set-getD}
 use borrow.Author.Tests.{lt-ltb, le-ltb}
 use Rattle.theory.specs.Finite.{sum}
 use Rattle.theory.specs.Laws.Cases.{on-equal}
@@ -15,7 +14,7 @@ use Rattle.theory.specs.Laws.Finite.{below-suc, order, sum-cong}
 use Rattle.routes.specs.Search.{unreached, noLink}
 use Rattle.routes.specs.Given.{Searchable, longest}
 use Rattle.routes.specs.Chains.{Linked}
-use Rattle.routes.specs.Marks.{allUnreached, total, reach, reached, relaxed, Attained, Searching, Scanning, Scanned, Scans, Swept}
+use Rattle.routes.specs.Marks.{allUnreached, total, reach, reached, relaxed, Attained, Searching, Scanning, Scanned, Scans}
 use Rattle.routes.specs.Laws.Chains.{chain-begins, chain-goes, chain-ends, chain-map}
 
 -- A sum over a list of which one element is another.
@@ -36,20 +35,25 @@ module _ (f : ℕ → ℕ) (d : List ℕ) (t v : ℕ) (inside : t < length d) wh
           let at-t : f (getD (set d t v) n 0) ≡ f v = ap f (ap (λ i. getD (set d t v) i 0) (sym e) ∙ getD-set-same d t v 0 inside) in
           omega (arith, others, at-t, ap (λ i. f (getD d i 0)) e)
 
--- The sum of all marks falls with one of them.
-total-falls : (d : List ℕ) (t v : ℕ) → t < length d → t < 128 → v < getD d t 0 → total (set d t v) + 1 ≤ total d
-unfolding total
-total-falls d t v inside h less = omega (arith, sum-set (λ y. y) d t v inside 128 h)
-
 -- One link: it lowers its tail's mark, or leaves all marks as they are.
-module _ (d : List ℕ) (tail head time v y : ℕ) (v≡ : v ≡ time + getD d head 0) (y≡ : y ≡ getD d tail 0) where
-  pub relaxed-lower : v < y → set d tail v ≡ relaxed d tail head time
+module _ (d : List ℕ) (tail head time : ℕ) where
+  relaxed-lower : time + getD d head 0 < getD d tail 0 → set d tail (time + getD d head 0) ≡ relaxed d tail head time
   unfolding relaxed
-  relaxed-lower h = rw (v≡, lt-ltb (time + getD d head 0) (getD d tail 0) (omega arith))
+  relaxed-lower h = rw (lt-ltb (time + getD d head 0) (getD d tail 0) h)
 
-  pub relaxed-same : y ≤ v → d ≡ relaxed d tail head time
+  relaxed-same : getD d tail 0 ≤ time + getD d head 0 → d ≡ relaxed d tail head time
   unfolding relaxed
-  relaxed-same h = rw (le-ltb (time + getD d head 0) (getD d tail 0) (omega arith))
+  relaxed-same h = rw (le-ltb (time + getD d head 0) (getD d tail 0) h)
+
+  -- The tail's mark is then the lesser of the two.
+  pub relaxed-least : (v : ℕ) → v ≡ min (getD d head 0 + time) (getD d tail 0) → set d tail v ≡ relaxed d tail head time
+  relaxed-least v v≡ = ⊎-elim lower same (order (time + getD d head 0) (getD d tail 0))
+    where
+      lower : time + getD d head 0 < getD d tail 0 → set d tail v ≡ relaxed d tail head time
+      lower h = ap (set d tail) (omega arith) ∙ relaxed-lower h
+
+      same : getD d tail 0 ≤ time + getD d head 0 → set d tail v ≡ relaxed d tail head time
+      same h = ap (set d tail) (omega arith) ∙ set-getD d tail 0 ∙ relaxed-same h
 
 module _ {n m : ℕ} {tails heads times : List ℕ} {s : ℕ} (g : Searchable n m tails heads times s) where
   -- A search sets out with all nodes marked unreached but the destination, which is at 0.
@@ -183,7 +187,7 @@ module _ {n m : ℕ} {tails heads times : List ℕ} {s : ℕ} (g : Searchable n 
     where
       lower : getD times l 0 + getD d k 0 < getD d (getD tails l 0) 0 → Relaxing d l k (relaxed d (getD tails l 0) k (getD times l 0))
       lower less =
-          let d≡ = sym (relaxed-lower d (getD tails l 0) k (getD times l 0) _ _ refl refl less) in
+          let d≡ = sym (relaxed-lower d (getD tails l 0) k (getD times l 0) less) in
           let away : k ≡ getD tails l 0 → ⊥ = λ e. let same-mark = ap (λ i. getD d i 0) e in omega arith in
           let kept = off-tail w h refl k≡ refl less d≡ k away in
           record {
@@ -195,7 +199,7 @@ module _ {n m : ℕ} {tails heads times : List ℕ} {s : ℕ} (g : Searchable n 
 
       same : getD d (getD tails l 0) 0 ≤ getD times l 0 + getD d k 0 → Relaxing d l k (relaxed d (getD tails l 0) k (getD times l 0))
       same settled =
-          rw (← relaxed-same d (getD tails l 0) k (getD times l 0) _ _ refl refl settled)
+          rw (← relaxed-same d (getD tails l 0) k (getD times l 0) settled)
           (record { searching = w; no-more = λ j. le-refl (getD d j 0); kept = refl; settled = settled })
 
   -- A scan of node k begins with no link relaxed,
@@ -257,49 +261,38 @@ module _ {n m : ℕ} {tails heads times : List ℕ} {s : ℕ} (g : Searchable n 
             );
       }
 
-  module _ {d p : List ℕ} where
-    -- A sweep begins with no node,
-    pub sweep-begins : Scans m tails heads times n s d p → Swept m tails heads times n s 0 p d p 0
-    sweep-begins w = record { scans = w; falls = omega arith; quiet = λ e j h. absurd (omega arith); few = le-refl 0 }
+  module _ {d p : List ℕ} (w : Scans m tails heads times n s d p) {k : ℕ} (h : k < n) where
+    inside-scans : k < length p
+    inside-scans = omega (arith, w .size, g .few-nodes)
 
-    module _ {k c : ℕ} {p₀ : List ℕ} (w : Swept m tails heads times n s k p₀ d p c) where
-      -- passes over a node whose mark has not fallen since its last scan,
-      pub sweep-skips : getD p k 0 ≤ getD d k 0 → Swept m tails heads times n s (k + 1) p₀ d p c
-      sweep-skips same =
-          record { scans = w .scans; falls = w .falls; quiet = λ e. below-more _ k (w .quiet e) same; few = omega (arith, w .few) }
+    -- A scan of node k, whose mark may have fallen since its last scan.
+    pub scans-more : {d′ : List ℕ} → Scanned m tails heads times n s k d d′ → Scans m tails heads times n s d′ (set p k (getD d k 0))
+    scans-more {d′} r =
+        record { searching = r .searching; size = length-set p k (getD d k 0) ∙ w .size; above = above-then; settled = settled-then }
+      where
+        here : getD (set p k (getD d k 0)) k 0 ≡ getD d k 0
+        here = getD-set-same p k (getD d k 0) 0 inside-scans
 
-      -- and scans any other.
-      pub sweep-scans : {d′ : List ℕ} → k < n → getD d k 0 < getD p k 0 → Scanned m tails heads times n s k d d′
-          → Swept m tails heads times n s (k + 1) p₀ d′ (set p k (getD d k 0)) (c + 1)
-      sweep-scans {d′} h less r =
-          record {
-            scans = record { searching = r .searching; size = length-set p k (getD d k 0) ∙ w .scans .size; above = above-then; settled = settled-then };
-            falls = omega (arith, w .falls, total-falls p k (getD d k 0) inside-p (omega (arith, g .few-nodes)) less);
-            quiet = λ e. absurd (omega arith);
-            few = omega (arith, w .few);
-          }
-        where
-          inside-p : k < length p
-          inside-p = omega (arith, w .scans .size, g .few-nodes)
+        off : (j : ℕ) → (j ≡ k → ⊥) → getD (set p k (getD d k 0)) j 0 ≡ getD p j 0
+        off j away = getD-set-other p k j (getD d k 0) 0 away
 
-          here : getD (set p k (getD d k 0)) k 0 ≡ getD d k 0
-          here = getD-set-same p k (getD d k 0) 0 inside-p
+        above-then : (j : ℕ) → j < 128 → getD d′ j 0 ≤ getD (set p k (getD d k 0)) j 0
+        above-then j b =
+            on-equal j k (λ e. rw e (omega (arith, here, r .no-more k)))
+            (λ away. omega (arith, off j away, r .no-more j, w .above j b))
 
-          off : (j : ℕ) → (j ≡ k → ⊥) → getD (set p k (getD d k 0)) j 0 ≡ getD p j 0
-          off j away = getD-set-other p k j (getD d k 0) 0 away
+        settled-then : (l : ℕ) → l < m → getD d′ (getD tails l 0) 0 ≤ getD times l 0 + getD (set p k (getD d k 0)) (getD heads l 0) 0
+        settled-then l b =
+            on-equal (getD heads l 0) k
+            (λ e. rw e (omega (arith, here, r .kept, r .settled l b e)))
+            (λ away. omega (arith, off (getD heads l 0) away, r .no-more (getD tails l 0), w .settled l b))
 
-          above-then : (j : ℕ) → j < 128 → getD d′ j 0 ≤ getD (set p k (getD d k 0)) j 0
-          above-then j b =
-              on-equal j k (λ e. rw e (omega (arith, here, r .no-more k)))
-              (λ away. omega (arith, off j away, r .no-more j, w .scans .above j b))
+    -- The sum of the marks at the last scans does not rise by it, and falls where the node's mark had fallen.
+    pub scans-total : total (set p k (getD d k 0)) + getD p k 0 ≡ total p + getD d k 0
+    unfolding total
+    scans-total = sum-set (λ y. y) p k (getD d k 0) inside-scans 128 (omega (arith, g .few-nodes))
 
-          settled-then : (l : ℕ) → l < m → getD d′ (getD tails l 0) 0 ≤ getD times l 0 + getD (set p k (getD d k 0)) (getD heads l 0) 0
-          settled-then l b =
-              on-equal (getD heads l 0) k
-              (λ e. rw e (omega (arith, here, r .kept, r .settled l b e)))
-              (λ away. omega (arith, off (getD heads l 0) away, r .no-more (getD tails l 0), w .scans .settled l b))
-
-      -- Where no node was scanned, no link gives its tail less than its mark.
-      pub sweep-settled : k ≡ n → c ≡ 0 → (l : ℕ) → l < m → getD d (getD tails l 0) 0 ≤ getD times l 0 + getD d (getD heads l 0) 0
-      sweep-settled all none-scanned l h =
-          omega (arith, w .scans .settled l h, w .quiet none-scanned (getD heads l 0) (omega (arith, g .head-node l h)))
+  -- Where no node's mark has fallen since its last scan, no link gives its tail less than its mark.
+  pub scans-settled : {d p : List ℕ} → Scans m tails heads times n s d p → ((j : ℕ) → j < n → getD p j 0 ≤ getD d j 0)
+      → (l : ℕ) → l < m → getD d (getD tails l 0) 0 ≤ getD times l 0 + getD d (getD heads l 0) 0
+  scans-settled w quiet l h = omega (arith, w .settled l h, quiet (getD heads l 0) (omega (arith, g .head-node l h)))

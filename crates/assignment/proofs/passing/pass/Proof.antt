@@ -1,9 +1,11 @@
 -- `assignment::pass` meets its contract: it judges and moves a table that its questions accept, and leaves any other.
-use mathlib.Core.Path.{_≡_, sym, _∙_}
+use mathlib.Core.Path.{_≡_, sym, _∙_, ap}
 use borrow.Author.Needs.{needs}
 use denote.Ref.{now}
 use Rattle.calls.specs.Calls.{tableNumber}
 use Rattle.calls.specs.Laws.Calls.{pass-kept}
+use Rattle.assignment.specs.Decoded.{decodedOf}
+use Rattle.assignment.specs.Laws.Decoding.{studyIn, study-decoded}
 use Rattle.assignment.specs.Laws.Answers.{pass-refusal, table-ready, pass-answers, pass-leaves}
 use Rattle.assignment.proofs.passing.pass.Statement.{statement}
 use Rattle.assignment.proofs.passing.pass.Tie as tie
@@ -12,7 +14,9 @@ decode-requires : tie.Need-decode-requires
 decode-requires c κs = search needs
 
 table-refusal-requires : tie.Need-table-refusal-requires
-table-refusal-requires c κs = search needs
+table-refusal-requires c κs =
+    let decoded = c .before .before .before .before .before .before .before .before .before .decode .ensures in
+    (study-decoded _ _ decoded, ap (λ d. d .«total_trips») decoded)
 
 refused-pass-requires : tie.Need-refused-pass-requires
 refused-pass-requires c κs = search needs
@@ -27,11 +31,21 @@ returns c =
       sym (pass-kept _ _ _ (λ e. c .before .if1 .taken (number ∙ e))),
     )
 
-accepted : (c : tie.Else1) → tableNumber (now (c .before .before .before .before .before .before .args .file)) (now (c .before .before .before .before .before .before .args .table)) (c .before .before .before .before .before .before .args .share) ≡ 0
+-- What was decoded, and the call's arguments.
+abbrev read : tie.Else1 → tie.After-decode
+read c = c .before .before .before .before .before .before .before .before .before .before .before
+
+abbrev given : tie.Else1 → tie.Start
+given c = read c .before .before .before
+
+decoded : (c : tie.Else1) → studyIn (read c .decode .result) ≡ decodedOf (now (given c .args .file))
+decoded c = study-decoded _ _ (read c .decode .ensures)
+
+accepted : (c : tie.Else1) → tableNumber (now (given c .args .file)) (now (given c .args .table)) (given c .args .share) ≡ 0
 accepted c = sym (c .before .table-refusal .ensures) ∙ c .if1 .left
 
 pass-table-requires : tie.Need-pass-table-requires
-pass-table-requires c κs = table-ready _ _ _ (c .before .before .before .before .decode .ensures) _ (accepted (c .before))
+pass-table-requires c κs = let else = c .before .before .before .before .before .before .before .before .before in table-ready _ _ _ (decoded else) _ (accepted else)
 
 outcome-of-requires : tie.Need-outcome-of-requires
 outcome-of-requires c κs = search needs
@@ -42,11 +56,9 @@ same-length-2 c = search needs
 returns-2 : tie.Need-returns-2
 returns-2 c =
     let passed = c .before .before .before .pass-table in
-    let decoded = c .before .before .before .before .before .before .before .before .decode .ensures in
-    let yes = accepted (c .before .before .before .before .before) in (
-      rw (c .outcome-of .ensures)
-          (pass-answers _ _ _ decoded _ yes (passed .result) (passed .ensures .0 .0) (passed .ensures .0 .1) (passed .ensures .1 .0 .0) (passed .ensures .1 .0 .1)),
-      pass-leaves _ _ _ decoded _ yes _ (passed .ensures .1 .1),
+    let else = c .before .before .before .before .before .before .before .before .before .before .before .before .before in (
+      rw (c .outcome-of .ensures) (pass-answers _ _ _ (decoded else) _ (accepted else) _ _ (passed .ensures)),
+      pass-leaves _ _ _ (decoded else) _ (accepted else) _ _ (passed .ensures),
     )
 
 pub pass-spec : {M : Type 1} → statement M

@@ -23,30 +23,29 @@ returns c =
 
 study-refusal-requires : tie.Need-study-refusal-requires
 study-refusal-requires c κs =
-    let known = decoded-fields _ _ (c .before .before .before .before .before .before .before .before .before .before .before .before .pre) .counts in
+    let known = decoded-fields _ _ (c .before .before .before .before .pre) .counts in
     (known .nodes-most, known .links-most, known .destinations-most)
 
 -- The number of questions 6 to 11 is check's, since 1 to 5 are passed.
-asked : (c : tie.After-study-refusal) → c .study-refusal .result ≡ checkNumber (now (c .before .before .before .before .before .before .before .before .before .before .before .before .before .args .file))
+asked : (c : tie.After-study-refusal) → c .study-refusal .result ≡ checkNumber (now (c .before .before .before .before .before .args .file))
 asked c =
-    let else1 = c .before .before .before .before .before .before .before .before .before in
-    let opened = sym (else1 .before .refusal .ensures) ∙ else1 .if1 .left in
-    c .study-refusal .ensures _ (decoded-fields _ _ (c .before .before .before .before .before .before .before .before .before .before .before .before .before .pre)) ∙ sym (check-study _ opened)
+    let opened = sym (c .before .before .refusal .ensures) ∙ c .before .if1 .left in
+    c .study-refusal .ensures _ (decoded-fields _ _ (c .before .before .before .before .before .pre)) ∙ sym (check-study _ opened)
 
 returns-2 : tie.Need-returns-2
 returns-2 c = asked (c .before) ∙ sym (start-checked _ _ (λ e. c .if2 .taken (asked (c .before) ∙ e)))
 
-passed : (c : tie.Else2) → checkNumber (now (c .before .before .before .before .before .before .before .before .before .before .before .before .before .before .args .file)) ≡ 0
+passed : (c : tie.Else2) → checkNumber (now (c .before .before .before .before .before .before .args .file)) ≡ 0
 passed c = sym (asked (c .before)) ∙ c .if2 .left
 
 mul-if3 : tie.Need-mul-if3
 mul-if3 c =
-    let known = decoded-fields _ _ (c .before .before .before .before .before .before .before .before .before .before .before .before .before .before .pre) .counts in
+    let known = decoded-fields _ _ (c .before .before .before .before .before .before .pre) .counts in
     omega (arith, mul-le-mul (known .destinations-most) (known .links-most))
 
 -- How many numbers the table is to hold.
-size : (c : tie.Else2) → c .before .before .before .before .before .before .before .before .before .before .before .before .before .before .args .t2 .destinations * c .before .before .before .before .before .before .before .before .before .before .before .before .before .before .args .t2 .links ≡ tableSize (networkOf (now (c .before .before .before .before .before .before .before .before .before .before .before .before .before .before .args .file)))
-size c = decoded-size _ _ (c .before .before .before .before .before .before .before .before .before .before .before .before .before .before .pre)
+size : (c : tie.Else2) → c .before .before .before .before .before .before .args .p * c .before .before .before .before .before .before .args .m ≡ tableSize (networkOf (now (c .before .before .before .before .before .before .args .file)))
+size c = decoded-size _ _ (c .before .before .before .before .before .before .pre)
 
 returns-3 : tie.Need-returns-3
 returns-3 c = sym (start-short _ _ (passed (c .before)) (omega (arith, c .if3 .taken, size (c .before))))

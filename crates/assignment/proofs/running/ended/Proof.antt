@@ -6,12 +6,8 @@ use Rattle.assignment.proofs.running.ended.Tie as tie
 ending-of-requires : tie.Need-ending-of-requires
 ending-of-requires c κs = search needs
 
-table-cost-requires : tie.Need-table-cost-requires
-table-cost-requires c κs = search needs
-
 returns : tie.Need-returns
-returns c = rw (c .before .ending-of .ensures, c .table-cost .ensures)
+returns c = rw (c .ending-of .ensures)
 
 pub ended-spec : {M : Type 1} → statement M
-ended-spec =
-    tie.close (tie.spec ending-of-requires table-cost-requires returns)
+ended-spec = tie.close (tie.spec ending-of-requires returns)

@@ -4,7 +4,9 @@ use borrow.Author.Needs.{needs}
 use denote.Ref.{now}
 use Rattle.calls.specs.Calls.{runNumber}
 use Rattle.calls.specs.Laws.Calls.{run-kept}
+use Rattle.assignment.specs.Decoded.{decodedOf}
 use Rattle.assignment.specs.Runs.{Begun}
+use Rattle.assignment.specs.Laws.Decoding.{studyIn, study-decoded, total-decoded}
 use Rattle.assignment.specs.Laws.Answers.{run-refusal, run-ready, run-begun}
 use Rattle.assignment.proofs.running.run.Statement.{statement}
 use Rattle.assignment.proofs.running.run.Tie as tie
@@ -13,7 +15,7 @@ decode-requires : tie.Need-decode-requires
 decode-requires c κs = search needs
 
 run-refusal-requires : tie.Need-run-refusal-requires
-run-refusal-requires c κs = search needs
+run-refusal-requires c κs = study-decoded _ _ (c .before .before .before .before .before .before .before .before .before .decode .ensures)
 
 refused-run-requires : tie.Need-refused-run-requires
 refused-run-requires c κs = search needs
@@ -28,24 +30,45 @@ returns c =
       sym (run-kept _ _ _ _ (λ e. c .before .if1 .taken (number ∙ e))),
     )
 
-accepted : (c : tie.Else1) → runNumber (now (c .before .before .before .before .before .before .args .file)) (now (c .before .before .before .before .before .before .args .table)) (c .before .before .before .before .before .before .args .budget) ≡ 0
+-- What was decoded, and the call's arguments.
+abbrev read : tie.Else1 → tie.After-decode
+read c = c .before .before .before .before .before .before .before .before .before .before .before
+
+abbrev given : tie.Else1 → tie.Start
+given c = read c .before .before .before
+
+decoded : (c : tie.Else1) → studyIn (read c .decode .result) ≡ decodedOf (now (given c .args .file))
+decoded c = study-decoded _ _ (read c .decode .ensures)
+
+accepted : (c : tie.Else1) → runNumber (now (given c .args .file)) (now (given c .args .table)) (given c .args .budget) ≡ 0
 accepted c = sym (c .before .run-refusal .ensures) ∙ c .if1 .left
 
 start-table-requires : tie.Need-start-table-requires
-start-table-requires c κs = run-ready _ _ _ (c .before .before .before .before .decode .ensures) _ (accepted (c .before))
+start-table-requires c κs = let else = c .before .before .before .before .before .before .before .before .before in run-ready _ _ _ (decoded else) _ (accepted else)
 
-begun : (c : tie.After-start-table) → Begun (now (c .before .before .before .before .before .before .before .before .args .file)) (now (c .before .before .before .before .before .before .before .before .args .table)) (c .before .before .before .before .before .before .before .before .args .budget) (c .before .before .before .before .before .decode .result) (c .start-table .last .1 .0)
-begun c = run-begun _ _ _ (c .before .before .before .before .before .decode .ensures) _ _ (accepted (c .before .before)) (c .start-table .ensures)
+-- The turns begin with what the start left.
+abbrev yes : tie.After-start-table → tie.Else1
+yes c = c .before .before .before .before .before .before .before .before .before .before
+
+begun : (c : tie.After-start-table) → Begun (now (given (yes c) .args .file)) (now (given (yes c) .args .table)) (given (yes c) .args .budget) (studyIn (read (yes c) .decode .result)) (c .start-table .last .1 .1 .1 .1 .1 .1 .1 .1 .1 .1 .0)
+begun c = run-begun _ _ _ (decoded (yes c)) _ _ (accepted (yes c)) (c .start-table .ensures)
 
 turns-requires : tie.Need-turns-requires
-turns-requires c κs = record { file = _; before = _; begun = begun (c .before .before .before) }
+turns-requires c κs =
+    let started = c .before .before .before .before .before .before .before .before .before .before .before in
+    record {
+      total-is = total-decoded _ _ (read (yes started) .decode .ensures);
+      file = _;
+      before = _;
+      begun = begun started;
+    }
 
 same-length-2 : tie.Need-same-length-2
 same-length-2 c = search needs
 
 returns-2 : tie.Need-returns-2
 returns-2 c =
-    let ran = c .before .before .turns .ensures _ _ (begun (c .before .before .before .before .before .before)) in
+    let ran = c .before .before .turns .ensures _ _ (begun (c .before .before .before .before .before .before .before .before .before .before .before .before .before .before)) in
     (ran .answers, ran .leaves)
 
 pub run-spec : {M : Type 1} → statement M

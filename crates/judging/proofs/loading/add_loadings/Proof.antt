@@ -4,17 +4,17 @@ use mathlib.Core.Path.{_≡_}
 use native.Mathlib.Omega.{arith}
 use borrow.Author.Needs.{needs}
 use lib.ListN.{length}
-use Rattle.judging.specs.Loading.{loadingAlong, addedRows}
-use Rattle.judging.specs.Laws.Loading.{trips-within, rows-none, rows-length, rows-within, row-loadable, rows-more}
+use Rattle.judging.specs.Loading.{volumeRows, addedRows}
+use Rattle.judging.specs.Laws.Loading.{rows-none, rows-length, rows-within, row-scatterable, rows-more}
 use Rattle.judging.specs.Laws.Parts.{row-most}
 use Rattle.judging.proofs.loading.add_loadings.Statement.{statement}
 use Rattle.judging.proofs.loading.add_loadings.Tie as tie
 
 abbrev Inv-loop : tie.InvT-loop
-Inv-loop table₀ n m p heads trips next weight k₀ table k = (k ≤ p) × (table ≡ addedRows (k * m) weight (loadingAlong n m p heads trips next) table₀)
+Inv-loop table₀ n m p next volumes weight k₀ table k = (k ≤ p) × (table ≡ addedRows (k * m) weight (volumeRows n m p next volumes) table₀)
 
 abbrev μ-loop : tie.MeasureT-loop
-μ-loop table₀ n m p heads trips next weight k₀ table k = p - k
+μ-loop table₀ n m p next volumes weight k₀ table k = p - k
 
 loop-holds : tie.Need-loop-holds Inv-loop μ-loop
 loop-holds c = (search needs, rows-none _ _ _ _)
@@ -25,62 +25,45 @@ mul-links c = search needs
 element-copy-out-links : tie.Need-element-copy-out-links Inv-loop μ-loop
 element-copy-out-links c = search needs
 
--- The part of the trips and the row of a turn are within the whole, and few.
+mul-row : tie.Need-mul-row Inv-loop μ-loop
+mul-row c = search needs
+
+element-copy-out-row : tie.Need-element-copy-out-row Inv-loop μ-loop
+element-copy-out-row c = search needs
+
+-- The row of a turn is within the table, and small.
 within :
     (c : tie.In-loop Inv-loop μ-loop) →
-    let x = c .before .before .before .before .args in
+    let x = c .before .before .before .args in
     let k = c .before .loop .k in
-    (k * x .n + x .n ≤ length (x .trips .now)) × (k * x .n + x .n ≤ 4096)
-    × (k * x .m + x .m ≤ length (c .before .loop .table)) × (k * x .m + x .m ≤ 16384)
+    (k * x .m + x .m ≤ length (c .before .loop .table)) × (k * x .m + x .m ≤ 16384)
 within c =
-    let given = c .before .before .before .before .pre in
-    let inside = c .loop-test .taken in (
-      trips-within (given .followable) inside,
-      row-most 32 128 inside (given .followable .few-destinations) (given .followable .few-nodes),
-      rows-within given inside (c .before .loop .inv .1),
-      row-most 32 512 inside (given .followable .few-destinations) (given .followable .few-links),
-    )
-
-mul-first : tie.Need-mul-first Inv-loop μ-loop
-mul-first c = omega (arith, within (c .before))
-
-add-past : tie.Need-add-past Inv-loop μ-loop
-add-past c = omega (arith, within (c .before))
+    let given = c .before .before .before .pre in
+    let inside = c .loop-test .taken in
+    (rows-within given inside (c .before .loop .inv .1), row-most 32 512 inside (given .few-destinations) (given .few-links))
 
 mul-start : tie.Need-mul-start Inv-loop μ-loop
-mul-start c = omega (arith, within (c .before))
+mul-start c = omega (arith, within (c .before .before))
 
 add-end : tie.Need-add-end Inv-loop μ-loop
-add-end c = omega (arith, within (c .before))
+add-end c = omega (arith, within (c .before .before))
 
-mul-add-loading : tie.Need-mul-add-loading Inv-loop μ-loop
-mul-add-loading c = omega (arith, within (c .before))
+mul-add-volumes : tie.Need-mul-add-volumes Inv-loop μ-loop
+mul-add-volumes c = omega (arith, within (c .before .before))
 
-sub-add-loading : tie.Need-sub-add-loading Inv-loop μ-loop
-sub-add-loading c = omega (arith, within (c .before))
+sub-add-volumes : tie.Need-sub-add-volumes Inv-loop μ-loop
+sub-add-volumes c = search needs
 
-part-add-loading-start : tie.Need-part-add-loading-start Inv-loop μ-loop
-part-add-loading-start c = omega (arith, within (c .before))
+part-add-volumes-start : tie.Need-part-add-volumes-start Inv-loop μ-loop
+part-add-volumes-start c = omega (arith, within (c .before .before))
 
-part-add-loading-end : tie.Need-part-add-loading-end Inv-loop μ-loop
-part-add-loading-end c = omega (arith, within (c .before))
+part-add-volumes-end : tie.Need-part-add-volumes-end Inv-loop μ-loop
+part-add-volumes-end c = omega (arith, within (c .before .before))
 
-mul-add-loading-2 : tie.Need-mul-add-loading-2 Inv-loop μ-loop
-mul-add-loading-2 c = omega (arith, within (c .before .before .before))
-
-sub-add-loading-2 : tie.Need-sub-add-loading-2 Inv-loop μ-loop
-sub-add-loading-2 c = search needs
-
-part-add-loading-start-2 : tie.Need-part-add-loading-start-2 Inv-loop μ-loop
-part-add-loading-start-2 c = omega (arith, within (c .before .before .before))
-
-part-add-loading-end-2 : tie.Need-part-add-loading-end-2 Inv-loop μ-loop
-part-add-loading-end-2 c = omega (arith, within (c .before .before .before))
-
-add-loading-requires : tie.Need-add-loading-requires Inv-loop μ-loop
-add-loading-requires c κs = let turn = c .before .before .before .before in
-    row-loadable (turn .before .before .before .before .pre) (turn .loop-test .taken) (turn .before .loop .inv .1)
-    (λ i. omega (arith, turn .before .before .shared-slice-known .given i))
+add-volumes-requires : tie.Need-add-volumes-requires Inv-loop μ-loop
+add-volumes-requires c κs =
+    let turn = c .before .before .before .before .before in
+    row-scatterable (turn .before .before .before .pre) (turn .loop-test .taken) (turn .before .loop .inv .1)
 
 add-k : tie.Need-add-k Inv-loop μ-loop
 add-k c = search needs
@@ -89,15 +72,20 @@ loop-less : tie.Need-loop-less Inv-loop μ-loop
 loop-less c = search needs
 
 loop-again : tie.Need-loop-again Inv-loop μ-loop
-loop-again c = let turn = c .before .before .before .before .before .before .before in
-    let given = turn .before .before .before .before .pre in
-    (search needs, rows-more given (turn .loop-test .taken) (turn .before .loop .inv .1) (c .before .before .add-loading .ensures))
+loop-again c =
+    let added = c .before .before in
+    let turn = added .before .before .before .before .before .before in
+    let given = turn .before .before .before .pre in
+    (search needs, rows-more given (turn .loop-test .taken) (turn .before .loop .inv .1) (added .add-volumes .ensures))
 
 same-length : tie.Need-same-length Inv-loop μ-loop
-same-length c = rows-length (c .before .before .before .before .pre) (c .before .loop .inv .0) (c .before .loop .inv .1)
+same-length c = let at = c .before in rows-length (at .before .before .pre) (at .loop .inv .0) (at .loop .inv .1)
 
 returns : tie.Need-returns Inv-loop μ-loop
-returns c = let all : c .before .loop .k ≡ c .before .before .before .before .args .p = omega arith in rw all at (c .before .loop .inv .1)
+returns c =
+    let at = c .before in
+    let all : at .loop .k ≡ at .before .before .args .p = omega arith in
+    rw all at (at .loop .inv .1)
 
 pub add-loadings-spec : {M : Type 1} → statement M
 add-loadings-spec =
@@ -108,19 +96,15 @@ add-loadings-spec =
     loop-holds
     mul-links
     element-copy-out-links
-    mul-first
-    add-past
+    mul-row
+    element-copy-out-row
     mul-start
     add-end
-    mul-add-loading
-    sub-add-loading
-    part-add-loading-start
-    part-add-loading-end
-    mul-add-loading-2
-    sub-add-loading-2
-    part-add-loading-start-2
-    part-add-loading-end-2
-    add-loading-requires
+    mul-add-volumes
+    sub-add-volumes
+    part-add-volumes-start
+    part-add-volumes-end
+    add-volumes-requires
     add-k
     loop-less
     loop-again

@@ -4,141 +4,110 @@ use mathlib.Core.Path.{_≡_, refl, sym, _∙_, ap}
 use mathlib.Core.Bool.{true}
 use native.Mathlib.Omega.{arith}
 use borrow.Author.Needs.{needs}
-use lib.ListN.{length}
+use borrow.Author.Tests.{eqb-true}
 use Rattle.study.proofs.Flags.{was-yes, was-no}
 use Rattle.theory.specs.Cost.{gap}
 use Rattle.theory.specs.Moves.{moves}
+use Rattle.theory.specs.Laws.Cases.{true-false}
 use Rattle.calls.specs.Calls.{shareAfter, tableAfter}
-use Rattle.judging.specs.Study.{networkIn, moveOf}
+use Rattle.judging.specs.declared.Decoded.{Decoded}
+use Rattle.judging.specs.Study.{networkIn, moveOf, studyOf}
 use Rattle.judging.specs.Moves.{canMove}
-use Rattle.judging.specs.Judged.{Computed}
-use Rattle.judging.specs.Laws.Study.{links-fit, searchable}
-use Rattle.judging.specs.Laws.Routes.{followable-all}
-use Rattle.judging.specs.Laws.Judged.{share-fits, holds, totals-within, times-in, gap-is, gap-fits, move-fits, movable, move-is, moves-is}
+use Rattle.judging.specs.Laws.Judged.{known-at, share-fits, holds, totals-within, gap-is, gap-fits, move-fits, movable, move-is, moves-is}
+use Rattle.judging.specs.Laws.Doubled.{known-moved}
 use Rattle.judging.specs.Laws.Turns.{excess-fits, reached, finest, spent, moved}
-use Rattle.judging.proofs.Sizes.{trips-long}
 use Rattle.judging.proofs.turns.turn_table.Statement.{statement}
 use Rattle.judging.proofs.turns.turn_table.Tie as tie
 
--- The places at which totals, times, next links and loading are there, each with the one before.
+-- The places at which totals and what judging computes are there, each with the one before.
 abbrev of-totals : tie.After-totals → tie.Start
-of-totals c = c .before .before .before .before .before .before .before .before .before .before
+of-totals c = c .before .before .before
 
-abbrev of-times : tie.After-times → tie.After-totals
-of-times c = c .before .before .before .before .before
+abbrev of-judge : tie.After-judge → tie.After-totals
+of-judge c = c .before .before .before .before .before .before
 
-abbrev of-nexts : tie.After-next-table → tie.After-times
-of-nexts c = c .before .before .before .before .before
-
-abbrev of-loads : tie.After-loading-totals → tie.After-next-table
-of-loads c = c .before .before .before .before
-
-abbrev start : tie.After-loading-totals → tie.Start
-start c = of-totals (of-times (of-nexts (of-loads c)))
-
-long : (c : tie.Start) → length (c .args .d .trips) ≡ 4096
-long c = trips-long (c .args .d) _ (c .good .0)
-
-computed :
-    (c : tie.After-loading-totals) →
-    let nexts = of-loads c in
-    let times = of-nexts nexts in
-    let totals = of-times times in
-    let x = of-totals totals .args in
-    Computed (x .d) (x .table .now) (x .share) (totals .totals .result) (times .times .result) (nexts .next-table .result)
-    (c .loading-totals .result)
-computed c =
-    let times = of-nexts (of-loads c) in
-    record {
-      totals-are = of-times times .totals .ensures .0;
-      times-are = times .times .ensures .0;
-      times-fit = times .times .ensures .1;
-      nexts-are = of-loads c .next-table .ensures;
-      loads-are = c .loading-totals .ensures;
-    }
+abbrev start : tie.After-judge → tie.Start
+start c = of-totals (of-judge c)
 
 -- The places at which the gap is there, is too large, j is there, and it is known that there is a move.
-abbrev of-gap : tie.After-gap-of → tie.After-loading-totals
+abbrev of-gap : tie.After-gap-of → tie.After-judge
 of-gap c = c .before .before .before .before
 
 abbrev of-above : tie.Else1 → tie.After-gap-of
-of-above c = c .before .before
+of-above c = c .before
 
 abbrev of-chosen : tie.After-chosen → tie.Else1
-of-chosen c = c .before .before .before .before .before .before
+of-chosen c = c .before .before .before
 
 abbrev of-can : tie.Else2 → tie.After-chosen
 of-can c = c .before .before
 
-abbrev judged : tie.After-chosen → tie.After-loading-totals
+abbrev judged : tie.After-chosen → tie.After-judge
 judged c = of-gap (of-above (of-chosen c))
+
+-- The study that the arrays hold.
+abbrev study : tie.Start → Decoded
+study c =
+    let x = c .args in
+    studyOf (x .n) (x .m) (x .p) (x .tails .now) (x .heads .now) (x .free .now) (x .rises .now) (x .capacities .now) (x .nodes .now) (x .trips .now)
 
 -- The gap is the table's, and the limit of a run's gap fits.
 gap-of :
     (c : tie.After-gap-of) →
-    let x = start (of-gap c) .args in c .gap-of .result ≡ gap (networkIn (x .d)) (x .share) (x .table .now)
+    let at = start (of-gap c) in
+    c .gap-of .result ≡ gap (networkIn (study at)) (at .args .share) (at .args .table .now)
 gap-of c =
     let at = of-gap c in
-    let given = start at .pre in
-    c .gap-of .ensures ∙ gap-is (given .0) (given .1) (computed at)
+    let given = start at .pre .0 in
+    c .gap-of .ensures ∙ gap-is (given .0 .0) (given .1) (of-judge at .totals .ensures .0) (at .judge .ensures)
 
 limit :
     (c : tie.After-gap-of) →
     let x = start (of-gap c) .args in
-    (x .excess * x .share ≤ 67107840) × (x .excess * x .share * x .d .«total_trips» ≤ 4397912294400)
+    (x .excess * x .share ≤ 67107840) × (x .excess * x .share * x .total ≤ 4397912294400)
 limit c =
     let at = start (of-gap c) in
-    excess-fits (at .pre .0) (omega (arith, at .fits .excess)) (at .pre .1 .share-most)
+    excess-fits (at .pre .0 .0 .0) (at .pre .1 .0) (omega (arith, at .fits .excess)) (at .pre .0 .1 .share-most)
 
 -- Whether there is a move.
 can-move-is :
     (c : tie.After-chosen) →
-    let x = start (judged c) .args in moves (moveOf (x .d) (x .table .now) (x .share)) ≡ canMove (x .share) (c .chosen .result)
+    let at = start (judged c) in
+    moves (moveOf (study at) (at .args .table .now) (at .args .share)) ≡ canMove (at .args .share) (c .chosen .result)
 can-move-is c =
     let at = judged c in
-    let given = start at .pre in
-    sym (moves-is (given .0) (given .1) (computed at) (c .chosen .ensures))
+    let given = start at .pre .0 in
+    sym (moves-is (given .0 .0) (given .1) (of-judge at .totals .ensures .0) (at .judge .ensures) (c .chosen .ensures))
 
-some-move :
-    (c : tie.Else2) →
-    let x = start (judged (of-can c)) .args in moves (moveOf (x .d) (x .table .now) (x .share)) ≡ true
-some-move c = can-move-is (of-can c) ∙ was-yes (c .before .can-move .ensures) (c .if2 .left)
+can-move-yes : (c : tie.Else2) → canMove (start (judged (of-can c)) .args .share) (of-can c .chosen .result) ≡ true
+can-move-yes c = was-yes (c .before .can-move .ensures) (c .if2 .left)
 
 totals-requires : tie.Need-totals-requires
-totals-requires c κs = let at = c .before .before .before .before .before .before .before .before .before in
-    (at .pre .0 .few-destinations, at .pre .0 .few-links, holds (at .pre .0) (at .pre .1))
+totals-requires c κs = let given = c .before .before .pre .0 in
+    (given .0 .0 .few-destinations, given .0 .0 .few-links, holds (given .0 .0) (given .1))
 
-times-requires : tie.Need-times-requires
-times-requires c κs = let at = c .before .before .before .before in
-    let given = of-totals at .pre in
-    (links-fit (given .0), share-fits (given .0) (given .1), totals-within (given .0) (given .1) (at .totals .ensures .0))
-
-next-table-requires : tie.Need-next-table-requires
-next-table-requires c κs = let at = c .before .before .before .before in searchable (of-totals (of-times at) .pre .0) (at .times .ensures .1)
-
-slice-aggregate-loading-totals : tie.Need-slice-aggregate-loading-totals
-slice-aggregate-loading-totals c = sym (long (of-totals (of-times (of-nexts (c .before .before)))))
-
-loading-totals-requires : tie.Need-loading-totals-requires
-loading-totals-requires c κs = let nexts = c .before .before .before in
-    let times = of-nexts nexts in
-    let totals = of-times times in
-    let given = of-totals totals .pre in
-    followable-all (given .0)
-    (times-in (given .0) (given .1) (totals .totals .ensures .0) (times .times .ensures .0) (times .times .ensures .1))
-    (nexts .next-table .ensures)
-    (long (of-totals totals))
+judge-requires : tie.Need-judge-requires
+judge-requires c κs = let at = c .before .before .before .before .before in
+    let begin = of-totals at in
+    let given = begin .pre .0 in
+    let totals-are = at .totals .ensures .0 in (
+      given .0,
+      (
+        (share-fits (given .0 .0) (given .1), totals-within (given .0 .0) (given .1) totals-are),
+        λ e. known-at (begin .args .table .now) totals-are (begin .pre .1 .1 e),
+      ),
+    )
 
 gap-of-requires : tie.Need-gap-of-requires
 gap-of-requires c κs = let at = c .before .before .before in
-    let given = start at .pre in
-    gap-fits (given .0) (given .1) (computed at)
+    let given = start at .pre .0 in
+    gap-fits (given .0 .0) (given .1) (of-judge at .totals .ensures .0) (at .judge .ensures)
 
 mul-if1 : tie.Need-mul-if1
 mul-if1 c = omega (arith, limit c .0)
 
 mul-if1-2 : tie.Need-mul-if1-2
-mul-if1-2 c = omega (arith, limit (c .before) .1)
+mul-if1-2 c = omega (arith, limit c .1)
 
 turned-requires : tie.Need-turned-requires
 turned-requires c κs = search needs
@@ -147,16 +116,25 @@ same-length : tie.Need-same-length
 same-length c = search needs
 
 returns : tie.Need-returns
-returns c = let at = c .before .before .before in
-    rw (c .turned .ensures) ((reached (start (of-gap at) .pre .0) _ _ _ _ (gap-of at) (c .before .if1 .taken), gap-of at), (refl, refl))
+returns c = let at = c .before .before in
+    let begin = start (of-gap at) in
+    rw (c .turned .ensures) (
+      record {
+        step-is = reached (study begin) _ _ _ _ (begin .pre .1 .0) (gap-of at) (c .before .if1 .taken);
+        gap-is = gap-of at;
+        share-is = refl;
+        table-is = refl;
+      },
+      λ e. true-false e refl,
+    )
 
 chosen-requires : tie.Need-chosen-requires
-chosen-requires c κs = let at = of-gap (of-above (c .before .before .before .before .before)) in
-    let given = start at .pre in
-    move-fits (given .0) (given .1) (computed at)
+chosen-requires c κs = let at = of-gap (of-above (c .before .before)) in
+    let given = start at .pre .0 in
+    move-fits (given .0 .0) (given .1) (of-judge at .totals .ensures .0) (at .judge .ensures)
 
 can-move-requires : tie.Need-can-move-requires
-can-move-requires c κs = start (judged c) .pre .1 .share-most
+can-move-requires c κs = start (judged c) .pre .0 .1 .share-most
 
 turned-requires-2 : tie.Need-turned-requires-2
 turned-requires-2 c κs = search needs
@@ -167,10 +145,18 @@ same-length-2 c = search needs
 returns-2 : tie.Need-returns-2
 returns-2 c = let last = c .before in
     let chose = last .before .before in
-    let at = of-chosen chose in
+    let above = of-chosen chose in
+    let begin = start (judged chose) in
     let none = can-move-is chose ∙ was-no (last .before .can-move .ensures) (last .if2 .taken) in
-    rw (c .turned2 .ensures)
-    ((finest (start (judged chose) .pre .0) _ _ _ _ (gap-of (of-above at)) (at .if1 .left) none, gap-of (of-above at)), (refl, refl))
+    rw (c .turned2 .ensures) (
+      record {
+        step-is = finest (study begin) _ _ _ _ (begin .pre .1 .0) (gap-of (of-above above)) (above .if1 .left) none;
+        gap-is = gap-of (of-above above);
+        share-is = refl;
+        table-is = refl;
+      },
+      λ e. true-false e refl,
+    )
 
 turned-requires-3 : tie.Need-turned-requires-3
 turned-requires-3 c κs = search needs
@@ -181,23 +167,24 @@ same-length-3 c = search needs
 returns-3 : tie.Need-returns-3
 returns-3 c = let last = c .before in
     let chose = of-can (last .before) in
-    let at = of-chosen chose in
+    let above = of-chosen chose in
+    let begin = start (judged chose) in
+    let some = can-move-is chose ∙ can-move-yes (last .before) in
     rw (c .turned3 .ensures) (
-      (
-        spent (start (judged chose) .pre .0) _ _ _ _ (gap-of (of-above at)) (at .if1 .left) (some-move (last .before)) (last .if3 .taken),
-        gap-of (of-above at),
-      ),
-      (refl, refl),
+      record {
+        step-is = spent (study begin) _ _ _ _ (begin .pre .1 .0) (gap-of (of-above above)) (above .if1 .left) some (last .if3 .taken);
+        gap-is = gap-of (of-above above);
+        share-is = refl;
+        table-is = refl;
+      },
+      λ e. true-false e refl,
     )
 
-slice-aggregate-move-table : tie.Need-slice-aggregate-move-table
-slice-aggregate-move-table c = sym (long (start (judged (of-can (c .before .before .before .before)))))
-
 move-table-requires : tie.Need-move-table-requires
-move-table-requires c κs = let chose = of-can (c .before .before .before .before .before) in
+move-table-requires c κs = let chose = of-can (c .before .before .before .before) in
     let at = judged chose in
-    let given = start at .pre in
-    movable (given .0) (given .1) (computed at) (chose .chosen .ensures) (long (start at))
+    let given = start at .pre .0 in
+    movable (given .0 .0) (given .1) (of-judge at .totals .ensures .0) (at .judge .ensures) (chose .chosen .ensures) (given .0 .1)
 
 turned-requires-4 : tie.Need-turned-requires-4
 turned-requires-4 c κs = search needs
@@ -207,21 +194,26 @@ same-length-4 c = search needs
 
 returns-4 : tie.Need-returns-4
 returns-4 c = let moving = c .before .before .before in
-    let goes = moving .before .before .before .before .before in
+    let goes = moving .before .before .before .before in
     let chose = of-can (goes .before) in
-    let at = judged chose in
-    let given = start at .pre in
     let above = of-chosen chose in
-    let next = move-is (given .0) (given .1) (computed at) (chose .chosen .ensures) in
+    let at = judged chose in
+    let begin = start at in
+    let given = begin .pre .0 in
+    let totals-are = of-judge at .totals .ensures .0 in
+    let can = can-move-yes (goes .before) in
+    let next = move-is (given .0 .0) (given .1) totals-are (at .judge .ensures) (chose .chosen .ensures) in
     rw (c .turned4 .ensures) (
-      (
-        moved (given .0) _ _ _ _ (gap-of (of-above above)) (above .if1 .left) (some-move (goes .before)) (goes .if3 .left),
-        gap-of (of-above above),
-      ),
-      (
-        moving .move-table .ensures .0 ∙ ap (shareAfter (start at .args .share)) next,
-        moving .move-table .ensures .1 ∙ ap (tableAfter (start at .args .table .now)) next,
-      ),
+      record {
+        step-is =
+            moved (study begin) _ _ _ _ (begin .pre .1 .0) (gap-of (of-above above)) (above .if1 .left) (can-move-is chose ∙ can) (goes .if3 .left);
+        gap-is = gap-of (of-above above);
+        share-is = moving .move-table .ensures .0 ∙ ap (shareAfter (begin .args .share)) next;
+        table-is = moving .move-table .ensures .1 ∙ ap (tableAfter (begin .args .table .now)) next;
+      },
+      λ e.
+          known-moved (given .0 .0) (begin .args .table .now) totals-are (at .judge .ensures) can (eqb-true _ _ e) (moving .move-table .ensures .0)
+          (moving .move-table .ensures .1),
     )
 
 pub turn-table-spec : {M : Type 1} → statement M
@@ -229,10 +221,7 @@ turn-table-spec =
     tie.close
     (tie.spec
     totals-requires
-    times-requires
-    next-table-requires
-    slice-aggregate-loading-totals
-    loading-totals-requires
+    judge-requires
     gap-of-requires
     mul-if1
     mul-if1-2
@@ -247,7 +236,6 @@ turn-table-spec =
     turned-requires-3
     same-length-3
     returns-3
-    slice-aggregate-move-table
     move-table-requires
     turned-requires-4
     same-length-4

@@ -1,0 +1,105 @@
+-- `search::search` meets its contract. The search sets out with all marks unreached, and with no node scanned. The first loop's invariant:
+-- the first `k` destinations of the group are marked, and nothing else is. The second loop's: in each lane the marks are those of a search
+-- under way, and no link gives its tail less than its mark by the mark that its head had when it was last scanned. The sum of those falls with
+-- each sweep that scans a node; after one that scans none the marks are the distances.
+use Prim.Native.Nat.{_-_, _≤_}
+use mathlib.Core.Path.{_≡_, refl}
+use native.Mathlib.Omega.{arith}
+use borrow.Author.Needs.{needs}
+use Rattle.routes.specs.Lanes.{allRowsUnreached, totals, SetOut, EachScans}
+use Rattle.routes.specs.Laws.Lanes.{set-none, set-more, set-all, sweep-found}
+use Rattle.routes.proofs.search.search.Statement.{statement}
+use Rattle.routes.proofs.search.search.Tie as tie
+
+abbrev Inv-loop : tie.InvT-loop
+Inv-loop n m tails heads times group first-in next-in marks₀ scanned k₀ marks k =
+    (k ≤ 8) × (marks₀ ≡ allRowsUnreached) × (scanned ≡ allRowsUnreached) × SetOut group k marks
+
+abbrev μ-loop : tie.MeasureT-loop
+μ-loop n m tails heads times group first-in next-in marks₀ scanned k₀ marks k = 8 - k
+
+abbrev Inv-loop2 : tie.InvT-loop2
+Inv-loop2 n m tails heads times group first-in next-in marks₀ scanned₀ k marks scanned = EachScans m tails heads times n group marks scanned
+
+abbrev μ-loop2 : tie.MeasureT-loop2
+μ-loop2 n m tails heads times group first-in next-in marks₀ scanned₀ k marks scanned = totals scanned
+
+loop-holds : tie.Need-loop-holds Inv-loop μ-loop Inv-loop2 μ-loop2
+unfolding allRowsUnreached
+loop-holds c = (search needs, refl, refl, set-none (c .before .pre .0))
+
+mul-index : tie.Need-mul-index Inv-loop μ-loop Inv-loop2 μ-loop2
+mul-index c = search needs
+
+element-copy-out-index : tie.Need-element-copy-out-index Inv-loop μ-loop Inv-loop2 μ-loop2
+element-copy-out-index c = search needs
+
+index-requires : tie.Need-index-requires Inv-loop μ-loop Inv-loop2 μ-loop2
+index-requires c κs = search needs
+
+set-out-requires : tie.Need-set-out-requires Inv-loop μ-loop Inv-loop2 μ-loop2
+set-out-requires c κs =
+    let turn = c .before .before .before .before in
+    let inside = c .before .before .before .loop-test .taken in
+    let one = turn .before .before .pre .0 (turn .loop .k) inside in
+    (omega (arith, c .index .ensures, one .destination-node, one .few-nodes), inside)
+
+add-k : tie.Need-add-k Inv-loop μ-loop Inv-loop2 μ-loop2
+add-k c = search needs
+
+loop-less : tie.Need-loop-less Inv-loop μ-loop Inv-loop2 μ-loop2
+loop-less c = search needs
+
+loop-again : tie.Need-loop-again Inv-loop μ-loop Inv-loop2 μ-loop2
+loop-again c =
+    let turn = c .before .before .before .before .before in (
+      search needs,
+      turn .loop .inv .1,
+      turn .loop .inv .2,
+      rw (c .set-out .ensures) (set-more (turn .before .before .pre .0) (c .before .before .before .before .loop-test .taken) (c .before .index .ensures) (turn .loop .inv .3)),
+    )
+
+loop2-holds : tie.Need-loop2-holds Inv-loop μ-loop Inv-loop2 μ-loop2
+loop2-holds c =
+    let turn = c .before in
+    let all : turn .loop .k ≡ 8 = omega arith in
+    rw (turn .loop .inv .2) (set-all (turn .before .before .pre .0) (rw all at (turn .loop .inv .3)))
+
+sweep-requires : tie.Need-sweep-requires Inv-loop μ-loop Inv-loop2 μ-loop2
+sweep-requires c κs =
+    let turn = c .before .before in
+    let start = turn .before .before .before in
+    (start .before .pre .0, (start .before .pre .1, turn .loop2 .inv))
+
+loop2-less : tie.Need-loop2-less Inv-loop μ-loop Inv-loop2 μ-loop2
+loop2-less c = omega (arith, c .before .sweep .ensures .falls, c .if1 .left)
+
+loop2-again : tie.Need-loop2-again Inv-loop μ-loop Inv-loop2 μ-loop2
+loop2-again c = c .before .sweep .ensures .scans
+
+returns : tie.Need-returns Inv-loop μ-loop Inv-loop2 μ-loop2
+returns c =
+    let given = c .before .before .before .before .before .before .before .before .pre .0 in
+    sweep-found given (c .before .sweep .ensures) (omega (arith, c .if1 .taken))
+
+pub search-spec : {M : Type 1} → statement M
+search-spec =
+    tie.close
+    (tie.spec
+    Inv-loop
+    μ-loop
+    Inv-loop2
+    μ-loop2
+    loop-holds
+    mul-index
+    element-copy-out-index
+    index-requires
+    set-out-requires
+    add-k
+    loop-less
+    loop-again
+    loop2-holds
+    sweep-requires
+    loop2-less
+    loop2-again
+    returns)

@@ -1,0 +1,58 @@
+-- Rows of eight numbers, worked through from the front.
+use Prim.Native.Nat.{ℕ, _+_, _≤_, _<_}
+use native.Mathlib.Omega.{arith}
+use mathlib.Core.Path.{_≡_, refl, _∙_}
+use mathlib.Core.List.{List}
+use lib.ListN.{length, getD, set, length-set}
+use lib.Seq.{getD-set-same, getD-set-other}
+use Rattle.theory.specs.Laws.Cases.{on-equal}
+use Rattle.routes.specs.Search.{noLink}
+use Rattle.routes.specs.Rows.{Worked}
+use Rattle.routes.specs.Lanes.{Compared}
+use Rattle.routes.specs.Next.{AllLinked}
+
+-- No number is done,
+pub worked-none : {Done : ℕ → ℕ → Type 0} {row : List ℕ} → Worked Done row 0 row
+worked-none = record { size = refl; done = λ i h. absurd (omega arith); rest = λ i h. refl }
+
+-- and one more is.
+pub worked-more : {Done : ℕ → ℕ → Type 0} {row₀ row : List ℕ} {k : ℕ} (v : ℕ) → k < length row → Done k v → Worked Done row₀ k row
+    → Worked Done row₀ (k + 1) (set row k v)
+worked-more {Done} {row₀} {row} {k} v inside d w =
+    record {
+      size = length-set row k v ∙ w .size;
+      done = λ i h.
+          on-equal i k (λ e. rw (e, getD-set-same row k v 0 inside) d)
+          (λ away. rw (getD-set-other row k i v 0 away) (w .done i (omega (arith, away))));
+      rest = λ i h. getD-set-other row k i v 0 (λ e. omega arith) ∙ w .rest i (omega arith);
+    }
+
+-- Marks are compared one by one.
+module _ {row old : List ℕ} where
+  pub compared-none : Compared row old 0 0
+  compared-none = record { none-lower = λ e i h. absurd (omega arith); some-lower = λ h. absurd (omega arith); few = omega arith }
+
+  module _ {k c : ℕ} (w : Compared row old k c) where
+    pub compared-lower : getD row k 0 < getD old k 0 → Compared row old (k + 1) (c + 1)
+    compared-lower h = record { none-lower = λ e. absurd (omega arith); some-lower = λ p. (k, omega arith, h); few = omega (arith, w .few) }
+
+    pub compared-same : getD old k 0 ≤ getD row k 0 → Compared row old (k + 1) c
+    compared-same h =
+        record {
+          none-lower = λ e i b. on-equal i k (λ same. rw same h) (λ away. w .none-lower e i (omega (arith, away)));
+          some-lower = λ p. let (i, b, l) = w .some-lower p in (i, omega (arith, b), l);
+          few = omega (arith, w .few);
+        }
+
+-- Links are counted one by one.
+module _ {row : List ℕ} where
+  pub linked-none : AllLinked row 0 0
+  linked-none = record { few = omega arith; each = λ e i h. absurd (omega arith) }
+
+  module _ {k c : ℕ} (w : AllLinked row k c) where
+    pub linked-more : (getD row k 0 ≡ noLink → ⊥) → AllLinked row (k + 1) (c + 1)
+    linked-more h =
+        record { few = omega (arith, w .few); each = λ e i b. on-equal i k (λ same. rw same h) (λ away. w .each (omega arith) i (omega (arith, away))) }
+
+    pub linked-same : AllLinked row (k + 1) c
+    linked-same = record { few = omega (arith, w .few); each = λ e. absurd (omega (arith, w .few)) }
