@@ -3,6 +3,7 @@ use Prim.Native.Nat.{ℕ, _*_, _≤_}
 use mathlib.Core.Path.{_≡_}
 use mathlib.Core.Bool.{Bool}
 use mathlib.Core.List.{List}
+use lib.ListN.{length}
 use Rattle.theory.specs.Flows.{linkTotal}
 use Rattle.theory.specs.Cost.{cost, gap}
 use Rattle.theory.specs.Moves.{moves}
@@ -23,6 +24,7 @@ pub record Known (d : Decoded) (totals : List ℕ) (share : ℕ) (times : List �
   pub times-are : times ≡ padded (d .links) (listTime (d .«free_times») (d .rises) (d .capacities) share totals)
   pub times-fit : TimesFit (d .links) times
   pub nexts-are : nexts ≡ nextTable (d .nodes) (d .links) (d .destinations) (d .tails) (d .heads) times (d .«destination_nodes»)
+  pub volumes-long : length volumes ≡ 32
   pub volumes-are :
       volumeRows (d .nodes) (d .links) (d .destinations) nexts volumes
       ≡ loadingAlong (d .nodes) (d .links) (d .destinations) (d .heads) (d .trips) nexts

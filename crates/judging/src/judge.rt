@@ -1,6 +1,7 @@
 // What judging a table takes beyond its totals: times, next links, and the loading along them.
 ghost use mathlib.Core.Path.{_≡_};
 ghost use mathlib.Core.Bool.{true};
+ghost use lib.ListN.{length};
 ghost use Rattle.travel.specs.Ranges.{ShareFits, Within, mostFlow};
 ghost use Rattle.judging.specs.Study.{studyOf, ReadyOf};
 ghost use Rattle.judging.specs.Judged.{Known};
@@ -28,7 +29,7 @@ pub fn judge<'a>(
     loads: &mut [u64; 512],
 )
     requires { ⌜ ReadyOf (studyOf n m p (now tails) (now heads) (now free) (now rises) (now capacities) (now nodes) (now trips)) ⌝ }
-    requires { ⌜ ShareFits share × Within m mostFlow (now totals) ⌝ }
+    requires { ⌜ ShareFits share × Within m mostFlow (now totals) × (length (now volumes) ≡ 32) ⌝ }
     requires { ⌜ (known ≡ true → Known (studyOf n m p (now tails) (now heads) (now free) (now rises) (now capacities) (now nodes) (now trips)) (now totals) share (now times) (now next) (now volumes) (now loads)) ⌝ }
     ensures { λ _. ⌜ Known (studyOf n m p (now (tails .entry)) (now (heads .entry)) (now (free .entry)) (now (rises .entry)) (now (capacities .entry)) (now (nodes .entry)) (now (trips .entry))) (now (totals .entry)) share (now (times .exit)) (now (next .exit)) (now (volumes .exit)) (now (loads .exit)) ⌝ }
 {

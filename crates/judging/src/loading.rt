@@ -1,7 +1,7 @@
 // The loading that next links give: volumes by destination and node, its totals, and a multiple of it added to a table.
 ghost use mathlib.Core.Path.{_≡_};
 ghost use Prim.Native.Nat.{_*_, _≤_};
-ghost use lib.ListN.{getD};
+ghost use lib.ListN.{length, getD};
 ghost use Rattle.theory.specs.Flows.{linkTotal};
 ghost use Rattle.travel.specs.Links.{padded};
 ghost use Rattle.judging.specs.Loading.{loadingAlong, volumeRows, addedRows, AllFollowable, Addable};
@@ -17,21 +17,18 @@ pub fn load(
     next: &[[u16; 128]; 32],
     volumes: &mut [[u32; 128]; 32],
 ) -> [u64; 512]
-    requires { ⌜ AllFollowable n m p (now heads) (now trips) (now next) ⌝ }
+    requires { ⌜ AllFollowable n m p (now heads) (now trips) (now next) × (length (now volumes) ≡ 32) ⌝ }
     ensures { λ r. ⌜ r ≡ padded m (linkTotal p m (loadingAlong n m p (now (heads .entry)) (now (trips .entry)) (now (next .entry)))) ⌝ }
     ensures { λ r. ⌜ volumeRows n m p (now (next .entry)) (now (volumes .exit)) ≡ loadingAlong n m p (now (heads .entry)) (now (trips .entry)) (now (next .entry)) ⌝ }
+    ensures { λ _. ⌜ length (now (volumes .exit)) ≡ 32 ⌝ }
 {
-    // written whole, so that the array is known to have its 32 rows
-    *volumes = [[0u32; 128]; 32];
     let mut sums = [0u32; 512];
     let mut k: usize = 0;
     while k < p {
-        let links = next[k];
         let first = k * n;
         let past = first + n;
-        let row = routes::volumes(n, m, heads, &links, &trips[first..past]);
-        routes::add_volumes(&mut sums, n, m, &links, &row, 1);
-        volumes[k] = row;
+        routes::volumes(n, m, heads, &next[k], &trips[first..past], &mut volumes[k]);
+        routes::add_volumes(&mut sums, n, m, &next[k], &volumes[k], 1);
         k += 1;
     }
     widened(&sums, m)
@@ -66,11 +63,9 @@ pub fn add_loadings(
 {
     let mut k: usize = 0;
     while k < p {
-        let links = next[k];
-        let row = volumes[k];
         let start = k * m;
         let end = start + m;
-        routes::add_volumes(&mut table[start..end], n, m, &links, &row, weight);
+        routes::add_volumes(&mut table[start..end], n, m, &next[k], &volumes[k], weight);
         k += 1;
     }
 }

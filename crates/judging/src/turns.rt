@@ -1,6 +1,7 @@
 // A turn of a run. Data flows once: totals, times, next links and the loading are computed once, and not again after a doubling.
 ghost use mathlib.Core.Path.{_≡_};
 ghost use mathlib.Core.Bool.{true};
+ghost use lib.ListN.{length};
 ghost use Rattle.theory.specs.Network.{totalTrips};
 ghost use Rattle.judging.specs.Study.{networkIn, studyOf, JudgeableOf};
 ghost use Rattle.judging.specs.Judged.{KnownOf, Turned, turnOf};
@@ -38,8 +39,10 @@ pub fn turn_table<'a>(
     requires { ⌜ JudgeableOf (studyOf n m p (now tails) (now heads) (now free) (now rises) (now capacities) (now nodes) (now trips)) (now table) share ⌝ }
     requires { ⌜ total ≡ totalTrips (networkIn (studyOf n m p (now tails) (now heads) (now free) (now rises) (now capacities) (now nodes) (now trips))) ⌝ }
     requires { ⌜ (known ≡ true → KnownOf (studyOf n m p (now tails) (now heads) (now free) (now rises) (now capacities) (now nodes) (now trips)) (now table) share (now times) (now next) (now volumes) (now loads)) ⌝ }
+    requires { ⌜ length (now volumes) ≡ 32 ⌝ }
     ensures { λ r. ⌜ Turned (studyOf n m p (now (tails .entry)) (now (heads .entry)) (now (free .entry)) (now (rises .entry)) (now (capacities .entry)) (now (nodes .entry)) (now (trips .entry))) (now (table .entry)) share excess last r (now (table .exit)) ⌝ }
     ensures { λ r. ⌜ (r .doubled ≡ true → KnownOf (studyOf n m p (now (tails .entry)) (now (heads .entry)) (now (free .entry)) (now (rises .entry)) (now (capacities .entry)) (now (nodes .entry)) (now (trips .entry))) (now (table .exit)) (r .share) (now (times .exit)) (now (next .exit)) (now (volumes .exit)) (now (loads .exit))) ⌝ }
+    ensures { λ _. ⌜ length (now (volumes .exit)) ≡ 32 ⌝ }
 {
     let totals = travel::totals(table, p, m);
     judge(

@@ -35,11 +35,10 @@ pub record EachRelaxed (before after : List (List ℕ)) (tail head time : ℕ) :
   pub shaped : Shaped after
   pub each : (i : ℕ) → i < 8 → lane i after ≡ relaxed (lane i before) tail head time
 
--- Of the first k marks of a row, r are below the old ones.
+-- One of the first k marks of a row is below the old one, or r is 0.
 pub record Compared (row old : List ℕ) (k r : ℕ) : Type 0 where
   pub none-lower : r ≡ 0 → (i : ℕ) → i < k → getD old i 0 ≤ getD row i 0
   pub some-lower : 0 < r → (i : ℕ) × (i < k) × (getD row i 0 < getD old i 0)
-  pub few : r ≤ k
 
 -- The network can be searched to each destination of the group.
 abbrev pub EachSearchable : ℕ → ℕ → List ℕ → List ℕ → List ℕ → List ℕ → Type 0

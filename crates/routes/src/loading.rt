@@ -180,9 +180,10 @@ pub fn volumes(
     heads: &[u16; 512],
     next: &[u16; 128],
     trips: &[u16],
-) -> [u32; 128]
+    volumes: &mut [u32; 128],
+)
     requires { ⌜ Sendable n m (now heads) (now next) (now trips) ⌝ }
-    ensures { λ r. ⌜ r ≡ volumesAlong n (now (heads .entry)) (now (next .entry)) (λ j. getD (now (trips .entry)) j 0) ⌝ }
+    ensures { λ _. ⌜ now (volumes .exit) ≡ volumesAlong n (now (heads .entry)) (now (next .entry)) (λ j. getD (now (trips .entry)) j 0) ⌝ }
 {
     let mut waiting = first_waiting(n, trips);
     let mut sums = [0u32; 128];
@@ -193,7 +194,7 @@ pub fn volumes(
             break;
         }
     }
-    sums
+    *volumes = sums;
 }
 
 // A volume, times a weight.

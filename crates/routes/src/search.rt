@@ -1,6 +1,6 @@
 // Least times to eight destinations side by side: a table of marks has a row for each node and a column for each destination.
 ghost use mathlib.Core.Path.{_≡_};
-ghost use Prim.Native.Nat.{_≤_, _<_, min};
+ghost use Prim.Native.Nat.{ℕ, _≤_, _<_, min};
 ghost use mathlib.Core.List.{[]};
 ghost use lib.ListN.{getD, set};
 ghost use Rattle.routes.specs.Given.{longest};
@@ -61,19 +61,18 @@ fn scan<'a>(
     }
 }
 
-// How many of eight marks are below what they were.
-fn count_lower(row: [u32; 8], old: [u32; 8]) -> u32
+// Whether one of eight marks is below what it was, where none is above: 0 if none is. There is no branch, so all are compared at once.
+fn fallen(row: [u32; 8], old: [u32; 8]) -> u32
+    requires { ⌜ ((i : ℕ) → i < 8 → getD row i 0 ≤ getD old i 0) ⌝ }
     ensures { λ r. ⌜ Compared row old 8 r ⌝ }
 {
-    let mut count: u32 = 0;
+    let mut fall: u32 = 0;
     let mut k: usize = 0;
     while k < 8 {
-        if row[k] < old[k] {
-            count += 1;
-        }
+        fall = fall | (old[k] - row[k]);
         k += 1;
     }
-    count
+    fall
 }
 
 // Scans node k where one of its marks is below its mark at its last scan. Answers 1 then, and 0 otherwise.
@@ -97,7 +96,7 @@ fn visit<'a>(
     ensures { λ r. ⌜ Visited m (now (tails .entry)) (now (heads .entry)) (now (times .entry)) n (now (group .entry)) k (now (marks .entry)) (now (scanned .entry)) (now (marks .exit)) (now (scanned .exit)) r ⌝ }
 {
     let row = marks[k];
-    if 0 < count_lower(row, scanned[k]) {
+    if 0 < fallen(row, scanned[k]) {
         scanned[k] = row;
         scan(
             marks,
@@ -116,8 +115,8 @@ fn visit<'a>(
     0
 }
 
-// Visits each node, upwards and then downwards. Answers how many were scanned.
-fn sweep<'a>(
+// Visits each node, upwards. Answers how many were scanned.
+fn sweep_up<'a>(
     marks: &mut [[u32; 8]; 128],
     scanned: &mut [[u32; 8]; 128],
     n: usize,
@@ -152,6 +151,29 @@ fn sweep<'a>(
         );
         k += 1;
     }
+    count
+}
+
+// Visits each node, downwards. Answers how many were scanned.
+fn sweep_down<'a>(
+    marks: &mut [[u32; 8]; 128],
+    scanned: &mut [[u32; 8]; 128],
+    n: usize,
+    m: usize,
+    tails: &[u16; 512],
+    heads: &[u16; 512],
+    times: &[u32; 512],
+    group: &[u16; 8],
+    first_in: &'a [u16; 128],
+    next_in: &'a [u16; 512],
+) -> usize
+    requires { ⌜ EachSearchable n m (now tails) (now heads) (now times) (now group) ⌝ }
+    requires { ⌜ Linked m (now heads) (now «first_in») (now «next_in») ⌝ }
+    requires { ⌜ EachScans m (now tails) (now heads) (now times) n (now group) (now marks) (now scanned) ⌝ }
+    ensures { λ r. ⌜ Swept m (now (tails .entry)) (now (heads .entry)) (now (times .entry)) n (now (group .entry)) 0 (totals (now (scanned .entry))) (now (marks .exit)) (now (scanned .exit)) r ⌝ }
+{
+    let mut count: usize = 0;
+    let mut k: usize = n;
     while 0 < k {
         k -= 1;
         count += visit(
@@ -205,7 +227,7 @@ pub fn search<'a>(
         k += 1;
     }
     loop {
-        let count = sweep(
+        let count = sweep_up(
             marks,
             &mut scanned,
             n,
@@ -220,5 +242,17 @@ pub fn search<'a>(
         if count == 0 {
             break;
         }
+        sweep_down(
+            marks,
+            &mut scanned,
+            n,
+            m,
+            tails,
+            heads,
+            times,
+            group,
+            first_in,
+            next_in,
+        );
     }
 }

@@ -70,6 +70,7 @@ module _ {d : Decoded} (ready : Ready d) (table : List ℕ) {share : ℕ} {total
         times-are = known .times-are ∙ times-kept;
         times-fit = known .times-fit;
         nexts-are = known .nexts-are;
+        volumes-long = known .volumes-long;
         volumes-are = known .volumes-are;
         loads-are = known .loads-are;
       }

@@ -143,6 +143,10 @@ module _ {n m : ℕ} {tails heads times group : List ℕ} (g : EachSearchable n 
     pub each-searching : EachSearching m tails heads times n group table
     each-searching = record { shaped = w .shaped; each = λ i h. w .each i h .searching }
 
+    -- No mark is above what it was at its node's last scan.
+    pub above-at : {k : ℕ} → k < 128 → (i : ℕ) → i < 8 → getD (getD table k []) i 0 ≤ getD (getD scanned k []) i 0
+    above-at {k} h i b = omega (arith, w .each i b .above k h, lane-at i table k h, lane-at i scanned k h)
+
     -- A visit of a node whose marks have not fallen since its last scan,
     module _ {k : ℕ} (h : k < 128) {c : ℕ} (compared : Compared (getD table k []) (getD scanned k []) 8 c) where
       pub visit-none : c ≤ 0 → Visited m tails heads times n group k table scanned table scanned 0

@@ -1,11 +1,14 @@
 -- Rows of eight numbers, worked through from the front.
-use Prim.Native.Nat.{ℕ, _+_, _≤_, _<_}
+use Prim.Native.Nat.{ℕ, _+_, _-_, _≤_, _<_}
 use native.Mathlib.Omega.{arith}
 use mathlib.Core.Path.{_≡_, refl, _∙_}
 use mathlib.Core.List.{List}
+use mathlib.Core.Logic.{⊎-elim}
+use lib.Bits.{bitOr, or-zero-l, or-add-and, and-le-l, and-le-r}
 use lib.ListN.{length, getD, set, length-set}
 use lib.Seq.{getD-set-same, getD-set-other}
 use Rattle.theory.specs.Laws.Cases.{on-equal}
+use Rattle.theory.specs.Laws.Finite.{order}
 use Rattle.routes.specs.Search.{noLink}
 use Rattle.routes.specs.Rows.{Worked}
 use Rattle.routes.specs.Lanes.{Compared}
@@ -30,19 +33,26 @@ worked-more {Done} {row₀} {row} {k} v inside d w =
 -- Marks are compared one by one.
 module _ {row old : List ℕ} where
   pub compared-none : Compared row old 0 0
-  compared-none = record { none-lower = λ e i h. absurd (omega arith); some-lower = λ h. absurd (omega arith); few = omega arith }
+  compared-none = record { none-lower = λ e i h. absurd (omega arith); some-lower = λ h. absurd (omega arith) }
 
-  module _ {k c : ℕ} (w : Compared row old k c) where
-    pub compared-lower : getD row k 0 < getD old k 0 → Compared row old (k + 1) (c + 1)
-    compared-lower h = record { none-lower = λ e. absurd (omega arith); some-lower = λ p. (k, omega arith, h); few = omega (arith, w .few) }
-
-    pub compared-same : getD old k 0 ≤ getD row k 0 → Compared row old (k + 1) c
-    compared-same h =
-        record {
-          none-lower = λ e i b. on-equal i k (λ same. rw same h) (λ away. w .none-lower e i (omega (arith, away)));
-          some-lower = λ p. let (i, b, l) = w .some-lower p in (i, omega (arith, b), l);
-          few = omega (arith, w .few);
-        }
+  -- A mark that is not above the old one has its fall joined to those before it.
+  pub compared-more : {k c : ℕ} → Compared row old k c → getD row k 0 ≤ getD old k 0 → Compared row old (k + 1) (bitOr c (getD old k 0 - getD row k 0))
+  compared-more {k} {c} w h =
+      record {
+        none-lower = λ e i b.
+            let all = or-most c (getD old k 0 - getD row k 0) in
+            on-equal i k (λ same. rw same (omega (arith, all, e))) (λ away. w .none-lower (omega (arith, all, e)) i (omega (arith, away)));
+        some-lower = λ p.
+            ⊎-elim
+            (λ none.
+            let zero : c ≡ 0 = omega arith in
+            (k, omega arith, let joined = rw (zero, or-zero-l) at p in omega (arith, joined)))
+            (λ some. let (i, b, l) = w .some-lower some in (i, omega (arith, b), l))
+            (order c 1);
+      }
+    where
+      or-most : (a b : ℕ) → (a ≤ bitOr a b) × (b ≤ bitOr a b)
+      or-most a b = (omega (arith, or-add-and a b, and-le-r a b), omega (arith, or-add-and a b, and-le-l a b))
 
 -- Links are counted one by one.
 module _ {row : List ℕ} where

@@ -26,13 +26,14 @@ Inv-loop n m p tails heads free rises capacities nodes trips total table₀ budg
     → Begun file before budget (studyOf n m p tails heads free rises capacities nodes trips) table₀
     → Running file before budget excess judged table share)
     × (known ≡ true → KnownOf (studyOf n m p tails heads free rises capacities nodes trips) table share times next volumes loads)
+    × (length volumes ≡ 32)
 
 abbrev μ-loop : tie.MeasureT-loop
 μ-loop n m p tails heads free rises capacities nodes trips total table₀ budget excess times₀ next₀ volumes₀ loads₀ judged₀ share₀ known₀ table times next volumes loads judged share known =
     budget - judged
 
 loop-holds : tie.Need-loop-holds Inv-loop μ-loop
-loop-holds c = (refl, λ file before begun. begun-running file before _ _ _ _ begun, λ e. absurd (true≢false (sym e)))
+loop-holds c = (refl, λ file before begun. begun-running file before _ _ _ _ begun, λ e. absurd (true≢false (sym e)), refl)
 
 -- The study in the arrays.
 abbrev study : tie.Start Inv-loop μ-loop → Decoded
@@ -51,7 +52,7 @@ turn-table-requires : tie.Need-turn-table-requires Inv-loop μ-loop
 turn-table-requires c κs =
     let begins = c .before .before .before .before .before .before .before .pre in (
       turn-judgeable _ _ _ _ _ _ (begins .begun) _ _ _ (under-way (c .before .before .before .before .before)),
-      (begins .total-is, c .before .before .before .before .before .loop .inv .2),
+      (begins .total-is, (c .before .before .before .before .before .loop .inv .2, c .before .before .before .before .before .loop .inv .3)),
     )
 
 enum-told : tie.Need-enum-told Inv-loop μ-loop
@@ -101,7 +102,8 @@ loop-again c =
       λ file before begun.
           turn-moves file before _ _ _ _ begun _ _ _ (loop .inv .1 file before begun) _ _ (turned .step-is) (turned .table-is) _ (turned .share-is)
           (c .enum-told .given .1),
-      turn .ensures .1,
+      turn .ensures .1 .0,
+      turn .ensures .1 .1,
     )
 
 pub turns-spec : {M : Type 1} → statement M

@@ -17,8 +17,8 @@ next-table-requires c κs = let timed = c .before .before in searchable (timed .
 load-requires : tie.Need-load-requires
 load-requires c κs = let found = c .before .before .before in
     let timed = found .before .before .before in
-    let given = timed .before .before .pre .0 in
-    followable-all (given .0) (times-own (timed .times .ensures .1)) (found .next-table .ensures) (given .1)
+    let given = timed .before .before .pre in
+    (followable-all (given .0 .0) (times-own (timed .times .ensures .1)) (found .next-table .ensures) (given .0 .1), given .1 .0 .2)
 
 returns-2 : tie.Need-returns-2
 returns-2 c = search needs

@@ -1,5 +1,5 @@
 -- `add_loadings` meets its contract. The invariant: the rows before `k` have their loading. The measure is what is left of the rows.
-use Prim.Native.Nat.{_+_, _*_, _-_, _≤_}
+use Prim.Native.Nat.{_+_, _*_, _-_, _≤_, _<_}
 use mathlib.Core.Path.{_≡_}
 use native.Mathlib.Omega.{arith}
 use borrow.Author.Needs.{needs}
@@ -19,18 +19,6 @@ abbrev μ-loop : tie.MeasureT-loop
 loop-holds : tie.Need-loop-holds Inv-loop μ-loop
 loop-holds c = (search needs, rows-none _ _ _ _)
 
-mul-links : tie.Need-mul-links Inv-loop μ-loop
-mul-links c = search needs
-
-element-copy-out-links : tie.Need-element-copy-out-links Inv-loop μ-loop
-element-copy-out-links c = search needs
-
-mul-row : tie.Need-mul-row Inv-loop μ-loop
-mul-row c = search needs
-
-element-copy-out-row : tie.Need-element-copy-out-row Inv-loop μ-loop
-element-copy-out-row c = search needs
-
 -- The row of a turn is within the table, and small.
 within :
     (c : tie.In-loop Inv-loop μ-loop) →
@@ -42,27 +30,42 @@ within c =
     let inside = c .loop-test .taken in
     (rows-within given inside (c .before .loop .inv .1), row-most 32 512 inside (given .few-destinations) (given .few-links))
 
+few : (c : tie.In-loop Inv-loop μ-loop) → c .before .loop .k < 32
+few c = omega (arith, c .before .before .before .pre .few-destinations, c .loop-test .taken)
+
 mul-start : tie.Need-mul-start Inv-loop μ-loop
-mul-start c = omega (arith, within (c .before .before))
+mul-start c = omega (arith, within c)
 
 add-end : tie.Need-add-end Inv-loop μ-loop
-add-end c = omega (arith, within (c .before .before))
+add-end c = omega (arith, within c)
 
 mul-add-volumes : tie.Need-mul-add-volumes Inv-loop μ-loop
-mul-add-volumes c = omega (arith, within (c .before .before))
+mul-add-volumes c = omega (arith, within c)
 
 sub-add-volumes : tie.Need-sub-add-volumes Inv-loop μ-loop
 sub-add-volumes c = search needs
 
 part-add-volumes-start : tie.Need-part-add-volumes-start Inv-loop μ-loop
-part-add-volumes-start c = omega (arith, within (c .before .before))
+part-add-volumes-start c = omega (arith, within c)
 
 part-add-volumes-end : tie.Need-part-add-volumes-end Inv-loop μ-loop
-part-add-volumes-end c = omega (arith, within (c .before .before))
+part-add-volumes-end c = omega (arith, within c)
+
+mul-add-volumes-2 : tie.Need-mul-add-volumes-2 Inv-loop μ-loop
+mul-add-volumes-2 c = omega (arith, few (c .before))
+
+index-1-add-volumes : tie.Need-index-1-add-volumes Inv-loop μ-loop
+index-1-add-volumes c = few (c .before)
+
+mul-add-volumes-3 : tie.Need-mul-add-volumes-3 Inv-loop μ-loop
+mul-add-volumes-3 c = omega (arith, few (c .before .before))
+
+index-1-add-volumes-2 : tie.Need-index-1-add-volumes-2 Inv-loop μ-loop
+index-1-add-volumes-2 c = few (c .before .before)
 
 add-volumes-requires : tie.Need-add-volumes-requires Inv-loop μ-loop
 add-volumes-requires c κs =
-    let turn = c .before .before .before .before .before in
+    let turn = c .before .before .before in
     row-scatterable (turn .before .before .before .pre) (turn .loop-test .taken) (turn .before .loop .inv .1)
 
 add-k : tie.Need-add-k Inv-loop μ-loop
@@ -74,7 +77,7 @@ loop-less c = search needs
 loop-again : tie.Need-loop-again Inv-loop μ-loop
 loop-again c =
     let added = c .before .before in
-    let turn = added .before .before .before .before .before .before in
+    let turn = added .before .before .before .before in
     let given = turn .before .before .before .pre in
     (search needs, rows-more given (turn .loop-test .taken) (turn .before .loop .inv .1) (added .add-volumes .ensures))
 
@@ -94,16 +97,16 @@ add-loadings-spec =
     Inv-loop
     μ-loop
     loop-holds
-    mul-links
-    element-copy-out-links
-    mul-row
-    element-copy-out-row
     mul-start
     add-end
     mul-add-volumes
     sub-add-volumes
     part-add-volumes-start
     part-add-volumes-end
+    mul-add-volumes-2
+    index-1-add-volumes
+    mul-add-volumes-3
+    index-1-add-volumes-2
     add-volumes-requires
     add-k
     loop-less

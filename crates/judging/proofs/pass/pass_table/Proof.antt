@@ -33,7 +33,7 @@ judge-requires c κs = let at = c .before .before .before .before .before in
     let given = of-totals at .pre in (
       given .0,
       (
-        (share-fits (given .0 .0) (given .1), totals-within (given .0 .0) (given .1) (at .totals .ensures .0)),
+        (share-fits (given .0 .0) (given .1), totals-within (given .0 .0) (given .1) (at .totals .ensures .0), refl),
         λ e. true-false e refl,
       ),
     )

@@ -28,7 +28,7 @@ judge-requires : tie.Need-judge-requires
 unfolding noFlows
 judge-requires c κs = let at = c .before .before .before .before .before .before in (
   at .pre .0,
-  ((record { some-share = search needs; share-fits = search needs }, no-flows-within (at .args .m)), λ e. true-false e refl),
+  ((record { some-share = search needs; share-fits = search needs }, no-flows-within (at .args .m), refl), λ e. true-false e refl),
 )
 
 mul-empty-flows : tie.Need-mul-empty-flows

@@ -93,8 +93,8 @@ judge-requires c κs = let at = c .before .before .before .before .before in
     let totals-are = at .totals .ensures .0 in (
       given .0,
       (
-        (share-fits (given .0 .0) (given .1), totals-within (given .0 .0) (given .1) totals-are),
-        λ e. known-at (begin .args .table .now) totals-are (begin .pre .1 .1 e),
+        (share-fits (given .0 .0) (given .1), totals-within (given .0 .0) (given .1) totals-are, begin .pre .1 .1 .1),
+        λ e. known-at (begin .args .table .now) totals-are (begin .pre .1 .1 .0 e),
       ),
     )
 
@@ -125,7 +125,7 @@ returns c = let at = c .before .before in
         share-is = refl;
         table-is = refl;
       },
-      λ e. true-false e refl,
+      (λ e. true-false e refl, of-gap at .judge .ensures .volumes-long),
     )
 
 chosen-requires : tie.Need-chosen-requires
@@ -155,7 +155,7 @@ returns-2 c = let last = c .before in
         share-is = refl;
         table-is = refl;
       },
-      λ e. true-false e refl,
+      (λ e. true-false e refl, judged chose .judge .ensures .volumes-long),
     )
 
 turned-requires-3 : tie.Need-turned-requires-3
@@ -177,7 +177,7 @@ returns-3 c = let last = c .before in
         share-is = refl;
         table-is = refl;
       },
-      λ e. true-false e refl,
+      (λ e. true-false e refl, judged chose .judge .ensures .volumes-long),
     )
 
 move-table-requires : tie.Need-move-table-requires
@@ -211,9 +211,12 @@ returns-4 c = let moving = c .before .before .before in
         share-is = moving .move-table .ensures .0 ∙ ap (shareAfter (begin .args .share)) next;
         table-is = moving .move-table .ensures .1 ∙ ap (tableAfter (begin .args .table .now)) next;
       },
-      λ e.
-          known-moved (given .0 .0) (begin .args .table .now) totals-are (at .judge .ensures) can (eqb-true _ _ e) (moving .move-table .ensures .0)
-          (moving .move-table .ensures .1),
+      (
+        λ e.
+            known-moved (given .0 .0) (begin .args .table .now) totals-are (at .judge .ensures) can (eqb-true _ _ e) (moving .move-table .ensures .0)
+            (moving .move-table .ensures .1),
+        at .judge .ensures .volumes-long,
+      ),
     )
 
 pub turn-table-spec : {M : Type 1} → statement M

@@ -7,10 +7,10 @@ use Rattle.routes.proofs.loading.volumes.Statement.{statement}
 use Rattle.routes.proofs.loading.volumes.Tie as tie
 
 abbrev Inv-loop : tie.InvT-loop
-Inv-loop n m heads next trips waiting₀ sums₀ waiting sums = Sending n heads next trips waiting sums
+Inv-loop n m heads next trips volumes waiting₀ sums₀ waiting sums = Sending n heads next trips waiting sums
 
 abbrev μ-loop : tie.MeasureT-loop
-μ-loop n m heads next trips waiting₀ sums₀ waiting sums = linksAhead n heads next waiting
+μ-loop n m heads next trips volumes waiting₀ sums₀ waiting sums = linksAhead n heads next waiting
 
 first-waiting-requires : tie.Need-first-waiting-requires Inv-loop μ-loop
 first-waiting-requires c κs = (c .before .pre .followable .few-nodes, c .before .pre .has-trips)

@@ -65,22 +65,29 @@ loop2-holds c =
     let all : turn .loop .k ≡ 8 = omega arith in
     rw (turn .loop .inv .2) (set-all (turn .before .before .pre .0) (rw all at (turn .loop .inv .3)))
 
-sweep-requires : tie.Need-sweep-requires Inv-loop μ-loop Inv-loop2 μ-loop2
-sweep-requires c κs =
+sweep-up-requires : tie.Need-sweep-up-requires Inv-loop μ-loop Inv-loop2 μ-loop2
+sweep-up-requires c κs =
     let turn = c .before .before in
     let start = turn .before .before .before in
     (start .before .pre .0, (start .before .pre .1, turn .loop2 .inv))
 
+sweep-down-requires : tie.Need-sweep-down-requires Inv-loop μ-loop Inv-loop2 μ-loop2
+sweep-down-requires c κs =
+    let start = c .before .before .before .before .before .before .before .before .before .before in
+    (start .pre .0, (start .pre .1, c .before .before .before .sweep-up .ensures .scans))
+
 loop2-less : tie.Need-loop2-less Inv-loop μ-loop Inv-loop2 μ-loop2
-loop2-less c = omega (arith, c .before .sweep .ensures .falls, c .if1 .left)
+loop2-less c =
+    let some = c .before .before .before in
+    omega (arith, some .before .sweep-up .ensures .falls, some .if1 .left, c .sweep-down .ensures .falls)
 
 loop2-again : tie.Need-loop2-again Inv-loop μ-loop Inv-loop2 μ-loop2
-loop2-again c = c .before .sweep .ensures .scans
+loop2-again c = c .sweep-down .ensures .scans
 
 returns : tie.Need-returns Inv-loop μ-loop Inv-loop2 μ-loop2
 returns c =
     let given = c .before .before .before .before .before .before .before .before .pre .0 in
-    sweep-found given (c .before .sweep .ensures) (omega (arith, c .if1 .taken))
+    sweep-found given (c .before .sweep-up .ensures) (omega (arith, c .if1 .taken))
 
 pub search-spec : {M : Type 1} → statement M
 search-spec =
@@ -99,7 +106,8 @@ search-spec =
     loop-less
     loop-again
     loop2-holds
-    sweep-requires
+    sweep-up-requires
+    sweep-down-requires
     loop2-less
     loop2-again
     returns)

@@ -2,7 +2,7 @@
 use Prim.Native.Nat.{_<_}
 use native.Mathlib.Omega.{arith}
 use borrow.Author.Needs.{needs}
-use Rattle.routes.specs.Laws.Lanes.{each-searching, visit-none, visit-scans}
+use Rattle.routes.specs.Laws.Lanes.{above-at, each-searching, visit-none, visit-scans}
 use Rattle.routes.proofs.search.visit.Statement.{statement}
 use Rattle.routes.proofs.search.visit.Tie as tie
 
@@ -16,14 +16,15 @@ mul-row c = omega (arith, node c)
 element-copy-out-row : tie.Need-element-copy-out-row
 element-copy-out-row c = node c
 
-mul-count-lower : tie.Need-mul-count-lower
-mul-count-lower c = omega (arith, node (c .before))
+mul-fallen : tie.Need-mul-fallen
+mul-fallen c = omega (arith, node (c .before))
 
-element-copy-out-count-lower : tie.Need-element-copy-out-count-lower
-element-copy-out-count-lower c = node (c .before)
+element-copy-out-fallen : tie.Need-element-copy-out-fallen
+element-copy-out-fallen c = node (c .before)
 
-count-lower-requires : tie.Need-count-lower-requires
-count-lower-requires c κs = search needs
+fallen-requires : tie.Need-fallen-requires
+fallen-requires c κs i h = let start = c .before .before in
+    above-at (start .pre .0) (start .pre .1 .1 .0) (node start) i h
 
 mul-row-2 : tie.Need-mul-row-2
 mul-row-2 c = omega (arith, node (c .before .before .before .before))
@@ -40,12 +41,12 @@ returns : tie.Need-returns
 returns c =
     let then = c .before .before in
     let start = then .before .before .before .before in
-    visit-scans (start .pre .0) (start .pre .1 .1 .0) (node start) (then .before .count-lower .ensures) (then .if1 .taken) (start .pre .1 .1 .1) (c .scan .ensures)
+    visit-scans (start .pre .0) (start .pre .1 .1 .0) (node start) (then .before .fallen .ensures) (then .if1 .taken) (start .pre .1 .1 .1) (c .scan .ensures)
 
 returns-2 : tie.Need-returns-2
 returns-2 c =
     let start = c .before .before .before .before in
-    visit-none (start .pre .0) (start .pre .1 .1 .0) (node start) (c .before .count-lower .ensures) (c .if1 .left)
+    visit-none (start .pre .0) (start .pre .1 .1 .0) (node start) (c .before .fallen .ensures) (c .if1 .left)
 
 pub visit-spec : {M : Type 1} → statement M
 visit-spec =
@@ -53,9 +54,9 @@ visit-spec =
     (tie.spec
     mul-row
     element-copy-out-row
-    mul-count-lower
-    element-copy-out-count-lower
-    count-lower-requires
+    mul-fallen
+    element-copy-out-fallen
+    fallen-requires
     mul-row-2
     element-set-from-row
     scan-requires
