@@ -128,7 +128,7 @@ fn turns<'a>(
             return ended(step, judged, share, turn.gap, cost);
         };
         share = turn.share;
-        known = turn.doubled;
+        known = turn.known;
     }
 }
 

@@ -2,5 +2,6 @@
 pub mod Questions
 pub mod Networks
 pub mod Calls
+pub mod Pack
 pub mod Reach
 pub mod Tables

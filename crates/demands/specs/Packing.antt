@@ -14,6 +14,7 @@ use Rattle.calls.specs.Questions.{packedSize, outputHolds, studyQuestions, chec
 use Rattle.calls.specs.Pack.{packed}
 use Rattle.calls.specs.Calls.{overwritten, checkNumber, packNumber, packOutput}
 use Rattle.calls.specs.Laws.Questions.{pack-number}
+use Rattle.calls.specs.Laws.Calls.{pack-kept}
 use Rattle.demands.specs.Packing.ReadBack.{packed-length, packed-shorter, packed-accepted, packed-nodes, packed-links, packed-destinations, packed-link-part, packed-destination-part, packed-trip-part}
 use Rattle.demands.specs.Packing.Same.{SameStudy, same-packed, same-check, same-pack-output}
 pub mod Bytes
@@ -87,8 +88,7 @@ pack-writes file output e =
 
 -- Where it refuses, it leaves the output slice as it was.
 pub pack-refused : (file output : List ℕ) → (packNumber file output ≡ 0 → ⊥) → packOutput file output ≡ output
-unfolding packOutput
-pack-refused file output refused = rw (ne-eqb (packNumber file output) 0 refused)
+pack-refused file output refused = pack-kept file output refused
 
 -- So the bytes that the call wrote describe the same study, and so does the whole output slice where it can be a file.
 pub pack-reads-back : (file output : List ℕ) → packNumber file output ≡ 0 → SameStudy (take (packedSize file) (packOutput file output)) file

@@ -66,6 +66,6 @@ pub record Turned (d : Decoded) (table : List ℕ) (share excess : ℕ) (last : 
   pub share-is : r .share ≡ shareAfterStep (r .step) share (moveOf d table share)
   pub table-is : after ≡ tableAfterStep (r .step) table (moveOf d table share)
 
--- A turn with its step, the share after it, the gap of the table that it judged, and whether it doubled the table.
+-- A turn with its step, the share after it, the gap of the table that it judged, and whether the arrays are known for the next one.
 abbrev pub turnOf : Step → ℕ → ℕ → Bool → Turn
-turnOf step share gap doubled = record { step = step; share = share; gap = gap; doubled = doubled }
+turnOf step share gap known = record { step = step; share = share; gap = gap; known = known }

@@ -57,10 +57,11 @@ pub enum Step {
     Moved,
 }
 
-// One turn of a run: one judged table, its gap, the share after the turn, and whether it doubled the table.
+// One turn of a run: one judged table, its gap, the share after the turn, and whether the arrays that it was lent hold what judging the table
+// after the turn computes: they do where it doubled the table.
 pub struct Turn {
     pub step: Step,
     pub share: u32,
     pub gap: u64,
-    pub doubled: bool,
+    pub known: bool,
 }

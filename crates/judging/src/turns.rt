@@ -41,7 +41,7 @@ pub fn turn_table<'a>(
     requires { ⌜ (known ≡ true → KnownOf (studyOf n m p (now tails) (now heads) (now free) (now rises) (now capacities) (now nodes) (now trips)) (now table) share (now times) (now next) (now volumes) (now loads)) ⌝ }
     requires { ⌜ length (now volumes) ≡ 32 ⌝ }
     ensures { λ r. ⌜ Turned (studyOf n m p (now (tails .entry)) (now (heads .entry)) (now (free .entry)) (now (rises .entry)) (now (capacities .entry)) (now (nodes .entry)) (now (trips .entry))) (now (table .entry)) share excess last r (now (table .exit)) ⌝ }
-    ensures { λ r. ⌜ (r .doubled ≡ true → KnownOf (studyOf n m p (now (tails .entry)) (now (heads .entry)) (now (free .entry)) (now (rises .entry)) (now (capacities .entry)) (now (nodes .entry)) (now (trips .entry))) (now (table .exit)) (r .share) (now (times .exit)) (now (next .exit)) (now (volumes .exit)) (now (loads .exit))) ⌝ }
+    ensures { λ r. ⌜ (r .known ≡ true → KnownOf (studyOf n m p (now (tails .entry)) (now (heads .entry)) (now (free .entry)) (now (rises .entry)) (now (capacities .entry)) (now (nodes .entry)) (now (trips .entry))) (now (table .exit)) (r .share) (now (times .exit)) (now (next .exit)) (now (volumes .exit)) (now (loads .exit))) ⌝ }
     ensures { λ _. ⌜ length (now (volumes .exit)) ≡ 32 ⌝ }
 {
     let totals = travel::totals(table, p, m);
@@ -79,13 +79,13 @@ pub fn turn_table<'a>(
     turned(Step::Moved, after, gap, j == 0)
 }
 
-fn turned(step: Step, share: u32, gap: u64, doubled: bool) -> Turn
-    ensures { λ r. ⌜ r ≡ turnOf step share gap doubled ⌝ }
+fn turned(step: Step, share: u32, gap: u64, known: bool) -> Turn
+    ensures { λ r. ⌜ r ≡ turnOf step share gap known ⌝ }
 {
     Turn {
         step,
         share,
         gap,
-        doubled,
+        known,
     }
 }

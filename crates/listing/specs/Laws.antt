@@ -10,7 +10,7 @@ use lib.ListN.{length, take, drop, getD, set, length-append}
 use lib.Seq.{sets, length-sets, sets-eq, take-suc}
 use borrow.Author.Tests.{lt-ltb, le-ltb, eq-eqb, ne-eqb}
 use Rattle.theory.specs.Finite.{rows}
-use Rattle.theory.specs.Laws.Finite.{order}
+use Rattle.theory.specs.Laws.Finite.{order, rows-cong}
 use Rattle.calls.specs.declared.Ending.the-variants as ending
 use Rattle.calls.specs.declared.RunAnswer.{RunAnswer}
 use Rattle.listing.specs.Listing.{digitsWithin, decimal, endingWord, numberLine, linkLine, listing}
@@ -124,14 +124,6 @@ module _ (answer : RunAnswer) (m : ℕ) (flows times : List ℕ) where
   pub accepted-listing : answer .refusal ≡ 0 → listingOf answer m flows times ≡ answerLines answer ++ linkLines m flows times
   unfolding listing answerLines linkLines
   accepted-listing h = rw (eq-eqb _ _ h)
-
-rows-cong : (n : ℕ) (row row′ : ℕ → List ℕ) → ((k : ℕ) → k < n → row k ≡ row′ k) → rows n row ≡ rows n row′
-unfolding rows
-rows-cong zero row row′ h = refl
-rows-cong (suc n) row row′ h =
-    let a : rows n row ≡ rows n row′ = rows-cong n row row′ (λ k p. h k (omega arith)) in
-    let b : row n ≡ row′ n = h n (omega arith) in
-    cc
 
 -- A listing depends on the flows and times of its m links alone.
 pub listing-cong : (answer : RunAnswer) (m : ℕ) (flow flow′ time time′ : ℕ → ℕ) → ((l : ℕ) → l < m → flow l ≡ flow′ l) → ((l : ℕ) → l < m → time l ≡ time′ l) → listing answer m flow time ≡ listing answer m flow′ time′

@@ -22,15 +22,6 @@ walkAlong heads next most j = walk (λ l. getD heads l 0) (map linkOf next) most
 unfoldable pub flowAlong : ℕ → List ℕ → List ℕ → (ℕ → ℕ) → ℕ → ℕ → ℕ
 flowAlong n heads next trips k l = sum k (λ j. trips j * occurrences l (walkAlong heads next n j))
 
--- A row with a multiple of the flow of the nodes below k added to its first m numbers.
-unfoldable pub sentAlong : ℕ → ℕ → List ℕ → List ℕ → (ℕ → ℕ) → ℕ → ℕ → List ℕ → List ℕ
-sentAlong n m heads next trips weight k row =
-    tabulate m (λ l. getD row l 0 + weight * flowAlong n heads next trips k l) ++ drop m row
-
--- A row with a multiple of the flow of all nodes added to its first m numbers.
-abbrev pub loadedAlong : ℕ → ℕ → List ℕ → List ℕ → (ℕ → ℕ) → ℕ → List ℕ → List ℕ
-loadedAlong n m heads next trips weight row = sentAlong n m heads next trips weight n row
-
 -- 1 where two numbers are the same, and 0 otherwise.
 unfoldable pub oneIfSame : ℕ → ℕ → ℕ
 oneIfSame i j = cond (eqb i j) 1 0

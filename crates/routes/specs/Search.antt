@@ -43,9 +43,3 @@ linkMark (some l) = l
 -- 128 link numbers: the next links of the nodes, and none past them.
 unfoldable pub linkMarks : Routing → List ℕ
 linkMarks q = map linkMark (nextLinks q) ++ replicate (128 - q .nodes) noLink
-
--- A row with a multiple of the loading added to its first m numbers.
-unfoldable pub loaded : Routing → (ℕ → ℕ) → ℕ → List ℕ → List ℕ
-loaded q trips weight row =
-    let y = loadingRow q trips in
-    tabulate (q .links) (λ l. getD row l 0 + weight * getD y l 0) ++ drop (q .links) row

@@ -1,12 +1,11 @@
-// Least times, next links and the loading of one destination, over arrays of link ends and link times.
+// Least times and next links of eight destinations side by side, and the loading of one, over arrays of link ends and link times. Inner functions
+// take some counts and arrays, such as n, m, heads and trips, for their contracts alone: they say which network the marks and volumes are of.
 mod chains;
 mod loading;
 mod next;
 mod numbers;
 mod search;
 
-pub use chains::Chains;
-pub use chains::link_chains;
 pub use loading::add_volumes;
 pub use loading::volumes;
 pub use next::next_table;

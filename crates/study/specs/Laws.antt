@@ -72,7 +72,7 @@ no-refusal (q ∷ rest) y = rw (y .0) (no-refusal rest (y .1))
 
 -- ---- what each question says
 
-within-true : (least most x : ℕ) → within least most x ≡ true → (least ≤ x) × (x ≤ most)
+pub within-true : (least most x : ℕ) → within least most x ≡ true → (least ≤ x) × (x ≤ most)
 within-true least most x e =
     let h = both (leb least x) (leb x most) e in
     (leb-true least x (h .0), leb-true x most (h .1))

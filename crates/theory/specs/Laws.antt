@@ -2,6 +2,7 @@
 -- Sums, searches and lists; conservation and potentials:
 pub mod Finite
 pub mod Cases
+pub mod Bits
 pub mod Conserving
 pub mod Potentials
 -- paths, distances, next links and loadings:

@@ -1,6 +1,6 @@
 -- What the questions say of numbers, tables and the network that a study describes.
 use Prim.Native.Nat.{ℕ, zero, suc, _+_, _*_, _/_, _^_, _-_, _≤_, _<_}
-use native.Mathlib.Nat.{mul-le-mul-left, pow-le-pow-left, le-div-iff-mul-le, le-refl, le-trans}
+use native.Mathlib.Nat.{le-trans}
 use native.Mathlib.Omega.{arith}
 use mathlib.Core.Path.{_≡_, refl, sym, _∙_}
 use mathlib.Core.Bool.{Bool, true, false, not, _&&_}
@@ -11,34 +11,15 @@ use borrow.Author.Tests.{ltb-true, leb-true, le-leb, eqb-true, eqb-false, not-tr
 use Rattle.study.specs.Fields.{freeTime, rise, capacity}
 use Rattle.study.specs.Sections.{links}
 use Rattle.study.specs.Questions.{within}
+use Rattle.study.specs.Laws.{within-true}
 use Rattle.theory.specs.Finite.{all}
 use Rattle.theory.specs.Network.{Network, Sound, totalTrips}
-use Rattle.theory.specs.Flows.{stepTime}
 use Rattle.theory.specs.Moves.{tableSize}
 use Rattle.theory.specs.Laws.Finite.{all-elim, and-left, and-right, both}
+use Rattle.theory.specs.Laws.Times.{stepTime-least, stepTime-mono}
 use Rattle.calls.specs.Study.{linkFields, destinationNodes, tripEntries, networkFrom, networkOf}
 use Rattle.calls.specs.Questions.{endsFit, timesFit, destinationsFit, noTripsWithin, totalFits, tableHolds, budgetFits, shareFits}
 use Rattle.calls.specs.Laws.Questions.{Described}
-
--- A quotient does not fall as the number divided grows.
-pub div-mono : (d x y : ℕ) → 0 < d → x ≤ y → x / d ≤ y / d
-div-mono d x y pos h = le-div-iff-mul-le {k = d} {x = x / d} {y = y} pos .1 (le-trans (le-div-iff-mul-le {k = d} {x = x / d} {y = x} pos .0 (le-refl (x / d))) h)
-
--- The time at a step does not fall as the step grows, and is at least the free time.
-pub stepTime-rising : (a b r : ℕ) → stepTime a b r ≤ stepTime a b (suc r)
-unfolding stepTime
-stepTime-rising a b r =
-    let up : b * r ^ 4 ≤ b * suc r ^ 4 = mul-le-mul-left b (pow-le-pow-left {n = r} {m = suc r} (omega arith) 4) in
-    omega (arith, div-mono 16777216 (b * r ^ 4) (b * suc r ^ 4) (omega arith) up)
-
-pub stepTime-least : (a b r : ℕ) → a ≤ stepTime a b r
-unfolding stepTime
-stepTime-least a b r = omega arith
-
--- A number within bounds.
-within-both : (least most x : ℕ) → within least most x ≡ true → (least ≤ x) × (x ≤ most)
-within-both least most x e =
-    (leb-true least x (and-left (leb least x) (leb x most) e), leb-true x most (and-right (leb least x) (leb x most) e))
 
 not-equal : (a b : ℕ) → not (eqb a b) ≡ true → a ≡ b → ⊥
 not-equal a b e = eqb-false a b (not-true (eqb a b) e)
@@ -46,7 +27,7 @@ not-equal a b e = eqb-false a b (not-true (eqb a b) e)
 -- Question 14 says that a share is 1 to 1,024,
 pub share-range : (share : ℕ) → shareFits share ≡ true → (1 ≤ share) × (share ≤ 1024)
 unfolding shareFits
-share-range share e = within-both 1 1024 share e
+share-range share e = within-true 1 1024 share e
 
 pub range-share : (share : ℕ) → 1 ≤ share → share ≤ 1024 → shareFits share ≡ true
 unfolding shareFits
@@ -55,7 +36,7 @@ range-share share low high = both (leb 1 share) (leb share 1024) (le-leb 1 share
 -- question 13 that a budget is,
 pub budget-range : (budget : ℕ) → budgetFits budget ≡ true → (1 ≤ budget) × (budget ≤ 1024)
 unfolding budgetFits
-budget-range budget e = within-both 1 1024 budget e
+budget-range budget e = within-true 1 1024 budget e
 
 -- and question 12 that a table holds p·m numbers.
 pub holds-length : (g : Network) (table : List ℕ) → tableHolds g table ≡ true → tableSize g ≤ length table
@@ -76,8 +57,8 @@ pub record FieldsFit (free rise capacity : ℕ) : Type 0 where
 fields-of : (a b c : ℕ) → (within 1 16383 a && within 0 16383 b && leb 1 c) ≡ true → FieldsFit a b c
 fields-of a b c e =
     let ab = and-left (within 1 16383 a && within 0 16383 b) (leb 1 c) e in
-    let fa = within-both 1 16383 a (and-left (within 1 16383 a) (within 0 16383 b) ab) in
-    let fb = within-both 0 16383 b (and-right (within 1 16383 a) (within 0 16383 b) ab) in
+    let fa = within-true 1 16383 a (and-left (within 1 16383 a) (within 0 16383 b) ab) in
+    let fb = within-true 0 16383 b (and-right (within 1 16383 a) (within 0 16383 b) ab) in
     record {
       free-least = fa .0;
       free-most = fa .1;
@@ -140,6 +121,6 @@ module _ (file : List ℕ) (h : Described file) where
         head-node = λ l p. ends-fit l p .head-node;
         some-capacity = λ l p. fields-fit l p .capacity-least;
         some-time = λ l r p. le-trans (fields-fit l p .free-least) (stepTime-least (getD (linkFields freeTime file) l 0) (getD (linkFields rise file) l 0) r);
-        rising = λ l r p. stepTime-rising (getD (linkFields freeTime file) l 0) (getD (linkFields rise file) l 0) r;
+        rising = λ l r p. stepTime-mono (getD (linkFields freeTime file) l 0) (getD (linkFields rise file) l 0) {q = r} {r = suc r} (omega arith);
         destination-node = destination-node;
       }

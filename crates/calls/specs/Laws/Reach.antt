@@ -12,6 +12,7 @@ use Rattle.theory.specs.Network.{Network}
 use Rattle.theory.specs.Routes.{routing, distances, isSome}
 use Rattle.theory.specs.Laws.Cases.{on-equal}
 use Rattle.theory.specs.Laws.Finite.{all-elim, all-intro, getD-tabulate}
+use Rattle.theory.specs.Laws.Conserving.{or-false}
 use Rattle.theory.specs.Laws.Routings.{Timed, AllServed, served-at-times}
 use Rattle.theory.specs.Flows.{conserves, Carries}
 use Rattle.calls.specs.Study.{networkFrom, networkOf}
@@ -23,14 +24,11 @@ use Rattle.calls.specs.Laws.Networks.{sound}
 pub unit-timed : (g : Network) → Timed g (replicate (g .links) 1)
 unit-timed g l p = le-of-eq (sym (getD-replicate (g .links) l 1 0 p))
 
-or-right : (a b : Bool) → a ≡ false → (a || b) ≡ true → b ≡ true
-or-right a b e h = rw e at h
-
 pub reach-served : (g : Network) → tripsReach g ≡ true → AllServed g (replicate (g .links) 1)
 unfolding tripsReach hasPath
 reach-served g e k p j q some-trips =
     let row = all-elim (g .nodes) _ (all-elim (g .commodities) _ e k p) j q in
-    let path = or-right (eqb (g .trips k j) 0) _ (ne-eqb (g .trips k j) 0 some-trips) row in
+    let path = or-false (eqb (g .trips k j) 0) _ (ne-eqb (g .trips k j) 0 some-trips) row in
     sym (getD-tabulate (g .nodes) (λ i. isSome (getD (distances (routing g (replicate (g .links) 1) k)) i none)) true j q) ∙ path
 
 pub served-reach : (g : Network) → AllServed g (replicate (g .links) 1) → tripsReach g ≡ true

@@ -7,15 +7,12 @@ use lib.ListN.{length, take, drop, length-append}
 use lib.Seq.{getD-append-seam, getD-append-add, take-append-seam, drop-append-seam}
 use Rattle.study.specs.Bytes.{u16, u32}
 use Rattle.calls.specs.Pack.{bytes16, bytes32}
+use Rattle.calls.specs.Laws.Pack.{length16}
 
 -- A u16 after any bytes and before any bytes is read back at its place.
 pub u16-at : (front : List ℕ) (x : ℕ) (after : List ℕ) → x < 65536 → u16 (front ++ bytes16 x ++ after) (length front) ≡ x
 unfolding u16 bytes16
 u16-at front x after h = rw (append-assoc, getD-append-seam, getD-append-add) (omega arith)
-
-length-bytes16 : (x : ℕ) → length (bytes16 x) ≡ 2
-unfolding bytes16
-length-bytes16 x = refl
 
 -- So is a u32: its low half, and after it its high half.
 pub u32-at : (front : List ℕ) (x : ℕ) (after : List ℕ) → x < 2 ^ 32 → u32 (front ++ bytes32 x ++ after) (length front) ≡ x
@@ -29,7 +26,7 @@ u32-at front x after h = omega (arith, low, high)
     low = simp append-assoc (simp append-assoc at (u16-at front (x % 65536) (bytes16 (x / 65536) ++ after) (omega arith)))
 
     place : length (front ++ bytes16 (x % 65536)) ≡ length front + 2
-    place = rw (length-append, length-bytes16)
+    place = rw (length-append, length16)
 
     high : u16 bytes (length front + 2) ≡ x / 65536
     high = rw (← place) (simp append-assoc (simp append-assoc at (u16-at (front ++ bytes16 (x % 65536)) (x / 65536) after (omega arith))))

@@ -22,10 +22,6 @@ pub record Header (n m p : ℕ) (file : List ℕ) : Type 0 where
   pub trip-offset : offset file 2 ≡ 32 + 10 * m + 2 * p
   pub trip-size : size file 2 ≡ 2 * p * n
 
-pub header-length : (n m p : ℕ) → length (packedHeader n m p) ≡ 32
-unfolding packedHeader bytes32 bytes16
-header-length n m p = refl
-
 -- Each field stands after the bytes of the header before its place, and is read back there.
 pub header-reads : (n m p : ℕ) (after : List ℕ) → n ≤ 128 → m ≤ 512 → p ≤ 32 → Header n m p (packedHeader n m p ++ after)
 unfolding packedHeader bytes32 bytes16 version nodeField linkField destinationField offset size

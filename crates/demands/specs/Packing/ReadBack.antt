@@ -13,7 +13,8 @@ use Rattle.study.specs.Laws.{nodes-field, links-field, destinations-field, part
 use Rattle.calls.specs.Questions.{packedSize}
 use Rattle.calls.specs.Pack.{packedHeader, packed}
 use Rattle.demands.specs.Packing.Bytes.{part-at}
-use Rattle.demands.specs.Packing.Header.{Header, header-length, header-reads}
+use Rattle.calls.specs.Laws.Pack.{header-length}
+use Rattle.demands.specs.Packing.Header.{Header, header-reads}
 use Rattle.demands.specs.Packing.Accepts.{accepts}
 
 -- The bytes of the packed file before each section, and their number.

@@ -60,10 +60,6 @@ front-more f table i xs x h e v =
     long : length xs ≡ length table
     long = ap length e ∙ length-front i f table (omega arith)
 
-pub front-cong : (size : ℕ) (f g : ℕ → ℕ) (table : List ℕ) → ((i : ℕ) → i < size → f i ≡ g i) → front size f table ≡ front size g table
-unfolding front
-front-cong size f g table same = ap (λ first. first ++ drop size table) (tabulate-cong size f g same)
-
 -- Document 01's "the first p·m numbers", with "later numbers untouched".
 pub overwritten-front : (size : ℕ) (f : ℕ → ℕ) (table : List ℕ) → overwritten (tabulate size f) table ≡ front size f table
 unfolding overwritten front

@@ -13,24 +13,16 @@ use Rattle.theory.specs.Finite.{tabulate}
 use Rattle.theory.specs.Flows.{linkTotal}
 use Rattle.theory.specs.Routes.{occurrences}
 use Rattle.theory.specs.Laws.Cases.{on-equal}
-use Rattle.theory.specs.Laws.Finite.{order, sum-cong, sum-more, length-tabulate, getD-tabulate, tabulate-cong, length-rows, getD-rows}
+use Rattle.theory.specs.Laws.Finite.{order, sum-cong, sum-more, length-tabulate, getD-tabulate, tabulate-cong, length-rows, getD-rows, rows-cong}
 use Rattle.travel.specs.Links.{padded}
 use Rattle.travel.specs.Laws.Padded.{length-padded, getD-padded, getD-padded-rest, padded-is, padded-cong}
 use Rattle.travel.specs.Laws.Totals.{linkTotal-more}
-use Rattle.routes.specs.Along.{walkAlong, flowAlong, sentAlong, loadedAlong, volumeOver, scattered, Sendable, Scatterable}
+use Rattle.routes.specs.Along.{walkAlong, flowAlong, volumeOver, scattered, Sendable, Scatterable}
 use Rattle.judging.specs.Loading.{rowAlong, loadingAlong, volumeRows, front, addedRows, AllFollowable, Addable}
 use Rattle.judging.specs.Laws.Front.{front-at, front-past, length-front, front-is, front-none}
 use Rattle.judging.specs.Laws.Parts.{part, replaced, row-within, part-at, length-part, length-replaced, replaced-before, replaced-within, replaced-past}
-use Rattle.judging.specs.Laws.Tables.{rows-cong}
 
--- A loaded row is a row with its first numbers replaced,
-pub loaded-front :
-    (n m : ℕ) (heads next : List ℕ) (trips : ℕ → ℕ) (weight : ℕ) (row : List ℕ) →
-    loadedAlong n m heads next trips weight row ≡ front m (λ l. getD row l 0 + weight * flowAlong n heads next trips n l) row
-unfolding sentAlong front
-loaded-front n m heads next trips weight row = refl
-
--- and so is a row that volumes are added to.
+-- A row that volumes are added to is a row with its first numbers replaced.
 scattered-front :
     (n m : ℕ) (next volumes : List ℕ) (weight : ℕ) (row : List ℕ) →
     scattered n m next volumes weight row ≡ front m (λ l. getD row l 0 + weight * volumeOver n next volumes l) row
@@ -60,10 +52,6 @@ module _ (n m p : ℕ) (heads trips : List ℕ) (nexts : List (List ℕ)) where
 module _ (n m p : ℕ) (nexts volumes : List (List ℕ)) where
   abbrev over : ℕ → ℕ → ℕ
   over k = volumeOver n (getD nexts k []) (getD volumes k [])
-
-  pub length-volumes : length (volumeRows n m p nexts volumes) ≡ p * m
-  unfolding volumeRows
-  length-volumes = length-rows p m _ (λ k h. length-tabulate m (over k))
 
   pub entry-volumes : (k l : ℕ) → k < p → l < m →
       getD (volumeRows n m p nexts volumes) (k * m + l) 0 ≡ volumeOver n (getD nexts k []) (getD volumes k []) l

@@ -9,23 +9,22 @@ use Rattle.theory.specs.Finite.{tabulate, rows}
 use Rattle.theory.specs.Network.{Network}
 use Rattle.theory.specs.Flows.{linkTotal}
 use Rattle.theory.specs.Routes.{routing, loadingRow, loading}
-use Rattle.theory.specs.Laws.Finite.{length-tabulate, getD-tabulate}
+use Rattle.theory.specs.Laws.Finite.{length-tabulate, getD-tabulate, rows-cong}
 use Rattle.theory.specs.Laws.Routings.{Timed, AllServed, served-at-times}
-use Rattle.theory.specs.Laws.Loading.{length-row, loading-total}
+use Rattle.theory.specs.Laws.Loading.{length-row, loading-total, row-loaded}
 use Rattle.calls.specs.Study.{networkFrom}
+use Rattle.calls.specs.Laws.Reach.{unit-timed}
 use Rattle.travel.specs.Ranges.{TimesFit}
-use Rattle.routes.specs.Search.{noLink, routingFrom, linkMarks, loaded}
+use Rattle.routes.specs.Search.{noLink, routingFrom, linkMarks}
 use Rattle.routes.specs.Given.{Searchable}
 use Rattle.routes.specs.Along.{flowAlong}
 use Rattle.routes.specs.Table.{nextTable}
 use Rattle.routes.specs.Laws.Table.{searchable-to, table-row}
-use Rattle.routes.specs.Laws.Loaded.{followable, loaded-along}
+use Rattle.routes.specs.Laws.Loaded.{followable, flow-along}
 use Rattle.judging.specs.declared.Decoded.{Decoded}
 use Rattle.judging.specs.Study.{networkIn, Ready}
 use Rattle.judging.specs.Loading.{front, rowAlong, loadingAlong, AllFollowable}
 use Rattle.judging.specs.Laws.Front.{front-at}
-use Rattle.judging.specs.Laws.Tables.{rows-cong}
-use Rattle.judging.specs.Laws.Loading.{loaded-front}
 use Rattle.judging.specs.Laws.Study.{searchable, trips-fit}
 
 -- One destination: what its trips send along the next links over a link is the loading there.
@@ -33,14 +32,9 @@ flow-is :
     {n m : ℕ} {tails heads times : List ℕ} {s : ℕ} → Searchable n m tails heads times s → {next : List ℕ} →
     next ≡ linkMarks (routingFrom n m tails heads times s) → (trips : ℕ → ℕ) (l : ℕ) → l < m →
     flowAlong n heads next trips n l ≡ getD (loadingRow (routingFrom n m tails heads times s) trips) l 0
-unfolding loaded front routingFrom
-flow-is {n} {m} {tails} {heads} {times} {s} w {next} e trips l h =
-    let row = loadingRow (routingFrom n m tails heads times s) trips in
-    let same = sym (loaded-front n m heads next trips 1 []) ∙ loaded-along w e trips 1 [] in
-    let a = front-at m (λ l. getD [] l 0 + 1 * flowAlong n heads next trips n l) [] l h in
-    let b = front-at m (λ l. getD [] l 0 + 1 * getD row l 0) [] l h in
-    let c = ap (λ xs. getD xs l 0) same in
-    omega arith
+unfolding routingFrom
+flow-is {n} {m} {tails} {heads} {times} {s} w e trips l h =
+    flow-along w e trips l ∙ sym (row-loaded (routingFrom n m tails heads times s) trips l h)
 
 -- A loading goes by the times of the links, number by number.
 loading-at : (g : Network) (t u : List ℕ) → ((l : ℕ) → getD t l 0 ≡ getD u l 0) → loading g t ≡ loading g u
@@ -62,10 +56,6 @@ loading-at g t u same =
     (g .trips k)))
     (fun-ext same)
 
--- Times of 1 on every link, by which question 11 looks for paths, are times.
-ones-timed : (g : Network) → Timed g (replicate (g .links) 1)
-ones-timed g l h = omega (arith, getD-replicate {A = ℕ} (g .links) l 1 0 h)
-
 -- Times that fit stand in an array, which are those of a list: the array goes on past it with 0.
 pub record TimesIn (d : Decoded) (times exact : List ℕ) : Type 0 where
   pub fit : TimesFit (d .links) times
@@ -82,7 +72,7 @@ module _ {d : Decoded} (ready : Ready d) {times exact : List ℕ} (t : TimesIn d
 
   pub served : AllServed (networkIn d) exact
   unfolding networkIn networkFrom
-  served = served-at-times (networkIn d) (ready .sound) (replicate (d .links) 1) exact (ones-timed (networkIn d)) timed (ready .served)
+  served = served-at-times (networkIn d) (ready .sound) (replicate (d .links) 1) exact (unit-timed (networkIn d)) timed (ready .served)
 
   module _ {nexts : List (List ℕ)}
       (found : nexts ≡ nextTable (d .nodes) (d .links) (d .destinations) (d .tails) (d .heads) times (d .«destination_nodes»)) where

@@ -9,12 +9,6 @@ use Rattle.theory.specs.Finite.{rows}
 use Rattle.theory.specs.Flows.{linkTotal}
 use Rattle.theory.specs.Laws.Finite.{sum-term}
 
--- A table goes by its rows.
-pub rows-cong : (n : ℕ) (f g : ℕ → List ℕ) → ((k : ℕ) → k < n → f k ≡ g k) → rows n f ≡ rows n g
-unfolding rows
-rows-cong zero f g same = refl
-rows-cong (suc n) f g same = ap₂ (λ a b. a ++ b) (rows-cong n f g (λ k h. same k (omega arith))) (same n (omega arith))
-
 -- A number of a table is at most its link's total, so at most what every total is at most.
 pub number-most :
     (p m : ℕ) (table : List ℕ) (most : ℕ) → ((l : ℕ) → l < m → linkTotal p m table l ≤ most) →

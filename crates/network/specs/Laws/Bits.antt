@@ -5,7 +5,7 @@ use native.Mathlib.Omega.{arith}
 use mathlib.Core.Bool.{false, _||_}
 use mathlib.Core.Logic.{_⊎_, inl, inr, ⊎-elim}
 use mathlib.Core.Path.{_≡_, refl, _∙_}
-use lib.Bits.{bitAnd, bitOr, or-add-and, and-le-r, and-mask, or-shr, or-mod}
+use lib.Bits.{bitAnd, bitOr, and-le-r, and-mask, or-shr, or-mod}
 use lib.Dec.{eqb}
 use lib.Pow.{pow-pos, pow-lt, pow-add, shl-shr, shl-exact}
 use borrow.Author.Tests.{eq-eqb, ne-eqb}
@@ -27,10 +27,6 @@ or-digits a b (inr e) (inr f) = rw (e, f)
 pub bit-or : (a b k : ℕ) → bit (bitOr a b) k ≡ (bit a k || bit b k)
 unfolding bit
 bit-or a b k = rw (or-shr a b k, or-mod (a / 2 ^ k) (b / 2 ^ k) 1) (or-digits (a / 2 ^ k % 2) (b / 2 ^ k % 2) (digit (a / 2 ^ k)) (digit (b / 2 ^ k)))
-
--- A word grows with its bits.
-pub or-grows : (a b : ℕ) → a ≤ bitOr a b
-or-grows a b = omega (arith, or-add-and a b, and-le-r a b)
 
 -- Bit k of `1 << i` is 1 where k is i.
 pub one-shifted : (i : ℕ) → i < 32 → (1 * 2 ^ i) % 2 ^ 32 ≡ 2 ^ i

@@ -16,6 +16,7 @@ use Rattle.calls.specs.Pack.{bytes16, bytes32, packedHeader, packed}
 use Rattle.calls.specs.Questions.{packedSize, outputHolds}
 use Rattle.calls.specs.Laws.Questions.{pack-number}
 use Rattle.calls.specs.Calls.{overwritten, checkNumber, packNumber, packOutput}
+use Rattle.calls.specs.Laws.Pack.{length16, header-length}
 use Rattle.network.specs.Decoded.{Counts}
 use Rattle.network.specs.Written.{written}
 
@@ -53,14 +54,6 @@ written-u16 at x old h =
 pub size-fits : {n p : ℕ} → n ≤ 128 → p ≤ 32 → 2 * p * n ≤ 8192
 size-fits {n} {p} hn hp = mul-le-mul {n₁ = 2 * p} {m₁ = n} {n₂ = 64} {m₂ = 128} (omega arith) hn
 
-pub length16 : (x : ℕ) → length (bytes16 x) ≡ 2
-unfolding bytes16
-length16 x = refl
-
-pub length32 : (x : ℕ) → length (bytes32 x) ≡ 4
-unfolding bytes32 bytes16
-length32 x = refl
-
 pub written-u32 : (at x : ℕ) (old : List ℕ) → at + 4 ≤ length old → written (at + 2) (bytes16 (x / 65536)) (written at (bytes16 (x % 65536)) old) ≡ written at (bytes32 x) old
 unfolding bytes32
 written-u32 at x old h =
@@ -95,10 +88,6 @@ overwritten-more old done new at place room b a =
     ∙ ap (written at new) (b ∙ overwritten-first done old)
     ∙ written-more 0 at done new old (omega arith) room
     ∙ sym (overwritten-first (done ++ new) old)
-
-pub header-length : (n m p : ℕ) → length (packedHeader n m p) ≡ 32
-unfolding packedHeader bytes32 bytes16
-header-length n m p = refl
 
 -- The header and the three sections, written in order, are the packed study.
 module _ (file old : List ℕ) (n m p : ℕ) (counts : Counts file n m p) (room : packedSize file ≤ length old) where

@@ -21,7 +21,8 @@ use Rattle.calls.specs.Questions.{hasPath, tripsReach}
 use Rattle.calls.specs.Study.{networkFrom}
 use Rattle.network.specs.Networks.{toward, served}
 use Rattle.network.specs.Reach.{bit, marked, Whole, noMarks, Marks, Started, Stranded, markedTest, allMarked, room, toDestination, PathTo, LinkSwept, Swept, Searched, Found}
-use Rattle.network.specs.Laws.Bits.{bit-or, bit-one, bit-zero, or-grows, read-bit}
+use Rattle.theory.specs.Laws.Bits.{or-grows}
+use Rattle.network.specs.Laws.Bits.{bit-or, bit-one, bit-zero, read-bit}
 use Rattle.network.specs.Laws.Questions.{Ends}
 
 -- One of two tests holds where their `or` does.

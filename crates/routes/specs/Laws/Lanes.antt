@@ -216,10 +216,6 @@ module _ {n m : ℕ} {tails heads times group : List ℕ} (g : EachSearchable n 
           quiet = λ e i h. below-more _ b (still e i h) (rw b≡ (v .quiet (omega arith) i h));
         }
 
-  pub sweep-from : {b most most′ c : ℕ} {table scanned : List (List ℕ)} → Swept m tails heads times n group b most table scanned c
-      → totals scanned + c ≤ most′ → Swept m tails heads times n group b most′ table scanned c
-  sweep-from w h = record { scans = w .scans; falls = h; quiet = w .quiet }
-
   -- The searches set out with each destination marked,
   pub set-none : SetOut group 0 allRowsUnreached
   unfolding allRowsUnreached

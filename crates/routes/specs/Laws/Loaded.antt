@@ -13,9 +13,9 @@ use Rattle.theory.specs.Laws.Finite.{order, sum-cong, first-some, tabulate-cong
 use Rattle.theory.specs.Laws.Next.{length-next, next-first, next-without-path}
 use Rattle.theory.specs.Laws.Walks.{walkFrom, walked, walk-stops}
 use Rattle.theory.specs.Laws.Loading.{loaded as flow, row-loaded}
-use Rattle.routes.specs.Search.{routingFrom, noLink, linkMark, linkMarks, loaded}
+use Rattle.routes.specs.Search.{routingFrom, noLink, linkMark, linkMarks}
 use Rattle.routes.specs.Given.{Searchable}
-use Rattle.routes.specs.Along.{linkOf, walkAlong, flowAlong, sentAlong, loadedAlong, Followable}
+use Rattle.routes.specs.Along.{linkOf, walkAlong, flowAlong, Followable}
 use Rattle.routes.specs.Laws.Padded.{getD-default, length-padded}
 use Rattle.routes.specs.Laws.Found.{well-formed}
 use Rattle.routes.specs.Laws.Next.{link-marks-at}
@@ -110,14 +110,7 @@ module _ {n m : ℕ} {tails heads times : List ℕ} {s : ℕ} (g : Searchable n 
         ends = λ j h. rw next≡ at (walk-ends j h);
       })
 
-  flow-along : (trips : ℕ → ℕ) (l : ℕ) → flowAlong n heads next trips n l ≡ flow (routingFrom n m tails heads times s) trips l
+  -- What the trips of all nodes send over a link is the loading there.
+  pub flow-along : (trips : ℕ → ℕ) (l : ℕ) → flowAlong n heads next trips n l ≡ flow (routingFrom n m tails heads times s) trips l
   unfolding routingFrom flowAlong flow
   flow-along trips l = sum-cong n _ _ (λ j h. ap (λ path. trips j * occurrences l path) (walk-along j))
-
-  -- The loaded row is the definition's.
-  pub loaded-along : (trips : ℕ → ℕ) (weight : ℕ) (row : List ℕ)
-      → loadedAlong n m heads next trips weight row ≡ loaded (routingFrom n m tails heads times s) trips weight row
-  unfolding routingFrom sentAlong loaded
-  loaded-along trips weight row =
-      ap (λ front. front ++ drop m row)
-      (tabulate-cong m _ _ (λ l h. ap (λ x. getD row l 0 + weight * x) (flow-along trips l ∙ sym (row-loaded (routingFrom n m tails heads times s) trips l h))))

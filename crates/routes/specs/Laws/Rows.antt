@@ -4,9 +4,10 @@ use native.Mathlib.Omega.{arith}
 use mathlib.Core.Path.{_≡_, refl, _∙_}
 use mathlib.Core.List.{List}
 use mathlib.Core.Logic.{⊎-elim}
-use lib.Bits.{bitOr, or-zero-l, or-add-and, and-le-l, and-le-r}
+use lib.Bits.{bitOr, or-zero-l, or-comm}
 use lib.ListN.{length, getD, set, length-set}
 use lib.Seq.{getD-set-same, getD-set-other}
+use Rattle.theory.specs.Laws.Bits.{or-grows}
 use Rattle.theory.specs.Laws.Cases.{on-equal}
 use Rattle.theory.specs.Laws.Finite.{order}
 use Rattle.routes.specs.Search.{noLink}
@@ -52,7 +53,7 @@ module _ {row old : List ℕ} where
       }
     where
       or-most : (a b : ℕ) → (a ≤ bitOr a b) × (b ≤ bitOr a b)
-      or-most a b = (omega (arith, or-add-and a b, and-le-r a b), omega (arith, or-add-and a b, and-le-l a b))
+      or-most a b = (or-grows a b, rw (or-comm a b) (or-grows b a))
 
 -- Links are counted one by one.
 module _ {row : List ℕ} where

@@ -18,7 +18,7 @@ Balanced g share table =
     sumAt (g .links) (g .tail) j (entry (g .links) table k)
     ≡ sumAt (g .links) (g .head) j (entry (g .links) table k) + share * g .trips k j
 
-or-false : (a b : Bool) → a ≡ false → (a || b) ≡ true → b ≡ true
+pub or-false : (a b : Bool) → a ≡ false → (a || b) ≡ true → b ≡ true
 or-false true b p q = cc
 or-false false b p q = q
 

@@ -4,7 +4,7 @@ use native.Mathlib.Nat.{not-suc-le-zero, le-of-suc-le-suc}
 use native.Mathlib.Decide.{decLt}
 use native.Mathlib.Numerals.{add-one}
 use native.Mathlib.Omega.{arith}
-use mathlib.Core.Path.{_≡_, refl, sym, _∙_, ap, fun-ext}
+use mathlib.Core.Path.{_≡_, refl, sym, _∙_, ap, fun-ext, ap₂}
 use mathlib.Core.Bool.{Bool, true, false, _&&_, cond, and-false, true≢false}
 use mathlib.Core.List.{List, [], _∷_, _++_}
 use mathlib.Core.Option.{Option, none, some, Option·some-injective, Option·none-ne-some, Option·some-ne-none}
@@ -193,6 +193,12 @@ tabulate-snoc (suc n) f = ap (λ l. f zero ∷ l) (tabulate-snoc n (λ i. f (suc
 
 pub tabulate-suc : {A : Type 0} (n : ℕ) (f : ℕ → A) → tabulate (n + 1) f ≡ tabulate n f ++ (f n ∷ [])
 tabulate-suc n f = rw add-one (tabulate-snoc n f)
+
+-- Rows that are the same, one by one, make the same list.
+pub rows-cong : (n : ℕ) (f g : ℕ → List ℕ) → ((k : ℕ) → k < n → f k ≡ g k) → rows n f ≡ rows n g
+unfolding rows
+rows-cong zero f g same = refl
+rows-cong (suc n) f g same = ap₂ (λ a b. a ++ b) (rows-cong n f g (λ k h. same k (omega arith))) (same n (omega arith))
 
 -- Rows of one length, one after the other.
 pub length-rows : (n m : ℕ) (row : ℕ → List ℕ) → ((k : ℕ) → k < n → length (row k) ≡ m) → length (rows n row) ≡ n * m

@@ -1,12 +1,12 @@
 -- Steps and times of links.
-use Prim.Native.Nat.{ℕ, _*_, _/_, _≤_, _<_}
-use native.Mathlib.Nat.{le-min, le-trans, min-le-left, min-le-right, le-div-iff-mul-le, le-of-mul-le-mul-right, mul-le-mul-right, one-le-mul, div-mul-le-self}
+use Prim.Native.Nat.{ℕ, _*_, _/_, _^_, _≤_, _<_}
+use native.Mathlib.Nat.{le-min, le-trans, min-le-left, min-le-right, le-div-iff-mul-le, le-of-mul-le-mul-right, mul-le-mul-left, mul-le-mul-right, pow-le-pow-left, one-le-mul, div-mul-le-self}
 use native.Mathlib.Omega.{arith}
 use mathlib.Core.Path.{_≡_}
 use mathlib.Core.List.{List}
 use lib.ListN.{getD, length}
 use Rattle.theory.specs.Network.{Network}
-use Rattle.theory.specs.Flows.{total, step, timeAt, times}
+use Rattle.theory.specs.Flows.{total, step, stepTime, timeAt, times}
 use Rattle.theory.specs.Laws.Finite.{getD-tabulate, length-tabulate}
 
 -- The list of times has an entry for every link,
@@ -33,3 +33,18 @@ step-mono c w s w′ s′ some-capacity some-share some-share′ more =
     scaled =
         let a = mul-le-mul-right w′ (div-mul-le-self (64 * s) (c * w)) in
         omega arith
+
+-- A quotient does not fall as the number that is divided grows.
+div-mono : (k : ℕ) {x y : ℕ} → 1 ≤ k → x ≤ y → x / k ≤ y / k
+div-mono k {x} {y} h p = le-div-iff-mul-le {k = k} {x = x / k} {y = y} h .1 (le-trans (div-mul-le-self x k) p)
+
+-- The time at a step does not fall as the step grows, and is at least the free time.
+pub stepTime-mono : (a b : ℕ) {q r : ℕ} → q ≤ r → stepTime a b q ≤ stepTime a b r
+unfolding stepTime
+stepTime-mono a b {q} {r} h =
+    let high : b * q ^ 4 / 16777216 ≤ b * r ^ 4 / 16777216 = div-mono 16777216 (omega arith) (mul-le-mul-left b (pow-le-pow-left h 4)) in
+    omega arith
+
+pub stepTime-least : (a b r : ℕ) → a ≤ stepTime a b r
+unfolding stepTime
+stepTime-least a b r = omega arith

@@ -15,7 +15,8 @@ use Rattle.theory.specs.Laws.Finite.{sum-suc, sum-bound}
 use Rattle.theory.specs.Laws.Choice.{chosen-is}
 use Rattle.travel.specs.Links.{roads}
 use Rattle.travel.specs.Ranges.{LinksFit, mostTime, mostFlow}
-use Rattle.travel.specs.Laws.Times.{step-most, stepTime-least, stepTime-mono, stepTime-most}
+use Rattle.theory.specs.Laws.Times.{stepTime-least, stepTime-mono}
+use Rattle.travel.specs.Laws.Times.{step-most, stepTime-most}
 
 -- What a move by j makes of a flow is a flow that an accepted table may have.
 pub moved-flow : (w s y j : ℕ) → w + j ≤ 1024 → s ≤ w * 65535 → y ≤ 65535 → s + j * y ≤ mostFlow

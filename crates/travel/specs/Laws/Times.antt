@@ -6,6 +6,7 @@ use mathlib.Core.Path.{_≡_}
 use mathlib.Core.List.{List}
 use lib.ListN.{getD}
 use Rattle.theory.specs.Flows.{step, stepTime}
+use Rattle.theory.specs.Laws.Times.{stepTime-least, stepTime-mono}
 use Rattle.travel.specs.Links.{listTime}
 use Rattle.travel.specs.Ranges.{LinksFit, mostTime, mostFlow}
 
@@ -29,21 +30,7 @@ width-some c w hc hw = mul-le-mul hc hw
 pub width-most : (c w : ℕ) → c ≤ 65535 → w ≤ 1024 → c * w ≤ mostFlow
 width-most c w hc hw = mul-le-mul hc hw
 
--- A quotient does not fall as the number that is divided grows.
-div-mono : (k : ℕ) {x y : ℕ} → 1 ≤ k → x ≤ y → x / k ≤ y / k
-div-mono k {x} {y} h p = le-div-iff-mul-le {k = k} {x = x / k} {y = y} h .1 (le-trans (div-mul-le-self x k) p)
-
 -- Times.
-
-pub stepTime-mono : (a b : ℕ) {q r : ℕ} → q ≤ r → stepTime a b q ≤ stepTime a b r
-unfolding stepTime
-stepTime-mono a b {q} {r} h =
-    let high : b * q ^ 4 / 16777216 ≤ b * r ^ 4 / 16777216 = div-mono 16777216 (omega arith) (mul-le-mul-left b (pow-le-pow-left h 4)) in
-    omega arith
-
-pub stepTime-least : (a b r : ℕ) → a ≤ stepTime a b r
-unfolding stepTime
-stepTime-least a b r = omega arith
 
 top-time : (a b : ℕ) → a ≤ 16383 → b ≤ 16383 → stepTime a b 256 ≤ mostTime
 unfolding stepTime

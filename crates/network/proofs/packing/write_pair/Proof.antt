@@ -5,7 +5,8 @@ use native.Mathlib.Omega.{arith}
 use Prim.Native.Nat.{_+_}
 use Rattle.calls.specs.Pack.{bytes32}
 use Rattle.network.specs.Written.{written}
-use Rattle.network.specs.Laws.Packing.{written-more, length32}
+use Rattle.calls.specs.Laws.Pack.{length32}
+use Rattle.network.specs.Laws.Packing.{written-more}
 use Rattle.network.proofs.packing.write_pair.Statement.{statement}
 use Rattle.network.proofs.packing.write_pair.Tie as tie
 
