@@ -16,27 +16,23 @@ pub fn decode_links(links: &[u8], m: usize) -> Links
     requires { ⌜ (m ≤ 512) × HasLinks (now links) m ⌝ }
     ensures { λ r. ⌜ LinksDecoded (now (links .entry)) m r ⌝ }
 {
-    let mut tails = [0; 512];
-    let mut heads = [0; 512];
-    let mut free_times = [0; 512];
-    let mut rises = [0; 512];
-    let mut capacities = [0; 512];
+    let mut fields = Links {
+        tails: [0; 512],
+        heads: [0; 512],
+        free_times: [0; 512],
+        rises: [0; 512],
+        capacities: [0; 512],
+    };
     let mut l = 0;
     while l < m {
-        tails[l] = study::tail(links, l);
-        heads[l] = study::head(links, l);
-        free_times[l] = study::free_time(links, l);
-        rises[l] = study::rise(links, l);
-        capacities[l] = study::capacity(links, l);
+        fields.tails[l] = study::tail(links, l);
+        fields.heads[l] = study::head(links, l);
+        fields.free_times[l] = study::free_time(links, l);
+        fields.rises[l] = study::rise(links, l);
+        fields.capacities[l] = study::capacity(links, l);
         l += 1;
     }
-    Links {
-        tails,
-        heads,
-        free_times,
-        rises,
-        capacities,
-    }
+    fields
 }
 
 pub fn decode_destinations(destinations: &[u8], p: usize) -> [u16; 32]

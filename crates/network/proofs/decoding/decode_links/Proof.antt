@@ -12,14 +12,10 @@ use Rattle.network.proofs.decoding.decode_links.Statement.{statement}
 use Rattle.network.proofs.decoding.decode_links.Tie as tie
 
 abbrev Inv-loop : tie.InvT-loop
-Inv-loop links m tails₀ heads₀ free-times₀ rises₀ capacities₀ l₀ tails heads free-times rises capacities l =
-    (l ≤ m)
-    × LinksDecoded links l
-    (record { tails = tails; heads = heads; «free_times» = free-times; rises = rises; capacities = capacities })
+Inv-loop links m fields₀ l₀ fields l = (l ≤ m) × LinksDecoded links l fields
 
 abbrev μ-loop : tie.MeasureT-loop
-μ-loop links m tails₀ heads₀ free-times₀ rises₀ capacities₀ l₀ tails heads free-times rises capacities l =
-    m - l
+μ-loop links m fields₀ l₀ fields l = m - l
 
 loop-holds : tie.Need-loop-holds Inv-loop μ-loop
 unfolding fieldsIn tabulate
@@ -42,47 +38,47 @@ at-link c = c .before .before .before .pre .1 (c .before .loop .l) (search needs
 tail-requires : tie.Need-tail-requires Inv-loop μ-loop
 tail-requires c κs = at-link c
 
-mul-tails : tie.Need-mul-tails Inv-loop μ-loop
-mul-tails c = search needs
+mul-fields : tie.Need-mul-fields Inv-loop μ-loop
+mul-fields c = search needs
 
-array-write-tails : tie.Need-array-write-tails Inv-loop μ-loop
-array-write-tails c = search needs
+element-write-fields : tie.Need-element-write-fields Inv-loop μ-loop
+element-write-fields c = search needs
 
 head-requires : tie.Need-head-requires Inv-loop μ-loop
 head-requires c κs = at-link (c .before)
 
-mul-heads : tie.Need-mul-heads Inv-loop μ-loop
-mul-heads c = search needs
+mul-fields-2 : tie.Need-mul-fields-2 Inv-loop μ-loop
+mul-fields-2 c = search needs
 
-array-write-heads : tie.Need-array-write-heads Inv-loop μ-loop
-array-write-heads c = search needs
+element-write-fields-2 : tie.Need-element-write-fields-2 Inv-loop μ-loop
+element-write-fields-2 c = search needs
 
 free-time-requires : tie.Need-free-time-requires Inv-loop μ-loop
 free-time-requires c κs = at-link (c .before .before)
 
-mul-free-times : tie.Need-mul-free-times Inv-loop μ-loop
-mul-free-times c = search needs
+mul-fields-3 : tie.Need-mul-fields-3 Inv-loop μ-loop
+mul-fields-3 c = search needs
 
-array-write-free-times : tie.Need-array-write-free-times Inv-loop μ-loop
-array-write-free-times c = search needs
+element-write-fields-3 : tie.Need-element-write-fields-3 Inv-loop μ-loop
+element-write-fields-3 c = search needs
 
 rise-requires : tie.Need-rise-requires Inv-loop μ-loop
 rise-requires c κs = at-link (c .before .before .before)
 
-mul-rises : tie.Need-mul-rises Inv-loop μ-loop
-mul-rises c = search needs
+mul-fields-4 : tie.Need-mul-fields-4 Inv-loop μ-loop
+mul-fields-4 c = search needs
 
-array-write-rises : tie.Need-array-write-rises Inv-loop μ-loop
-array-write-rises c = search needs
+element-write-fields-4 : tie.Need-element-write-fields-4 Inv-loop μ-loop
+element-write-fields-4 c = search needs
 
 capacity-requires : tie.Need-capacity-requires Inv-loop μ-loop
 capacity-requires c κs = at-link (c .before .before .before .before)
 
-mul-capacities : tie.Need-mul-capacities Inv-loop μ-loop
-mul-capacities c = search needs
+mul-fields-5 : tie.Need-mul-fields-5 Inv-loop μ-loop
+mul-fields-5 c = search needs
 
-array-write-capacities : tie.Need-array-write-capacities Inv-loop μ-loop
-array-write-capacities c = search needs
+element-write-fields-5 : tie.Need-element-write-fields-5 Inv-loop μ-loop
+element-write-fields-5 c = search needs
 
 add-l : tie.Need-add-l Inv-loop μ-loop
 add-l c = search needs
@@ -120,20 +116,20 @@ decode-links-spec =
     μ-loop
     loop-holds
     tail-requires
-    mul-tails
-    array-write-tails
+    mul-fields
+    element-write-fields
     head-requires
-    mul-heads
-    array-write-heads
+    mul-fields-2
+    element-write-fields-2
     free-time-requires
-    mul-free-times
-    array-write-free-times
+    mul-fields-3
+    element-write-fields-3
     rise-requires
-    mul-rises
-    array-write-rises
+    mul-fields-4
+    element-write-fields-4
     capacity-requires
-    mul-capacities
-    array-write-capacities
+    mul-fields-5
+    element-write-fields-5
     add-l
     loop-less
     loop-again
