@@ -1,12 +1,10 @@
 ghost use mathlib.Core.List.{List};
 ghost use mathlib.Core.Path.{_≡_};
 ghost use Rattle.calls.specs.Calls.{runAnswer, runTable};
-ghost use Prim.Native.Nat.{ℕ, _*_, _≤_};
-ghost use lib.ListN.{length};
-ghost use Rattle.theory.specs.Flows.{linkTotal};
-ghost use Rattle.travel.specs.Links.{padded, listCost};
-ghost use Rattle.travel.specs.Ranges.{LinksFit, ShareFits, Within, mostFlow};
+ghost use Prim.Native.Nat.{ℕ};
+ghost use Rattle.travel.specs.Links.{fourthPowers};
 ghost use Rattle.judging.specs.Study.{studyOf};
+ghost use Rattle.judging.specs.Judged.{Lent};
 ghost use Rattle.assignment.specs.Runs.{Begun, Begins, Ran};
 ghost use Rattle.assignment.specs.Answers.{endingOf, endedAnswer};
 use crate::answers::refused_run;
@@ -40,6 +38,11 @@ pub fn run(file: &[u8], table: &mut [u32], budget: u32, excess: u16) -> RunAnswe
     if refusal != 0 {
         return refused_run(refusal);
     }
+    let powers = travel::fourth_powers();
+    let mut times = [0u32; 512];
+    let mut next = [[0u16; 128]; 32];
+    let mut volumes = [[0u32; 128]; 32];
+    let mut loads = [0u64; 512];
     judging::start_table(
         d.nodes,
         d.links,
@@ -52,6 +55,11 @@ pub fn run(file: &[u8], table: &mut [u32], budget: u32, excess: u16) -> RunAnswe
         &d.destination_nodes,
         &d.trips,
         table,
+        &powers,
+        &mut times,
+        &mut next,
+        &mut volumes,
+        &mut loads,
     );
     turns(
         d.nodes,
@@ -68,10 +76,16 @@ pub fn run(file: &[u8], table: &mut [u32], budget: u32, excess: u16) -> RunAnswe
         table,
         budget,
         excess,
+        &powers,
+        &mut times,
+        &mut next,
+        &mut volumes,
+        &mut loads,
     )
 }
 
-// The turns of a run from the table that a start left, until one ends it.
+// The turns of a run from the table that a start left, until one ends it. Each guesses the j that the one before chose, by which the share
+// grew.
 fn turns<'a>(
     n: usize,
     m: usize,
@@ -87,16 +101,20 @@ fn turns<'a>(
     table: &mut [u32],
     budget: u32,
     excess: u16,
+    powers: &[u64; 257],
+    times: &mut [u32; 512],
+    next: &mut [[u16; 128]; 32],
+    volumes: &mut [[u32; 128]; 32],
+    loads: &mut [u64; 512],
 ) -> RunAnswer
     requires { ⌜ Begins budget (studyOf n m p (now tails) (now heads) (now free) (now rises) (now capacities) (now nodes) (now trips)) total (now table) ⌝ }
+    requires { ⌜ Lent m (now times) (now next) (now volumes) (now loads) × (now powers ≡ fourthPowers) ⌝ }
     ensures { λ r. ⌜ ((file before : List ℕ) → Begun file before budget (studyOf n m p (now (tails .entry)) (now (heads .entry)) (now (free .entry)) (now (rises .entry)) (now (capacities .entry)) (now (nodes .entry)) (now (trips .entry))) (now (table .entry)) → Ran file before budget excess r (now (table .exit))) ⌝ }
 {
-    let mut times = [0u32; 512];
-    let mut next = [[0u16; 128]; 32];
-    let mut volumes = [[0u32; 128]; 32];
-    let mut loads = [0u64; 512];
+    let mut totals = travel::totals(table, p, m);
     let mut judged = 0;
     let mut share = 1;
+    let mut guess = 0;
     let mut known = false;
     loop {
         judged += 1;
@@ -113,20 +131,24 @@ fn turns<'a>(
             trips,
             total,
             known,
-            &mut times,
-            &mut next,
-            &mut volumes,
-            &mut loads,
+            powers,
+            times,
+            next,
+            volumes,
+            loads,
+            &mut totals,
             table,
             share,
             excess,
+            guess,
             judged == budget,
         );
         let step = turn.step;
         let Step::Moved = step else {
-            let cost = table_cost(m, p, free, rises, capacities, table, share);
+            let cost = travel::cost(free, rises, capacities, &totals, m, share, powers);
             return ended(step, judged, share, turn.gap, cost);
         };
+        guess = std::num::wrapping_sub_u32(turn.share, share);
         share = turn.share;
         known = turn.known;
     }
@@ -157,21 +179,4 @@ fn ending_of(step: Step) -> Ending
         Step::Spent => Ending::Spent,
         Step::Moved => Ending::Refused,
     }
-}
-
-fn table_cost(
-    m: usize,
-    p: usize,
-    free: &[u16; 512],
-    rises: &[u16; 512],
-    capacities: &[u16; 512],
-    table: &[u32],
-    share: u32,
-) -> u64
-    requires { ⌜ LinksFit m (now free) (now rises) (now capacities) × ShareFits share × (p ≤ 32) × (p * m ≤ length (now table)) ⌝ }
-    requires { ⌜ Within m mostFlow (padded m (linkTotal p m (now table))) ⌝ }
-    ensures { λ r. ⌜ r ≡ listCost m (now (free .entry)) (now (rises .entry)) (now (capacities .entry)) share (padded m (linkTotal p m (now (table .entry)))) ⌝ }
-{
-    let totals = travel::totals(table, p, m);
-    travel::cost(free, rises, capacities, &totals, m, share)
 }

@@ -26,6 +26,11 @@ pub fn start(file: &[u8], table: &mut [u32]) -> u8
     if refusal != 0 {
         return refusal;
     }
+    let powers = travel::fourth_powers();
+    let mut times = [0u32; 512];
+    let mut next = [[0u16; 128]; 32];
+    let mut volumes = [[0u32; 128]; 32];
+    let mut loads = [0u64; 512];
     judging::start_table(
         d.nodes,
         d.links,
@@ -38,6 +43,11 @@ pub fn start(file: &[u8], table: &mut [u32]) -> u8
         &d.destination_nodes,
         &d.trips,
         table,
+        &powers,
+        &mut times,
+        &mut next,
+        &mut volumes,
+        &mut loads,
     );
     0
 }

@@ -9,8 +9,8 @@ use Rattle.theory.specs.Cost.{cost, gap}
 use Rattle.theory.specs.Moves.{moves}
 use Rattle.calls.specs.Calls.{shareAfter, tableAfter}
 use Rattle.travel.specs.Links.{padded, listTime, listProduct}
-use Rattle.travel.specs.Ranges.{Within, TimesFit, mostTime, mostFlow}
-use Rattle.routes.specs.Table.{nextTable}
+use Rattle.travel.specs.Ranges.{Within, Clear, TimesFit, mostTime, mostFlow}
+use Rattle.routes.specs.Table.{Nexts}
 use Rattle.judging.specs.declared.Decoded.{Decoded}
 use Rattle.judging.specs.declared.Step.{Step}
 use Rattle.judging.specs.declared.Sums.{Sums}
@@ -19,11 +19,18 @@ use Rattle.judging.specs.declared.Turn.{Turn}
 use Rattle.judging.specs.Study.{networkIn, moveOf, stepOf, shareAfterStep, tableAfterStep}
 use Rattle.judging.specs.Loading.{loadingAlong, volumeRows}
 
+-- The arrays that are lent for judging a study of m links: times and loads are 0 past the links, and next links and volumes have 32 rows.
+pub record Lent (m : ℕ) (times : List ℕ) (nexts volumes : List (List ℕ)) (loads : List ℕ) : Type 0 where
+  pub times-clear : Clear m times
+  pub nexts-long : length nexts ≡ 32
+  pub volumes-long : length volumes ≡ 32
+  pub loads-clear : Clear m loads
+
 -- Arrays hold the times at totals S and a share, the next links at these times, the volumes of the loading along them, and its totals Y.
 pub record Known (d : Decoded) (totals : List ℕ) (share : ℕ) (times : List ℕ) (nexts volumes : List (List ℕ)) (loads : List ℕ) : Type 0 where
   pub times-are : times ≡ padded (d .links) (listTime (d .«free_times») (d .rises) (d .capacities) share totals)
   pub times-fit : TimesFit (d .links) times
-  pub nexts-are : nexts ≡ nextTable (d .nodes) (d .links) (d .destinations) (d .tails) (d .heads) times (d .«destination_nodes»)
+  pub nexts-are : Nexts (d .nodes) (d .links) (d .destinations) (d .tails) (d .heads) times (d .«destination_nodes») (d .trips) nexts
   pub volumes-long : length volumes ≡ 32
   pub volumes-are :
       volumeRows (d .nodes) (d .links) (d .destinations) nexts volumes

@@ -5,8 +5,10 @@ pub mod Tables
 pub mod Rows
 pub mod Loading
 pub mod Moves
+pub mod Totals
 pub mod Study
 pub mod Routes
+pub mod Least
 pub mod Judged
 pub mod Doubled
 pub mod Questions

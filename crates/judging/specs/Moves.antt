@@ -1,7 +1,7 @@
 -- What a pass that chose j makes of a table, over lists.
 use Prim.Native.Nat.{ℕ, _+_, _*_, _≤_, _<_}
 use mathlib.Core.Path.{_≡_}
-use mathlib.Core.Bool.{Bool, _||_}
+use mathlib.Core.Bool.{Bool, _||_, cond}
 use mathlib.Core.List.{List, []}
 use mathlib.Core.Option.{Option}
 use lib.ListN.{length, getD}
@@ -9,6 +9,7 @@ use lib.Dec.{ltb, leb}
 use Rattle.theory.specs.Finite.{tabulate}
 use Rattle.theory.specs.Moves.{Shared}
 use Rattle.theory.specs.Laws.Local.{moveBy}
+use Rattle.travel.specs.Ranges.{Within, mostFlow}
 use Rattle.routes.specs.Search.{noLink}
 use Rattle.judging.specs.Loading.{volumeRows}
 
@@ -21,6 +22,18 @@ abbrev pub moveAlong : ℕ → ℕ → ℕ → List ℕ → List ℕ → Option 
 moveAlong size share j y table =
     moveBy share j (tabulate size (λ i. getD table i 0 + j * getD y i 0)) (tabulate size (λ i. 2 * getD table i 0))
 
+-- The total of link l after a move: S + j·Y, or 2S where no j is chosen.
+unfoldable pub totalAfter : ℕ → List ℕ → List ℕ → ℕ → ℕ
+totalAfter j totals loads l = cond (ltb 0 j) (getD totals l 0 + j * getD loads l 0) (2 * getD totals l 0)
+
+-- What moving totals asks: few links, a j of at most 64, and arrays of totals of a table and of a loading that are in their ranges.
+pub record TotalsMovable (m j : ℕ) (totals loads : List ℕ) : Type 0 where
+  pub few-links : m ≤ 512
+  pub size : length totals ≡ 512
+  pub small-step : j ≤ 64
+  pub totals-fit : Within m mostFlow totals
+  pub loads-fit : Within m mostFlow loads
+
 -- What a move asks: next links are links, the table has all its rows, a share and a j of which the sum is at most 1,024, flows of at most
 -- share × 65,535, and a loading of at most 65,535 on each link.
 pub record Movable (n m p : ℕ) (nexts volumes : List (List ℕ)) (share j : ℕ) (table : List ℕ) : Type 0 where
@@ -28,7 +41,6 @@ pub record Movable (n m p : ℕ) (nexts volumes : List (List ℕ)) (share j : �
   pub few-links : m ≤ 512
   pub few-destinations : p ≤ 32
   pub next-link : (k i : ℕ) → k < p → i < n → (getD (getD nexts k []) i 0 ≡ noLink → ⊥) → getD (getD nexts k []) i 0 < m
-  pub small-step : j ≤ 64
   pub small-share : share + j ≤ 1024
   pub holds : p * m ≤ length table
   pub flows : (i : ℕ) → i < p * m → getD table i 0 ≤ share * 65535

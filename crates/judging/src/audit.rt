@@ -1,11 +1,9 @@
-// An audit. Data flows once: totals, times, next links and the loading's totals are computed once.
+// An audit. Data flows once: totals, times and least times are computed once. No next link is needed.
 ghost use Rattle.judging.specs.Study.{studyOf, JudgeableOf};
 ghost use Rattle.judging.specs.Judged.{Audited};
 use crate::Sums;
-use crate::gaps::gap_of;
-use crate::judge::judge;
 
-// Audit: the gap and cost of a table.
+// Audit: the gap and cost of a table. The gap is taken by its definition, from the least times.
 pub fn audit_table<'a>(
     n: usize,
     m: usize,
@@ -24,30 +22,20 @@ pub fn audit_table<'a>(
     ensures { λ r. ⌜ Audited (studyOf n m p (now (tails .entry)) (now (heads .entry)) (now (free .entry)) (now (rises .entry)) (now (capacities .entry)) (now (nodes .entry)) (now (trips .entry))) (now (table .entry)) share r ⌝ }
 {
     let mut times = [0u32; 512];
-    let mut next = [[0u16; 128]; 32];
-    let mut volumes = [[0u32; 128]; 32];
-    let mut loads = [0u64; 512];
+    let powers = travel::fourth_powers();
     let totals = travel::totals(table, p, m);
-    judge(
-        n,
-        m,
-        p,
-        tails,
-        heads,
+    travel::times(
         free,
         rises,
         capacities,
-        nodes,
-        trips,
         &totals,
+        m,
         share,
-        false,
+        &powers,
         &mut times,
-        &mut next,
-        &mut volumes,
-        &mut loads,
     );
-    let gap = gap_of(&times, &totals, &loads, m, share);
-    let cost = travel::cost(free, rises, capacities, &totals, m, share);
+    let least = routes::least_times(n, m, p, tails, heads, &times, nodes, trips);
+    let gap = travel::product(&times, &totals, m) - share as u64 * least;
+    let cost = travel::cost(free, rises, capacities, &totals, m, share, &powers);
     Sums { gap, cost }
 }

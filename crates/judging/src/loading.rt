@@ -4,6 +4,7 @@ ghost use Prim.Native.Nat.{_*_, _≤_};
 ghost use lib.ListN.{length, getD};
 ghost use Rattle.theory.specs.Flows.{linkTotal};
 ghost use Rattle.travel.specs.Links.{padded};
+ghost use Rattle.travel.specs.Ranges.{Clear};
 ghost use Rattle.judging.specs.Loading.{loadingAlong, volumeRows, addedRows, AllFollowable, Addable};
 use crate::widths::wide;
 
@@ -16,10 +17,12 @@ pub fn load(
     trips: &[u16],
     next: &[[u16; 128]; 32],
     volumes: &mut [[u32; 128]; 32],
-) -> [u64; 512]
+    loads: &mut [u64; 512],
+)
     requires { ⌜ AllFollowable n m p (now heads) (now trips) (now next) × (length (now volumes) ≡ 32) ⌝ }
-    ensures { λ r. ⌜ r ≡ padded m (linkTotal p m (loadingAlong n m p (now (heads .entry)) (now (trips .entry)) (now (next .entry)))) ⌝ }
-    ensures { λ r. ⌜ volumeRows n m p (now (next .entry)) (now (volumes .exit)) ≡ loadingAlong n m p (now (heads .entry)) (now (trips .entry)) (now (next .entry)) ⌝ }
+    requires { ⌜ Clear m (now loads) ⌝ }
+    ensures { λ _. ⌜ now (loads .exit) ≡ padded m (linkTotal p m (loadingAlong n m p (now (heads .entry)) (now (trips .entry)) (now (next .entry)))) ⌝ }
+    ensures { λ _. ⌜ volumeRows n m p (now (next .entry)) (now (volumes .exit)) ≡ loadingAlong n m p (now (heads .entry)) (now (trips .entry)) (now (next .entry)) ⌝ }
     ensures { λ _. ⌜ length (now (volumes .exit)) ≡ 32 ⌝ }
 {
     let mut sums = [0u32; 512];
@@ -31,21 +34,19 @@ pub fn load(
         routes::add_volumes(&mut sums, n, m, &next[k], &volumes[k], 1);
         k += 1;
     }
-    widened(&sums, m)
+    widened(&sums, m, loads);
 }
 
-// The first m of an array's numbers, wide enough for the totals of any table.
-fn widened(sums: &[u32; 512], m: usize) -> [u64; 512]
-    requires { ⌜ m ≤ 512 ⌝ }
-    ensures { λ r. ⌜ r ≡ padded m (λ l. getD (now (sums .entry)) l 0) ⌝ }
+// Puts the first m of an array's numbers into one that is wide enough for the totals of any table.
+fn widened(sums: &[u32; 512], m: usize, totals: &mut [u64; 512])
+    requires { ⌜ (m ≤ 512) × Clear m (now totals) ⌝ }
+    ensures { λ _. ⌜ now (totals .exit) ≡ padded m (λ l. getD (now (sums .entry)) l 0) ⌝ }
 {
-    let mut totals = [0u64; 512];
     let mut l: usize = 0;
     while l < m {
         totals[l] = wide(sums[l]);
         l += 1;
     }
-    totals
 }
 
 // Adds weight × the loading to the table, a destination's row at a time.

@@ -1,10 +1,10 @@
-// Emptying, doubling and moving a table.
+// Emptying, doubling and moving a table, and moving its totals.
 ghost use mathlib.Core.Path.{_≡_};
 ghost use Prim.Native.Nat.{ℕ, _*_, _≤_, _<_, _^_};
 ghost use lib.ListN.{length, getD};
 ghost use Rattle.calls.specs.Calls.{shareAfter, tableAfter};
 ghost use Rattle.judging.specs.Loading.{volumeRows, front};
-ghost use Rattle.judging.specs.Moves.{canMove, moveAlong, Movable};
+ghost use Rattle.judging.specs.Moves.{canMove, moveAlong, totalAfter, TotalsMovable, Movable};
 use crate::loading::add_loadings;
 
 // Empties the first numbers of a table.
@@ -66,4 +66,24 @@ pub fn move_table(
         return 2 * share;
     }
     share
+}
+
+// Moves the totals S of a table as a pass that chose j, and can move it, moves the table: it adds j × the loading's totals Y, or doubles
+// them where j is 0.
+pub fn move_totals(totals: &mut [u64; 512], loads: &[u64; 512], m: usize, j: u32)
+    requires { ⌜ TotalsMovable m j (now totals) (now loads) ⌝ }
+    ensures { λ _. ⌜ now (totals .exit) ≡ front m (totalAfter j (now (totals .entry)) (now (loads .entry))) (now (totals .entry)) ⌝ }
+{
+    let mut l: usize = 0;
+    if 0 < j {
+        while l < m {
+            totals[l] += j as u64 * loads[l];
+            l += 1;
+        }
+        return;
+    }
+    while l < m {
+        totals[l] = 2 * totals[l];
+        l += 1;
+    }
 }

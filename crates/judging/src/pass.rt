@@ -7,6 +7,9 @@ use crate::judge::judge;
 use crate::moves::can_move;
 use crate::moves::move_table;
 
+// No guess of j, which a pass has no turn before it to take from: no j is larger, so that the middle is tried first.
+const NO_GUESS: u32 = 64;
+
 // Pass: judges the table, then moves it.
 pub fn pass_table<'a>(
     n: usize,
@@ -29,6 +32,7 @@ pub fn pass_table<'a>(
     let mut next = [[0u16; 128]; 32];
     let mut volumes = [[0u32; 128]; 32];
     let mut loads = [0u64; 512];
+    let powers = travel::fourth_powers();
     let totals = travel::totals(table, p, m);
     judge(
         n,
@@ -44,14 +48,26 @@ pub fn pass_table<'a>(
         &totals,
         share,
         false,
+        &powers,
         &mut times,
         &mut next,
         &mut volumes,
         &mut loads,
     );
     let gap = gap_of(&times, &totals, &loads, m, share);
-    let cost = travel::cost(free, rises, capacities, &totals, m, share);
-    let j = travel::chosen(free, rises, capacities, &totals, &loads, m, share);
+    let cost = travel::cost(free, rises, capacities, &totals, m, share, &powers);
+    let j = travel::chosen(
+        free,
+        rises,
+        capacities,
+        &totals,
+        &loads,
+        m,
+        share,
+        NO_GUESS,
+        gap,
+        &powers,
+    );
     let moved = can_move(share, j);
     let after = move_table(table, n, m, p, &next, &volumes, share, j);
     Passed {

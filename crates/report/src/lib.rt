@@ -60,6 +60,17 @@ fn write_accepted(file: &[u8], table: &[u32], answer: RunAnswer, out: &mut [u8])
     let rises = links.rises;
     let capacities = links.capacities;
     let flows = travel::totals(table, p, m);
-    let times = travel::times(&free, &rises, &capacities, &flows, m, answer.share);
+    let powers = travel::fourth_powers();
+    let mut times = [0u32; 512];
+    travel::times(
+        &free,
+        &rises,
+        &capacities,
+        &flows,
+        m,
+        answer.share,
+        &powers,
+        &mut times,
+    );
     listing::write_listing(answer, m, &flows, &times, out)
 }

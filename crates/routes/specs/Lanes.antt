@@ -13,7 +13,7 @@ use Rattle.routes.specs.Marks.{allUnreached, total, relaxed, Searching, 
 unfoldable pub lane : ℕ → List (List ℕ) → List ℕ
 lane i table = tabulate 128 (λ j. getD (getD table j []) i 0)
 
--- What a search sets out from: all of up to 128 nodes are marked unreached, for each destination.
+-- All of up to 128 nodes are marked unreached, for each destination.
 unfoldable pub allRowsUnreached : List (List ℕ)
 allRowsUnreached = replicate 128 (replicate 8 unreached)
 
@@ -84,6 +84,18 @@ module _ (m : ℕ) (tails heads times : List ℕ) (n : ℕ) (group : List ℕ) w
     pub scans : EachScans table scanned
     pub falls : totals scanned + c ≤ most
     pub quiet : c ≡ 0 → EachQuiet k table scanned
+
+-- The rows below k are marked unreached, and those past them are as they were.
+pub record Reset (k : ℕ) (table₀ table : List (List ℕ)) : Type 0 where
+  pub shaped : Shaped table
+  pub below : (j : ℕ) → j < k → getD table j [] ≡ replicate 8 unreached
+  pub rest : (j : ℕ) → k ≤ j → getD table j [] ≡ getD table₀ j []
+
+-- The marks at the last scans before a search over n nodes, and after it: past the n nodes none is reached. Past n = 0 there are all nodes:
+-- so they stand when a search sets out.
+pub record Ready (n : ℕ) (scanned : List (List ℕ)) : Type 0 where
+  pub shaped : Shaped scanned
+  pub outside : (i : ℕ) → i < 8 → (j : ℕ) → n ≤ j → j < 128 → unreached ≤ getD (lane i scanned) j 0
 
 -- The first k destinations of a group are marked as such, and nothing else is reached.
 pub record SetOut (group : List ℕ) (k : ℕ) (table : List (List ℕ)) : Type 0 where

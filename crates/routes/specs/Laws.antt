@@ -9,6 +9,8 @@ pub mod Lanes
 pub mod Next
 pub mod Seek
 pub mod Table
+pub mod Trips
+pub mod Least
 pub mod Along
 pub mod Leaves
 pub mod Sending

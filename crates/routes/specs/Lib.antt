@@ -8,6 +8,7 @@ pub mod Rows
 pub mod Lanes
 pub mod Next
 pub mod Table
+pub mod Least
 pub mod Along
 pub mod Sending
 pub mod Laws

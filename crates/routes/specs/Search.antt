@@ -1,11 +1,10 @@
--- Least times, next links and loadings of one destination, over lists with one entry for each link.
-use Prim.Native.Nat.{ℕ, _+_, _*_, _-_}
+-- Least times and next links of one destination, over lists with one entry for each link.
+use Prim.Native.Nat.{ℕ, _-_}
 use mathlib.Core.Bool.{true}
 use mathlib.Core.List.{List, _++_, map}
 use mathlib.Core.Option.{Option, none, some}
-use lib.ListN.{getD, replicate, drop}
-use Rattle.theory.specs.Finite.{tabulate}
-use Rattle.theory.specs.Routes.{Routing, distances, nextLinks, loadingRow}
+use lib.ListN.{getD, replicate}
+use Rattle.theory.specs.Routes.{Routing, distances, nextLinks}
 
 -- The routing to a destination over n nodes and m links whose ends and times stand in lists. Every link may be used.
 unfoldable pub routingFrom : ℕ → ℕ → List ℕ → List ℕ → List ℕ → ℕ → Routing
@@ -20,9 +19,9 @@ routingFrom n m tails heads times destination =
       time = λ l. getD times l 0;
     }
 
--- A node without a path is marked unreached, by 2^31.
+-- A node without a path is marked unreached, by 2^30, which is more than any distance.
 abbrev pub unreached : ℕ
-unreached = 2147483648
+unreached = 1073741824
 
 unfoldable pub mark : Option ℕ → ℕ
 mark none = unreached

@@ -4,6 +4,7 @@ ghost use Prim.Native.Nat.{_*_, _≤_, _<_, _^_};
 ghost use lib.ListN.{length, getD};
 ghost use Rattle.routes.specs.Along.{Followable, Sendable, Scatterable, volumesAlong, scattered};
 ghost use Rattle.routes.specs.Sending.{OwnBelow, Sending, Sent, SentBelow, Nodes};
+use crate::groups::any_trips;
 use crate::numbers::NO_LINK;
 use crate::numbers::index;
 
@@ -173,7 +174,7 @@ fn first_waiting(n: usize, trips: &[u16]) -> [u32; 128]
     waiting
 }
 
-// The trips that leave each node along next links: its own and those that come through it.
+// The trips that leave each node along next links: its own and those that come through it. Where there are no trips nothing is sent.
 pub fn volumes(
     n: usize,
     m: usize,
@@ -185,6 +186,10 @@ pub fn volumes(
     requires { ⌜ Sendable n m (now heads) (now next) (now trips) ⌝ }
     ensures { λ _. ⌜ now (volumes .exit) ≡ volumesAlong n (now (heads .entry)) (now (next .entry)) (λ j. getD (now (trips .entry)) j 0) ⌝ }
 {
+    if any_trips(&trips[..n]) == 0 {
+        *volumes = [0u32; 128];
+        return;
+    }
     let mut waiting = first_waiting(n, trips);
     let mut sums = [0u32; 128];
     send_in_order(&mut waiting, &mut sums, n, m, heads, next, trips);

@@ -1,15 +1,18 @@
 // Next links, found from the least times to eight destinations side by side.
 ghost use mathlib.Core.Path.{_≡_};
-ghost use Prim.Native.Nat.{ℕ, _+_, _≤_, _<_};
-ghost use lib.ListN.{length, getD};
+ghost use Prim.Native.Nat.{_*_, _≤_, _<_};
+ghost use lib.ListN.{length};
 ghost use Rattle.routes.specs.Given.{AllSearchable, longest};
 ghost use Rattle.routes.specs.Chains.{Linked};
-ghost use Rattle.routes.specs.Lanes.{EachSearchable, Found};
+ghost use Rattle.routes.specs.Lanes.{EachSearchable, Ready, Found};
 ghost use Rattle.routes.specs.Next.{Picked, Taken, AllLinked, RowMarked, EachFirstFitting};
-ghost use Rattle.routes.specs.Table.{nextTable, Member, RowFits, RowPut, GroupEmpty, GroupPut};
+ghost use Rattle.routes.specs.Table.{Nexts, RowFits, RowPut, RowsEmpty, GroupEmpty, GroupPut};
 use crate::chains::link_chains;
+use crate::groups::group_of;
+use crate::groups::group_trips;
 use crate::numbers::NO_LINK;
 use crate::numbers::index;
+use crate::search::UNREACHED;
 use crate::search::search;
 
 // No link, in a row of links to eight destinations.
@@ -141,29 +144,74 @@ fn put_group<'a>(
     }
 }
 
-// Destination k of the group that begins with destination `first` of p, or the first again where fewer are left.
-fn member(p: usize, first: usize, k: usize) -> usize
-    requires { ⌜ (p ≤ 32) × (first < p) × (k < 8) ⌝ }
-    ensures { λ r. ⌜ (r < p) × (first + k < p → r ≡ first + k) ⌝ }
+// Searches to the destinations of a group, and writes the next links of all nodes to them.
+fn next_group<'a>(
+    table: &mut [[u16; 128]; 32],
+    n: usize,
+    m: usize,
+    p: usize,
+    tails: &[u16; 512],
+    heads: &[u16; 512],
+    times: &[u32; 512],
+    group: &[u16; 8],
+    first_in: &'a [u16; 128],
+    next_in: &'a [u16; 512],
+    first_out: &'a [u16; 128],
+    next_out: &'a [u16; 512],
+    marks: &mut [[u32; 8]; 128],
+    scanned: &mut [[u32; 8]; 128],
+    first: usize,
+)
+    requires { ⌜ EachSearchable n m (now tails) (now heads) (now times) (now group) ⌝ }
+    requires { ⌜ Linked m (now heads) (now «first_in») (now «next_in») ⌝ }
+    requires { ⌜ Linked m (now tails) (now «first_out») (now «next_out») ⌝ }
+    requires { ⌜ Ready n (now scanned) ⌝ }
+    requires { ⌜ (p ≤ 32) × (first < p) × GroupEmpty p first (now table) × (length (now table) ≡ 32) ⌝ }
+    ensures { λ _. ⌜ GroupPut n m p (now (tails .entry)) (now (heads .entry)) (now (times .entry)) (now (group .entry)) first (now (table .entry)) (now (table .exit)) ⌝ }
+    ensures { λ _. ⌜ Ready n (now (scanned .exit)) ⌝ }
 {
-    if first + k < p { first + k } else { first }
+    search(
+        n,
+        m,
+        tails,
+        heads,
+        times,
+        group,
+        first_in,
+        next_in,
+        marks,
+        scanned,
+    );
+    put_group(
+        table,
+        n,
+        m,
+        p,
+        tails,
+        heads,
+        times,
+        group,
+        marks,
+        first_out,
+        next_out,
+        first,
+    );
 }
 
-// The group of eight destinations from destination `first` of p on.
-fn group_of(p: usize, destinations: &[u16; 32], first: usize) -> [u16; 8]
-    requires { ⌜ (p ≤ 32) × (first < p) ⌝ }
-    ensures { λ r. ⌜ ((i : ℕ) → i < 8 → Member p (now (destinations .entry)) first i (getD r i 0)) ⌝ }
+// Sets the first p rows of a table to no link.
+fn clear_rows(table: &mut [[u16; 128]; 32], p: usize)
+    requires { ⌜ (p ≤ 32) × (length (now table) ≡ 32) ⌝ }
+    ensures { λ _. ⌜ RowsEmpty p (now (table .exit)) ⌝ }
 {
-    let mut group = [0; 8];
     let mut k: usize = 0;
-    while k < 8 {
-        group[k] = destinations[member(p, first, k)];
+    while k < p {
+        table[k] = [NO_LINK; 128];
         k += 1;
     }
-    group
 }
 
-// The next links to each of p destinations, kept by destination and by node.
+// The next links to each of p destinations, kept by destination and by node. A group of destinations to which nobody goes is not searched,
+// and has no link.
 pub fn next_table(
     n: usize,
     m: usize,
@@ -172,43 +220,44 @@ pub fn next_table(
     heads: &[u16; 512],
     times: &[u32; 512],
     destinations: &[u16; 32],
+    trips: &[u16],
     table: &mut [[u16; 128]; 32],
 )
     requires { ⌜ AllSearchable n m p (now tails) (now heads) (now times) (now destinations) ⌝ }
-    ensures { λ _. ⌜ now (table .exit) ≡ nextTable n m p (now (tails .entry)) (now (heads .entry)) (now (times .entry)) (now (destinations .entry)) ⌝ }
+    requires { ⌜ (p * n ≤ length (now trips)) × (length (now table) ≡ 32) ⌝ }
+    ensures { λ _. ⌜ Nexts n m p (now (tails .entry)) (now (heads .entry)) (now (times .entry)) (now (destinations .entry)) (now (trips .entry)) (now (table .exit)) ⌝ }
 {
-    let into = link_chains(m, heads);
-    let out = link_chains(m, tails);
-    *table = [[NO_LINK; 128]; 32];
+    let mut first_in = [NO_LINK; 128];
+    let mut next_in = [NO_LINK; 512];
+    let mut first_out = [NO_LINK; 128];
+    let mut next_out = [NO_LINK; 512];
+    link_chains(m, heads, &mut first_in, &mut next_in);
+    link_chains(m, tails, &mut first_out, &mut next_out);
+    clear_rows(table, p);
     let mut marks = [[0; 8]; 128];
+    let mut scanned = [[UNREACHED; 8]; 128];
     let mut first: usize = 0;
     while first < p {
-        let group = group_of(p, destinations, first);
-        search(
-            n,
-            m,
-            tails,
-            heads,
-            times,
-            &group,
-            &into.first,
-            &into.next,
-            &mut marks,
-        );
-        put_group(
-            table,
-            n,
-            m,
-            p,
-            tails,
-            heads,
-            times,
-            &group,
-            &marks,
-            &out.first,
-            &out.next,
-            first,
-        );
+        if 0 < group_trips(n, p, trips, first) {
+            let group = group_of(p, destinations, first);
+            next_group(
+                table,
+                n,
+                m,
+                p,
+                tails,
+                heads,
+                times,
+                &group,
+                &first_in,
+                &next_in,
+                &first_out,
+                &next_out,
+                &mut marks,
+                &mut scanned,
+                first,
+            );
+        }
         first += 8;
     }
 }

@@ -1,21 +1,23 @@
 // Least times to eight destinations side by side: a table of marks has a row for each node and a column for each destination.
 ghost use mathlib.Core.Path.{_≡_};
-ghost use Prim.Native.Nat.{ℕ, _≤_, _<_, min};
+ghost use Prim.Native.Nat.{ℕ, _≤_, _<_, _^_, min};
 ghost use mathlib.Core.List.{[]};
 ghost use lib.ListN.{getD, set};
 ghost use Rattle.routes.specs.Given.{longest};
 ghost use Rattle.routes.specs.Chains.{Linked};
-ghost use Rattle.routes.specs.Lanes.{totals, Shaped, Marked, EachRelaxed, EachSearchable, EachSearching, EachScanned, EachScans, Compared, Visited, Swept, Found};
+ghost use Rattle.routes.specs.Lanes.{totals, Shaped, Marked, EachRelaxed, EachSearchable, EachSearching, EachScanned, EachScans, Compared, Visited, Swept, Reset, Ready, Found};
 use crate::numbers::NO_LINK;
 use crate::numbers::index;
 
-// A node that no link has reached.
-const UNREACHED: u32 = 2147483648;
+// A node that no link has reached: more than any distance, and with a link's time added still below 2^31.
+pub const UNREACHED: u32 = 1073741824;
 
+// The lower of two marks. They are compared as signed numbers, of which the processor compares several at once.
 fn lower(a: u32, b: u32) -> u32
+    requires { ⌜ (a < 2 ^ 31) × (b < 2 ^ 31) ⌝ }
     ensures { λ r. ⌜ r ≡ min a b ⌝ }
 {
-    if a < b { a } else { b }
+    if (a as i32) < (b as i32) { a } else { b }
 }
 
 // Lowers the marks of a link's tail to its time plus the marks of its head, where that is less.
@@ -193,6 +195,19 @@ fn sweep_down<'a>(
     count
 }
 
+// Marks the first n nodes unreached.
+fn reset(table: &mut [[u32; 8]; 128], n: usize)
+    requires { ⌜ (n ≤ 128) × Shaped (now table) ⌝ }
+    ensures { λ _. ⌜ Reset n (now (table .entry)) (now (table .exit)) ⌝ }
+{
+    let unreached = [UNREACHED; 8];
+    let mut j: usize = 0;
+    while j < n {
+        table[j] = unreached;
+        j += 1;
+    }
+}
+
 // Marks node s as destination k of the group.
 fn set_out(marks: &mut [[u32; 8]; 128], s: usize, k: usize)
     requires { ⌜ (s < 128) × (k < 8) ⌝ }
@@ -201,8 +216,8 @@ fn set_out(marks: &mut [[u32; 8]; 128], s: usize, k: usize)
     marks[s][k] = 0;
 }
 
-// The least times to the destinations of a group, where the chains of the links into each node are at hand. Nodes are scanned until no
-// mark changes.
+// The least times to the destinations of a group, where the chains of the links into each node are at hand, and a table for the marks at the
+// last scans, of which only those of the first n nodes have to be reset. Nodes are scanned until no mark changes.
 pub fn search<'a>(
     n: usize,
     m: usize,
@@ -213,14 +228,17 @@ pub fn search<'a>(
     first_in: &'a [u16; 128],
     next_in: &'a [u16; 512],
     marks: &mut [[u32; 8]; 128],
+    scanned: &mut [[u32; 8]; 128],
 )
     requires { ⌜ EachSearchable n m (now tails) (now heads) (now times) (now group) ⌝ }
     requires { ⌜ Linked m (now heads) (now «first_in») (now «next_in») ⌝ }
+    requires { ⌜ Ready n (now scanned) ⌝ }
     ensures { λ _. ⌜ Found n m (now (tails .entry)) (now (heads .entry)) (now (times .entry)) (now (group .entry)) (now (marks .exit)) ⌝ }
+    ensures { λ _. ⌜ Ready n (now (scanned .exit)) ⌝ }
 {
     let unreached = [UNREACHED; 8];
     *marks = [unreached; 128];
-    let mut scanned = [unreached; 128];
+    reset(scanned, n);
     let mut k: usize = 0;
     while k < 8 {
         set_out(marks, index(group[k]), k);
@@ -229,7 +247,7 @@ pub fn search<'a>(
     loop {
         let count = sweep_up(
             marks,
-            &mut scanned,
+            scanned,
             n,
             m,
             tails,
@@ -244,7 +262,7 @@ pub fn search<'a>(
         }
         sweep_down(
             marks,
-            &mut scanned,
+            scanned,
             n,
             m,
             tails,

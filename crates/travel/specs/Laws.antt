@@ -8,6 +8,7 @@ pub mod Sums
 pub mod Balance
 -- times, the staircase and cost:
 pub mod Times
+pub mod Powers
 pub mod Staircase
 pub mod Costs
 -- the choice of j:

@@ -1,5 +1,5 @@
 -- Times, costs and sums over the links of a study whose fields stand in lists, one entry for each link.
-use Prim.Native.Nat.{ℕ, _+_, _*_, _-_}
+use Prim.Native.Nat.{ℕ, _+_, _*_, _-_, _^_}
 use mathlib.Core.Bool.{Bool, true, _||_}
 use mathlib.Core.List.{List, _++_}
 use lib.ListN.{getD, replicate}
@@ -12,6 +12,10 @@ use Rattle.theory.specs.Cost.{linkCost}
 -- An array of 512 numbers of which the first m are f 0, .., f (m - 1) and the others 0.
 unfoldable pub padded : ℕ → (ℕ → ℕ) → List ℕ
 padded m f = tabulate m f ++ replicate (512 - m) 0
+
+-- The fourth powers of the steps 0 to 256.
+unfoldable pub fourthPowers : List ℕ
+fourthPowers = tabulate 257 (λ r. r ^ 4)
 
 -- The links of a study: m of them, with lists of free times, rises and capacities. There are no trips.
 unfoldable pub roads : ℕ → List ℕ → List ℕ → List ℕ → Network

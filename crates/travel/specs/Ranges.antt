@@ -38,6 +38,11 @@ pub record ShareFits (share : ℕ) : Type 0 where
 abbrev pub Within : ℕ → ℕ → List ℕ → Type 0
 Within m most xs = (l : ℕ) → l < m → getD xs l 0 ≤ most
 
+-- An array of 512 numbers of which those past the first m are 0.
+pub record Clear (m : ℕ) (xs : List ℕ) : Type 0 where
+  pub size : length xs ≡ 512
+  pub rest : (l : ℕ) → m ≤ l → getD xs l 0 ≡ 0
+
 -- What the choice of j goes by: m links, their flows S in an accepted table with a share, and their flows Y in a loading.
 pub record MoveFits (m : ℕ) (freeTimes rises capacities s y : List ℕ) (share : ℕ) : Type 0 where
   pub links : LinksFit m freeTimes rises capacities

@@ -1,17 +1,24 @@
 // The choice of j, by which a pass moves a table. `flows` are the links' totals S of the table, at share
 // W, and `loading` their totals Y of the loading.
-ghost use Prim.Native.Nat.{_+_, _*_, _-_, _≤_, min};
+ghost use Prim.Native.Nat.{_+_, _*_, _-_, _≤_, _<_, min};
 ghost use mathlib.Core.Path.{_≡_};
 ghost use lib.ListN.{getD};
 ghost use Rattle.theory.specs.Flows.{step, stepTime};
-ghost use Rattle.theory.specs.Moves.{qualifies as qualifiesOf, chosen as chosenOf};
-ghost use Rattle.travel.specs.Links.{roads};
+ghost use Rattle.theory.specs.Moves.{movedTimes, chosen as chosenOf};
+ghost use Rattle.travel.specs.Links.{roads, fourthPowers};
 ghost use Rattle.travel.specs.Ranges.{LinkFits, MoveFits, mostTime};
 use crate::steps::link_time;
 
+// What decides whether j qualifies: W × the sum of Y × time, and the sum of S × time.
+struct Sums {
+    loaded: u64,
+    spent: u64,
+}
+
 // The largest j that qualifies, from 1 to the smaller of 64 and 1,024 − W, or 0 where none does. The j
-// that qualify are the first ones, so a bisection finds it, with seven evaluations at most: low is 0 or
-// qualifies, and no j above high does.
+// that qualify are the first ones, so a bisection finds it: low is 0 or qualifies, and no j above high
+// does. Which j between the two are tried is a matter of speed alone: `guess`, and the gap of the table,
+// by which the sums at 0 differ, change nothing of the answer.
 pub fn chosen(
     free: &[u16; 512],
     rises: &[u16; 512],
@@ -20,21 +27,96 @@ pub fn chosen(
     loading: &[u64; 512],
     m: usize,
     share: u32,
+    guess: u32,
+    gap: u64,
+    powers: &[u64; 257],
 ) -> u32
     requires { ⌜ MoveFits m (now free) (now rises) (now capacities) (now flows) (now loading) share ⌝ }
+    requires { ⌜ now powers ≡ fourthPowers ⌝ }
     ensures { λ r. ⌜ r ≡ chosenOf (roads m (now (free .entry)) (now (rises .entry)) (now (capacities .entry))) share (λ l. getD (now (flows .entry)) l 0) (λ l. getD (now (loading .entry)) l 0) ⌝ }
 {
     let mut low = 0;
     let mut high = last(share);
+    let mut below = gap;
+    let mut above = 0;
+    let mut tries: u32 = 0;
     while low < high {
-        let j = high - (high - low) / 2;
-        if qualifies(free, rises, capacities, flows, loading, m, share, j) {
+        let j = next_try(low, high, tries, guess, gap, below, above);
+        tries = std::num::wrapping_add_u32(tries, 1);
+        let sums = sums_at(free, rises, capacities, flows, loading, m, share, j, powers);
+        if sums.loaded <= sums.spent {
             low = j;
+            below = sums.spent - sums.loaded;
         } else {
             high = j - 1;
+            above = sums.loaded - sums.spent;
         }
     }
     low
+}
+
+// The next j to try between two bounds. First the one above the guess, if that is below the middle. Then,
+// four times, the one at which a straight line reaches 0: as long as no j failed, the line from the gap at
+// 0 to what is below 0 at `low`, and otherwise the line from there to what is above 0 past `high`. Then the
+// middle.
+fn next_try(low: u32, high: u32, tries: u32, guess: u32, gap: u64, below: u64, above: u64) -> u32
+    requires { ⌜ (low < high) × (high ≤ 64) ⌝ }
+    ensures { λ r. ⌜ (low < r) × (r ≤ high) ⌝ }
+{
+    let middle = high - (high - low) / 2;
+    if tries == 0 {
+        return first_try(low, middle, guess);
+    }
+    if 4 < tries {
+        return middle;
+    }
+    if above == 0 {
+        let fall = std::num::wrapping_sub_u64(gap, below);
+        return steps_above(low, high, 1 + steps_to_zero(below, low, fall));
+    }
+    let rise = std::num::wrapping_add_u64(below, above);
+    steps_above(low, high, steps_to_zero(below, high + 1 - low, rise))
+}
+
+// The j above the guess, or the middle where it is not below that.
+fn first_try(low: u32, middle: u32, guess: u32) -> u32
+    requires { ⌜ low < middle ⌝ }
+    ensures { λ r. ⌜ (low < r) × (r ≤ middle) ⌝ }
+{
+    if guess < low {
+        return middle;
+    }
+    if guess < middle {
+        return guess + 1;
+    }
+    middle
+}
+
+// The j that is so many steps above the lower bound, and not past the upper one.
+fn steps_above(low: u32, high: u32, steps: u32) -> u32
+    requires { ⌜ (low < high) × (high ≤ 64) × (steps ≤ 65) ⌝ }
+    ensures { λ r. ⌜ (low < r) × (r ≤ high) ⌝ }
+{
+    if steps == 0 {
+        return low + 1;
+    }
+    if low + steps < high {
+        return low + steps;
+    }
+    high
+}
+
+// How many steps a straight line that changes by `change` in `width` steps needs for an amount, at most 64.
+// The last eight bits of both are left out, so that nothing overflows.
+fn steps_to_zero(amount: u64, width: u32, change: u64) -> u32
+    requires { ⌜ width ≤ 65 ⌝ }
+    ensures { λ r. ⌜ r ≤ 64 ⌝ }
+{
+    let steps = amount / 256 * width as u64 / (change / 256 + 1);
+    if steps < 64 {
+        return steps as u32;
+    }
+    64
 }
 
 // The last j that may be chosen at a share.
@@ -49,9 +131,8 @@ fn last(share: u32) -> u32
     64
 }
 
-// Does j qualify? Times are those at flow S + j·Y and share W + j: W × the sum of Y × time is at most
-// the sum of S × time.
-fn qualifies(
+// What decides whether j qualifies. Times are those at flow S + j·Y and share W + j.
+fn sums_at(
     free: &[u16; 512],
     rises: &[u16; 512],
     capacities: &[u16; 512],
@@ -60,9 +141,12 @@ fn qualifies(
     m: usize,
     share: u32,
     j: u32,
-) -> bool
+    powers: &[u64; 257],
+) -> Sums
     requires { ⌜ MoveFits m (now free) (now rises) (now capacities) (now flows) (now loading) share × (share + j ≤ 1024) ⌝ }
-    ensures { λ r. ⌜ r ≡ qualifiesOf (roads m (now (free .entry)) (now (rises .entry)) (now (capacities .entry))) share (λ l. getD (now (flows .entry)) l 0) (λ l. getD (now (loading .entry)) l 0) j ⌝ }
+    requires { ⌜ now powers ≡ fourthPowers ⌝ }
+    ensures { λ r. ⌜ r .loaded ≡ share * movedTimes (roads m (now (free .entry)) (now (rises .entry)) (now (capacities .entry))) share (λ l. getD (now (flows .entry)) l 0) (λ l. getD (now (loading .entry)) l 0) j (λ l. getD (now (loading .entry)) l 0) ⌝ }
+    ensures { λ r. ⌜ r .spent ≡ movedTimes (roads m (now (free .entry)) (now (rises .entry)) (now (capacities .entry))) share (λ l. getD (now (flows .entry)) l 0) (λ l. getD (now (loading .entry)) l 0) j (λ l. getD (now (flows .entry)) l 0) ⌝ }
 {
     let mut loaded = 0;
     let mut spent = 0;
@@ -70,18 +154,29 @@ fn qualifies(
     while l < m {
         let s = flows[l];
         let y = loading[l];
-        let time = moved_time(free[l], rises[l], capacities[l], share, s, y, j);
+        let time = moved_time(free[l], rises[l], capacities[l], share, s, y, j, powers);
         loaded += y * time;
         spent += s * time;
         l += 1;
     }
-    share as u64 * loaded <= spent
+    let loaded = share as u64 * loaded;
+    Sums { loaded, spent }
 }
 
 // Time of a link at flow S + j·Y and share W + j.
-fn moved_time(free: u16, rise: u16, capacity: u16, share: u32, s: u64, y: u64, j: u32) -> u64
+fn moved_time(
+    free: u16,
+    rise: u16,
+    capacity: u16,
+    share: u32,
+    s: u64,
+    y: u64,
+    j: u32,
+    powers: &[u64; 257],
+) -> u64
     requires { ⌜ LinkFits free rise capacity × (1 ≤ share) × (share + j ≤ 1024) × (s ≤ share * 65535) × (y ≤ 65535) ⌝ }
+    requires { ⌜ now powers ≡ fourthPowers ⌝ }
     ensures { λ r. ⌜ (r ≡ stepTime free rise (step capacity (share + j) (s + j * y))) × (r ≤ mostTime) ⌝ }
 {
-    link_time(free, rise, capacity, share + j, s + j as u64 * y)
+    link_time(free, rise, capacity, share + j, s + j as u64 * y, powers)
 }

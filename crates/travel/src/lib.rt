@@ -11,6 +11,7 @@ pub use balance::row_balances;
 pub use choice::chosen;
 pub use costs::cost;
 pub use costs::product;
+pub use steps::fourth_powers;
 pub use steps::times;
 pub use table::totals;
 pub use table::totals_fit;

@@ -240,25 +240,21 @@ step-stays step.Finest table next stays = refl
 step-stays step.Spent table next stays = refl
 step-stays step.Moved table next stays = absurd (stays refl)
 
--- What the cost of a table asks, and that it is the definition's.
+-- What the totals and the cost of a table ask, and that the cost is the definition's.
 module _ {d : Decoded} {table : List ℕ} {share : ℕ} (known : JudgeableOf d table share) where
-  pub cost-asks :
-      LinksFit (d .links) (d .«free_times») (d .rises) (d .capacities)
-      × ShareFits share
-      × (d .destinations ≤ 32)
-      × (d .destinations * d .links ≤ length table)
-  cost-asks =
-      let study = known .0 .0 in
-      (links-fit study, share-fits study (known .1), study .few-destinations, holds study (known .1))
+  pub totals-ask : (d .destinations ≤ 32) × (d .links ≤ 512) × (d .destinations * d .links ≤ length table)
+  totals-ask = let study = known .0 .0 in (study .few-destinations, study .few-links, holds study (known .1))
 
-  pub cost-within : Within (d .links) mostFlow (padded (d .links) (linkTotal (d .destinations) (d .links) table))
-  cost-within = totals-within (known .0 .0) (known .1) refl
+  module _ {totals : List ℕ} (totals-are : totals ≡ padded (d .links) (linkTotal (d .destinations) (d .links) table)) where
+    pub cost-asks :
+        LinksFit (d .links) (d .«free_times») (d .rises) (d .capacities) × ShareFits share × Within (d .links) mostFlow totals
+    cost-asks =
+        let study = known .0 .0 in
+        (links-fit study, share-fits study (known .1), totals-within study (known .1) totals-are)
 
-  pub cost-of :
-      listCost (d .links) (d .«free_times») (d .rises) (d .capacities) share
-      (padded (d .links) (linkTotal (d .destinations) (d .links) table))
-      ≡ cost (networkIn d) share table
-  cost-of = cost-is (known .0 .0) (known .1) refl
+    pub cost-of :
+        listCost (d .links) (d .«free_times») (d .rises) (d .capacities) share totals ≡ cost (networkIn d) share table
+    cost-of = cost-is (known .0 .0) (known .1) totals-are
 
 -- The turns of an accepted run, over the decoded file.
 pub begun-ready : (file before : List ℕ) (budget : ℕ) (d : Decoded) (start : List ℕ) → Begun file before budget d start → ReadyOf d

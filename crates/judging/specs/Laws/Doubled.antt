@@ -1,15 +1,13 @@
 -- After a doubling. Twice the flow at twice the share changes no time, so what was computed of a table is known of the doubled one.
-use Prim.Native.Nat.{ℕ, _+_, _*_, _/_, _≤_, _<_, min}
+use Prim.Native.Nat.{ℕ, _*_, _/_, _≤_, _<_, min}
 use native.Mathlib.Nat.{mul-div-mul-left}
 use native.Mathlib.Omega.{arith}
 use mathlib.Core.Path.{_≡_, sym, _∙_, ap, ap₂}
 use mathlib.Core.Bool.{true}
 use mathlib.Core.List.{List}
-use lib.Arith.{digits-lt}
 use lib.ListN.{getD}
 use borrow.Author.Tests.{leb-true}
 use Rattle.theory.specs.Flows.{linkTotal, step, stepTime}
-use Rattle.theory.specs.Laws.Finite.{sum-cong, sum-scale}
 use Rattle.calls.specs.Calls.{shareAfter, tableAfter}
 use Rattle.travel.specs.Links.{padded, listTime}
 use Rattle.travel.specs.Laws.Padded.{getD-padded, padded-cong}
@@ -18,8 +16,8 @@ use Rattle.judging.specs.Study.{Ready}
 use Rattle.judging.specs.Loading.{volumeRows, front}
 use Rattle.judging.specs.Moves.{canMove, moveAlong}
 use Rattle.judging.specs.Judged.{Known, KnownOf}
-use Rattle.judging.specs.Laws.Front.{front-at}
 use Rattle.judging.specs.Laws.Moves.{can-double, doubles}
+use Rattle.judging.specs.Laws.Totals.{total-doubled}
 
 -- 64·2S / (c·2W) is 64·S / (c·W).
 step-doubled : (capacity share flow : ℕ) → step capacity share flow ≡ step capacity (2 * share) (2 * flow)
@@ -29,15 +27,6 @@ step-doubled capacity share flow =
     let above : 64 * (2 * flow) ≡ 2 * (64 * flow) = omega arith in
     let below : capacity * (2 * share) ≡ 2 * (capacity * share) = omega arith in
     ap (min 256) (sym (ap₂ (λ a b. a / b) above below ∙ same))
-
--- The totals of a doubled table are twice as large.
-total-doubled :
-    (p m : ℕ) (table : List ℕ) (l : ℕ) → l < m →
-    linkTotal p m (front (p * m) (λ i. 2 * getD table i 0) table) l ≡ 2 * linkTotal p m table l
-unfolding linkTotal
-total-doubled p m table l h =
-    sum-cong p _ _ (λ k b. front-at (p * m) (λ i. 2 * getD table i 0) table (k * m + l) (digits-lt {q = k} {m = p} {r = l} {c = m} b h))
-    ∙ sum-scale p 2 (λ k. getD table (k * m + l) 0)
 
 module _ {d : Decoded} (ready : Ready d) (table : List ℕ) {share : ℕ} {totals times : List ℕ} {nexts volumes : List (List ℕ)} {loads : List ℕ}
     (totals-are : totals ≡ padded (d .links) (linkTotal (d .destinations) (d .links) table))

@@ -8,8 +8,11 @@ use lib.ListN.{length, getD, set, drop, length-append, length-drop, length-set, 
 use lib.Seq.{getD-append-add, getD-drop, getD-set-same, getD-set-other, ext-getD}
 use Rattle.theory.specs.Finite.{tabulate}
 use Rattle.theory.specs.Laws.Cases.{on-equal}
-use Rattle.theory.specs.Laws.Finite.{order, length-tabulate, getD-tabulate, tabulate-cong}
+use Rattle.theory.specs.Laws.Finite.{order, length-tabulate, getD-tabulate}
 use Rattle.calls.specs.Calls.{overwritten}
+use Rattle.travel.specs.Links.{padded}
+use Rattle.travel.specs.Ranges.{Clear}
+use Rattle.travel.specs.Laws.Padded.{padded-is}
 use Rattle.judging.specs.Loading.{front}
 
 module _ (size : ℕ) (f : ℕ → ℕ) (table : List ℕ) where
@@ -59,6 +62,13 @@ front-more f table i xs x h e v =
   where
     long : length xs ≡ length table
     long = ap length e ∙ length-front i f table (omega arith)
+
+-- An array that is 0 past the first m of its numbers is so when these are replaced.
+pub front-clear : (m : ℕ) (f : ℕ → ℕ) {xs ys : List ℕ} → m ≤ 512 → Clear m xs → ys ≡ front m f xs → ys ≡ padded m f
+front-clear m f {xs} {ys} few clear e =
+    padded-is m f ys few (ap length e ∙ length-front m f xs (omega (arith, clear .size)) ∙ clear .size)
+    (λ l h. ap (λ zs. getD zs l 0) e ∙ front-at m f xs l h)
+    (λ l h. ap (λ zs. getD zs l 0) e ∙ front-past m f xs l h ∙ clear .rest l h)
 
 -- Document 01's "the first p·m numbers", with "later numbers untouched".
 pub overwritten-front : (size : ℕ) (f : ℕ → ℕ) (table : List ℕ) → overwritten (tabulate size f) table ≡ front size f table

@@ -3,9 +3,10 @@ use Prim.Native.Nat.{ℕ, _+_, _*_, _-_, _≤_, _<_, min}
 use native.Mathlib.Nat.{le-trans, mul-le-mul-left, mul-le-mul-right}
 use native.Mathlib.Omega.{arith}
 use mathlib.Core.Path.{_≡_, refl, sym, _∙_, ap, ap₂}
+use mathlib.Core.Bool.{true}
 use mathlib.Core.List.{List}
 use mathlib.Core.Logic.{⊎-elim}
-use lib.ListN.{length, getD, List·getD-eq-default}
+use lib.ListN.{length, getD, replicate, List·getD-eq-default}
 use lib.Dec.{leb}
 use Rattle.theory.specs.Flows.{linkTotal, total, step, stepTime, times, Carries}
 use Rattle.theory.specs.Routes.{loading}
@@ -22,18 +23,22 @@ use Rattle.theory.specs.Laws.Choice.{chosen-le}
 use Rattle.theory.specs.Laws.Moves.{chosenOf}
 use Rattle.theory.specs.Laws.Local.{moveBy, move-by}
 use Rattle.calls.specs.Study.{networkFrom}
+use Rattle.calls.specs.Calls.{tableAfter}
 use Rattle.travel.specs.Links.{padded, roads, listTime, listCost, listProduct}
 use Rattle.travel.specs.Ranges.{Within, ShareFits, TimesFit, MoveFits, mostFlow}
-use Rattle.travel.specs.Laws.Padded.{getD-padded, getD-padded-rest}
+use Rattle.travel.specs.Laws.Padded.{length-padded, getD-padded, getD-padded-rest, padded-clear, zeros-clear}
+use Rattle.routes.specs.Table.{leastOver}
 use Rattle.judging.specs.declared.Decoded.{Decoded}
 use Rattle.judging.specs.Study.{networkIn, Ready, Judgeable, moveOf}
-use Rattle.judging.specs.Loading.{loadingAlong, volumeRows}
-use Rattle.judging.specs.Moves.{canMove, moveAlong, Movable}
-use Rattle.judging.specs.Judged.{Known, KnownOf, GapFits}
+use Rattle.judging.specs.Loading.{loadingAlong, volumeRows, front}
+use Rattle.judging.specs.Moves.{canMove, moveAlong, totalAfter, TotalsMovable, Movable}
+use Rattle.judging.specs.Judged.{Lent, Known, KnownOf, GapFits}
 use Rattle.judging.specs.Laws.Study.{holds-rows, links-fit}
 use Rattle.judging.specs.Laws.Tables.{number-most}
 use Rattle.judging.specs.Laws.Moves.{moves-by}
+use Rattle.judging.specs.Laws.Totals.{moved-totals}
 use Rattle.judging.specs.Laws.Routes.{TimesIn, timed, served, loading-is, load-most, next-links}
+use Rattle.judging.specs.Laws.Least.{least-over}
 
 -- The choice of j goes by the flows of the links, their capacities and their times.
 chosen-roads :
@@ -48,6 +53,23 @@ chosen-roads d share s y s′ y′ same-s same-y =
   where
     time : ℕ → ℕ → ℕ → ℕ
     time j l flow = stepTime (getD (d .«free_times») l 0) (getD (d .rises) l 0) (step (getD (d .capacities) l 0) (share + j) flow)
+
+-- Arrays that hold what judging computes can be lent for judging.
+pub known-lent :
+    {d : Decoded} {share : ℕ} {totals times : List ℕ} {nexts volumes : List (List ℕ)} {loads : List ℕ} →
+    Ready d → Known d totals share times nexts volumes loads → Lent (d .links) times nexts volumes loads
+known-lent {d} ready known =
+    record {
+      times-clear = rw (known .times-are) (padded-clear (d .links) _ (ready .few-links));
+      nexts-long = known .nexts-are .size;
+      volumes-long = known .volumes-long;
+      loads-clear = rw (known .loads-are) (padded-clear (d .links) _ (ready .few-links));
+    }
+
+-- So can new ones.
+pub zeros-lent : (m : ℕ) {nexts volumes : List (List ℕ)} → length nexts ≡ 32 → length volumes ≡ 32 → Lent m (replicate 512 0) nexts volumes (replicate 512 0)
+zeros-lent m nexts-long volumes-long =
+    record { times-clear = zeros-clear m; nexts-long = nexts-long; volumes-long = volumes-long; loads-clear = zeros-clear m }
 
 -- What is known of a table's totals is known where they stand in an array.
 pub known-at :
@@ -118,6 +140,28 @@ module _ {d : Decoded} {table : List ℕ} {share : ℕ} (ready : Ready d) (judge
       times-in : TimesIn d times′ exact
       times-in = record { fit = fit; same = λ l. ⊎-elim (time-at l) (time-past l) (order l (d .links)) }
 
+      spent-is : listProduct (d .links) times′ totals ≡ spentTimes (networkIn d) exact table
+      unfolding listProduct spentTimes networkIn networkFrom
+      spent-is = sum-cong (d .links) _ _ (λ l h. ap₂ (λ a b. a * b) (time-at l h) (total-at l h))
+
+      least-spent : share * leastTimes (networkIn d) exact ≤ spentTimes (networkIn d) exact table
+      least-spent =
+          let exactly =
+          gap-exact (networkIn d) (ready .sound) share table
+          (routing-consistent (networkIn d) (ready .sound) exact (timed ready times-in)) carries in
+          omega arith
+
+      -- The sum of D(j,s) × distance, as searches find it: W times that is at most the sum of t·S, and their difference is the gap.
+      abbrev least′ : ℕ
+      least′ = leastOver (d .nodes) (d .links) (d .destinations) (d .tails) (d .heads) times′ (d .«destination_nodes») (d .trips)
+
+      pub least-fits : share * least′ ≤ listProduct (d .links) times′ totals
+      least-fits = rw (spent-is, least-over ready times-in) least-spent
+
+      pub defined-gap : listProduct (d .links) times′ totals - share * least′ ≡ gap (networkIn d) share table
+      unfolding gap
+      defined-gap = ap₂ (λ a b. a - share * b) spent-is (least-over ready times-in)
+
   -- All that is computed of the table stands in arrays.
   module _ {totals times′ : List ℕ} {nexts volumes : List (List ℕ)} {loads : List ℕ}
       (totals-are : totals ≡ padded (d .links) (linkTotal (d .destinations) (d .links) table))
@@ -141,10 +185,6 @@ module _ {d : Decoded} {table : List ℕ} {share : ℕ} (ready : Ready d) (judge
     loads-within : Within (d .links) 65535 loads
     loads-within l h = omega (arith, load-at l h, load-most ready t (c .nexts-are) l h)
 
-    spent-is : listProduct (d .links) times′ totals ≡ spentTimes (networkIn d) exact table
-    unfolding listProduct spentTimes networkIn networkFrom
-    spent-is = sum-cong (d .links) _ _ (λ l h. ap₂ (λ a b. a * b) (t .same l) (total-at totals-are l h))
-
     least-is : listProduct (d .links) times′ loads ≡ leastTimes (networkIn d) exact
     unfolding listProduct spentTimes networkIn networkFrom
     least-is =
@@ -154,7 +194,7 @@ module _ {d : Decoded} {table : List ℕ} {share : ℕ} (ready : Ready d) (judge
     -- The gap: it is the sum of t·S, less W times the sum of t·Y,
     pub gap-is : listProduct (d .links) times′ totals - share * listProduct (d .links) times′ loads ≡ gap (networkIn d) share table
     unfolding gap
-    gap-is = ap₂ (λ a b. a - share * b) spent-is least-is
+    gap-is = ap₂ (λ a b. a - share * b) (spent-is totals-are (c .times-are) (c .times-fit)) least-is
 
     -- of which neither is too large.
     pub gap-fits : GapFits (d .links) times′ totals loads share
@@ -165,10 +205,8 @@ module _ {d : Decoded} {table : List ℕ} {share : ℕ} (ready : Ready d) (judge
           totals-fit = totals-within totals-are;
           loads-fit = λ l h. omega (arith, loads-within l h);
           least =
-              let exactly =
-              gap-exact (networkIn d) (ready .sound) share table
-              (routing-consistent (networkIn d) (ready .sound) exact (timed ready t)) carries in
-              rw (spent-is, least-is) (omega arith);
+              rw (spent-is totals-are (c .times-are) (c .times-fit), least-is)
+              (least-spent totals-are (c .times-are) (c .times-fit));
         }
 
     -- The choice of j,
@@ -195,12 +233,32 @@ module _ {d : Decoded} {table : List ℕ} {share : ℕ} (ready : Ready d) (judge
             few-links = ready .few-links;
             few-destinations = ready .few-destinations;
             next-link = next-links ready t (c .nexts-are) long;
-            small-step = omega arith;
             small-share = omega (arith, judgeable .share-most);
             holds = holds;
             flows = number-most (d .destinations) (d .links) table (share * 65535) total-most;
             loads = λ i h. rw (c .volumes-are) (number-most (d .destinations) (d .links) y 65535 (load-most ready t (c .nexts-are)) i h);
           }
+
+      -- Its totals move with it,
+      pub totals-movable : TotalsMovable (d .links) j totals loads
+      totals-movable =
+          let most = chosen-le (networkIn d) share (total (networkIn d) table) (total (networkIn d) (loading (networkIn d) exact)) in
+          let chose = step-is j-is in
+          record {
+            few-links = ready .few-links;
+            size = ap length totals-are ∙ length-padded (d .links) _ (ready .few-links);
+            small-step = omega arith;
+            totals-fit = totals-within totals-are;
+            loads-fit = λ l h. omega (arith, loads-within l h);
+          }
+
+      pub totals-moved :
+          canMove share j ≡ true → {totals′ table′ : List ℕ} → totals′ ≡ front (d .links) (totalAfter j totals loads) totals →
+          table′ ≡ tableAfter table (moveAlong (d .destinations * d .links) share j (volumeRows (d .nodes) (d .links) (d .destinations) nexts volumes) table) →
+          totals′ ≡ padded (d .links) (linkTotal (d .destinations) (d .links) table′)
+      totals-moved can e f =
+          moved-totals (d .destinations) (d .links) share j _ table (ready .few-links) can totals-are
+          (c .loads-are ∙ ap (λ y. padded (d .links) (linkTotal (d .destinations) (d .links) y)) (sym (c .volumes-are))) e f
 
       pub move-is :
           moveAlong (d .destinations * d .links) share j (volumeRows (d .nodes) (d .links) (d .destinations) nexts volumes) table

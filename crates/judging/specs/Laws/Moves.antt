@@ -57,7 +57,7 @@ module _ (size share j : ℕ) (y table : List ℕ) where
   Moved share′ table′ =
       (share′ ≡ shareAfter share (moveAlong size share j y table)) × (table′ ≡ tableAfter table (moveAlong size share j y table))
 
-  adds : 0 < j → Moved (share + j) (addedRows size j y table)
+  pub adds : 0 < j → Moved (share + j) (addedRows size j y table)
   unfolding addedRows
   adds h =
       let e = by-adds share j _ _ h in

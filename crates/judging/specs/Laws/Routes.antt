@@ -1,30 +1,31 @@
 -- The loading that the code's next links give is the definition's.
 use Prim.Native.Nat.{ℕ, zero, suc, _+_, _*_, _≤_, _<_}
 use native.Mathlib.Omega.{arith}
-use mathlib.Core.Path.{_≡_, refl, sym, _∙_, ap, ap₂, fun-ext}
-use mathlib.Core.List.{List, [], _++_}
-use lib.ListN.{length, getD, replicate, getD-replicate}
+use mathlib.Core.Path.{_≡_, refl, sym, _∙_, ap, fun-ext}
+use mathlib.Core.List.{List, []}
+use mathlib.Core.Logic.{⊎-elim}
+use lib.ListN.{length, getD, replicate, length-replicate, getD-replicate, List·getD-map, List·getD-eq-default}
 use lib.Seq.{ext-getD}
 use Rattle.theory.specs.Finite.{tabulate, rows}
 use Rattle.theory.specs.Network.{Network}
 use Rattle.theory.specs.Flows.{linkTotal}
-use Rattle.theory.specs.Routes.{routing, loadingRow, loading}
-use Rattle.theory.specs.Laws.Finite.{length-tabulate, getD-tabulate, rows-cong}
+use Rattle.theory.specs.Routes.{Routing, routing, walk, loadingRow, loading}
+use Rattle.theory.specs.Laws.Finite.{order, sum-zero, length-tabulate, getD-tabulate, rows-cong}
 use Rattle.theory.specs.Laws.Routings.{Timed, AllServed, served-at-times}
-use Rattle.theory.specs.Laws.Loading.{length-row, loading-total, row-loaded}
+use Rattle.theory.specs.Laws.Loading.{loaded, length-row, loading-total, row-loaded}
 use Rattle.calls.specs.Study.{networkFrom}
 use Rattle.calls.specs.Laws.Reach.{unit-timed}
 use Rattle.travel.specs.Ranges.{TimesFit}
 use Rattle.routes.specs.Search.{noLink, routingFrom, linkMarks}
-use Rattle.routes.specs.Given.{Searchable}
-use Rattle.routes.specs.Along.{flowAlong}
-use Rattle.routes.specs.Table.{nextTable}
-use Rattle.routes.specs.Laws.Table.{searchable-to, table-row}
+use Rattle.routes.specs.Given.{Searchable, AllSearchable}
+use Rattle.routes.specs.Along.{linkOf, walkAlong, flowAlong, Followable}
+use Rattle.routes.specs.Table.{noLinks, Nexts}
+use Rattle.routes.specs.Laws.Padded.{getD-default}
+use Rattle.routes.specs.Laws.Table.{searchable-to}
 use Rattle.routes.specs.Laws.Loaded.{followable, flow-along}
 use Rattle.judging.specs.declared.Decoded.{Decoded}
 use Rattle.judging.specs.Study.{networkIn, Ready}
-use Rattle.judging.specs.Loading.{front, rowAlong, loadingAlong, AllFollowable}
-use Rattle.judging.specs.Laws.Front.{front-at}
+use Rattle.judging.specs.Loading.{rowAlong, loadingAlong, AllFollowable}
 use Rattle.judging.specs.Laws.Study.{searchable, trips-fit}
 
 -- One destination: what its trips send along the next links over a link is the loading there.
@@ -35,6 +36,49 @@ flow-is :
 unfolding routingFrom
 flow-is {n} {m} {tails} {heads} {times} {s} w e trips l h =
     flow-along w e trips l ∙ sym (row-loaded (routingFrom n m tails heads times s) trips l h)
+
+-- Where nobody goes there is no loading, along any next links,
+none-along : (n : ℕ) (heads next : List ℕ) (trips : ℕ → ℕ) (l : ℕ) → ((j : ℕ) → j < n → trips j ≡ 0) → flowAlong n heads next trips n l ≡ 0
+unfolding flowAlong
+none-along n heads next trips l none = sum-zero n _ (λ j h. rw (none j h) (omega arith))
+
+-- nor by the definition.
+none-loaded : (q : Routing) (trips : ℕ → ℕ) (l : ℕ) → l < q .links → ((j : ℕ) → j < q .nodes → trips j ≡ 0) → getD (loadingRow q trips) l 0 ≡ 0
+unfolding loaded
+none-loaded q trips l h none = row-loaded q trips l h ∙ sum-zero (q .nodes) _ (λ j b. rw (none j b) (omega arith))
+
+-- A row without next links can be followed: no walk leaves its node.
+no-link : (j : ℕ) → getD noLinks j noLink ≡ noLink
+unfolding noLinks
+no-link j =
+    ⊎-elim (λ h. getD-replicate {A = ℕ} 128 j noLink noLink h)
+    (λ h. List·getD-eq-default {A = ℕ} (replicate 128 noLink) noLink {n = j} (omega (arith, length-replicate {A = ℕ} 128 noLink)))
+    (order j 128)
+
+length-no-links : length noLinks ≡ 128
+unfolding noLinks
+length-no-links = length-replicate {A = ℕ} 128 noLink
+
+no-walk : (heads : List ℕ) (most j : ℕ) → walkAlong heads noLinks most j ≡ []
+unfolding walkAlong walk linkOf
+no-walk heads zero j = refl
+no-walk heads (suc most) j = rw (List·getD-map linkOf noLinks j noLink, no-link j, walk)
+
+followable-none :
+    {n m p : ℕ} {tails heads times destinations : List ℕ} → AllSearchable n m p tails heads times destinations → {k : ℕ} → k < p →
+    {row : List ℕ} → row ≡ noLinks → Followable n m heads row
+followable-none {heads} g {k} h e =
+    let some-node = g .destination-node k h in
+    rw e
+    (record {
+      few-nodes = g .few-nodes;
+      few-links = g .few-links;
+      size = length-no-links;
+      head-node = g .head-node;
+      next-link = λ j b some-link.
+          absurd (some-link (getD-default noLinks j 0 noLink (omega (arith, g .few-nodes, length-no-links)) ∙ no-link j));
+      ends = λ j b. rw (no-walk heads) (omega arith);
+    })
 
 -- A loading goes by the times of the links, number by number.
 loading-at : (g : Network) (t u : List ℕ) → ((l : ℕ) → getD t l 0 ≡ getD u l 0) → loading g t ≡ loading g u
@@ -75,19 +119,18 @@ module _ {d : Decoded} (ready : Ready d) {times exact : List ℕ} (t : TimesIn d
   served = served-at-times (networkIn d) (ready .sound) (replicate (d .links) 1) exact (unit-timed (networkIn d)) timed (ready .served)
 
   module _ {nexts : List (List ℕ)}
-      (found : nexts ≡ nextTable (d .nodes) (d .links) (d .destinations) (d .tails) (d .heads) times (d .«destination_nodes»)) where
-    next-marks : (k : ℕ) → k < d .destinations →
-        getD nexts k [] ≡ linkMarks (routingFrom (d .nodes) (d .links) (d .tails) (d .heads) times (getD (d .«destination_nodes») k 0))
-    next-marks k h =
-        ap (λ table. getD table k []) found
-        ∙ table-row (d .nodes) (d .links) (d .destinations) (d .tails) (d .heads) times (d .«destination_nodes») k [] h
-
+      (found : Nexts (d .nodes) (d .links) (d .destinations) (d .tails) (d .heads) times (d .«destination_nodes») (d .trips) nexts) where
     row-is : (k l : ℕ) → k < d .destinations → l < d .links →
         rowAlong (d .nodes) (d .heads) (d .trips) nexts k l
         ≡ getD (loadingRow (routing (networkIn d) times k) (networkIn d .trips k)) l 0
     unfolding rowAlong networkIn networkFrom routingFrom
     row-is k l h b =
-        flow-is (searchable-to (searchable ready (t .fit)) h refl) (next-marks k h) (λ j. getD (d .trips) (k * d .nodes + j) 0) l b
+        ⊎-elim
+        (λ e. flow-is (searchable-to (searchable ready (t .fit)) h refl) e (λ j. getD (d .trips) (k * d .nodes + j) 0) l b)
+        (λ none.
+        none-along (d .nodes) (d .heads) (getD nexts k []) (λ j. getD (d .trips) (k * d .nodes + j) 0) l (none .1)
+        ∙ sym (none-loaded (routing (networkIn d) times k) (networkIn d .trips k) l b (none .1)))
+        (found .row k h)
 
     -- The loading along these next links is the definition's,
     pub loading-is : loadingAlong (d .nodes) (d .links) (d .destinations) (d .heads) (d .trips) nexts ≡ loading (networkIn d) exact
@@ -120,7 +163,11 @@ module _ {d : Decoded} (ready : Ready d) {times exact : List ℕ} (t : TimesIn d
           few-links = ready .few-links;
           few-destinations = ready .few-destinations;
           has-trips = omega (arith, trips-fit ready);
-          followable = λ k h. followable (searchable-to (searchable ready (t .fit)) h refl) (next-marks k h);
+          followable = λ k h.
+              ⊎-elim
+              (λ e. followable (searchable-to (searchable ready (t .fit)) h refl) e)
+              (λ none. followable-none (searchable ready (t .fit)) h (none .0))
+              (found .row k h);
           small-totals = load-most;
         }
 

@@ -1,11 +1,10 @@
 -- A table's rows, its numbers, and its totals.
-use Prim.Native.Nat.{ℕ, zero, suc, _+_, _*_, _/_, _%_, _≤_, _<_}
+use Prim.Native.Nat.{ℕ, _+_, _*_, _/_, _%_, _≤_, _<_}
 use native.Mathlib.Nat.{div-add-mod', mod-lt, div-lt-iff-lt-mul, pos-of-ne-zero, le-trans}
 use native.Mathlib.Omega.{arith}
-use mathlib.Core.Path.{_≡_, refl, ap, ap₂}
-use mathlib.Core.List.{List, _++_}
+use mathlib.Core.Path.{_≡_, ap}
+use mathlib.Core.List.{List}
 use lib.ListN.{getD}
-use Rattle.theory.specs.Finite.{rows}
 use Rattle.theory.specs.Flows.{linkTotal}
 use Rattle.theory.specs.Laws.Finite.{sum-term}
 

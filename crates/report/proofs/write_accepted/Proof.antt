@@ -1,6 +1,7 @@
 -- `report::write_accepted` meets its contract: the arrays of totals and times hold what the definitions say of the study's network.
 use mathlib.Core.Path.{refl}
 use borrow.Author.Needs.{needs}
+use Rattle.travel.specs.Laws.Padded.{zeros-clear}
 use Rattle.report.specs.Laws.Links.{rows-there, links-there, times-there, listed-same}
 use Rattle.report.specs.Laws.Printed.{written-as}
 use Rattle.report.proofs.write_accepted.Statement.{statement}
@@ -28,17 +29,22 @@ totals-requires c κs =
     let counted = c .before .before .before .before .before in
     rows-there _ _ _ (entry counted .pre .0) (counted .destination-count .ensures) (counted .before .link-count .ensures)
 
+fourth-powers-requires : tie.Need-fourth-powers-requires
+fourth-powers-requires c κs = search needs
+
 times-requires : tie.Need-times-requires
 times-requires c κs =
-    let summed = c .before .before .before .before in
-    let read = summed .before .before .before .before in
-    let counted = read .before .before in
-    times-there _ _ _ (entry counted .pre .0) (counted .before .link-count .ensures) (counted .destination-count .ensures)
-    (read .before .links .ensures) (read .decode-links .ensures) (summed .totals .ensures .0)
+    let raised = c .before .before .before .before .before .before in
+    let read = raised .before .before .before .before .before in
+    let counted = read .before .before in (
+      times-there _ _ _ (entry counted .pre .0) (counted .before .link-count .ensures) (counted .destination-count .ensures)
+          (read .before .links .ensures) (read .decode-links .ensures) (raised .before .totals .ensures .0),
+      (raised .fourth-powers .ensures, zeros-clear _),
+    )
 
 write-listing-requires : tie.Need-write-listing-requires
 write-listing-requires c κs =
-    let counted = c .before .before .before .before .before .before .before .before .before .before .before .before .before .before in
+    let counted = c .before .before .before .before .before .before .before .before .before .before .before .before .before .before .before .before .before in
     let pre = entry counted .pre in
     (rows-there _ _ _ (pre .0) (counted .destination-count .ensures) (counted .before .link-count .ensures) .1, pre .1)
 
@@ -48,12 +54,12 @@ same-length c = search needs
 returns : tie.Need-returns
 returns c =
     let timed = c .before .before .before .before .before .before in
-    let summed = timed .before .before .before .before .before in
+    let summed = timed .before .before .before .before .before .before .before .before in
     let read = summed .before .before .before .before in
     let counted = read .before .before in
     written-as
     (listed-same _ _ _ (entry counted .pre .0) (counted .before .link-count .ensures) (counted .destination-count .ensures)
-    (read .before .links .ensures) (read .decode-links .ensures) (summed .totals .ensures .0) _ refl (timed .times .ensures .0))
+    (read .before .links .ensures) (read .decode-links .ensures) (summed .totals .ensures .0) _ refl (timed .times2 .ensures .0))
     (c .before .before .write-listing .ensures)
 
 pub write-accepted-spec : {M : Type 1} → statement M
@@ -65,6 +71,7 @@ write-accepted-spec =
     links-requires
     decode-links-requires
     totals-requires
+    fourth-powers-requires
     times-requires
     write-listing-requires
     same-length

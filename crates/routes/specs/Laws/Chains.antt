@@ -7,7 +7,7 @@ use mathlib.Core.Bool.{Bool, false, _&&_}
 use mathlib.Core.List.{List}
 use mathlib.Core.Logic.{⊎-elim}
 use mathlib.Core.Option.{none, some}
-use lib.ListN.{getD, set, replicate, length-set, length-replicate, getD-replicate}
+use lib.ListN.{length, getD, set, replicate, length-set, length-replicate, getD-replicate}
 use lib.Seq.{getD-set-same, getD-set-other, ext-getD}
 use lib.Dec.{eqb, leb}
 use borrow.Author.Tests.{eq-eqb, ne-eqb, eqb-true, le-leb, lt-leb, leb-true}
@@ -67,13 +67,14 @@ module _ (m : ℕ) (tails : List ℕ) where
           (order k l))
 
   -- The chains begin with no link,
-  pub chains-begin : m ≤ 512 → LinkedFrom m tails m (replicate 128 noLink) (replicate 512 noLink)
-  chains-begin h =
+  pub chains-begin : {firsts nexts : List ℕ} → m ≤ 512 → firsts ≡ replicate 128 noLink → nexts ≡ replicate 512 noLink → LinkedFrom m tails m firsts nexts
+  chains-begin h firsts≡ nexts≡ =
       record {
-        nodes = length-replicate 128 noLink;
-        links = length-replicate 512 noLink;
-        at-node = λ j b. getD-replicate 128 j noLink 0 b ∙ sym (lowest-past j m (le-refl m));
-        at-link = λ k b c. getD-replicate 512 k noLink 0 c ∙ sym (lowest-past (getD tails k 0) (k + 1) (omega arith));
+        nodes = ap length firsts≡ ∙ length-replicate 128 noLink;
+        links = ap length nexts≡ ∙ length-replicate 512 noLink;
+        at-node = λ j b. ap (λ xs. getD xs j 0) firsts≡ ∙ getD-replicate 128 j noLink 0 b ∙ sym (lowest-past j m (le-refl m));
+        at-link = λ k b c.
+            ap (λ xs. getD xs k 0) nexts≡ ∙ getD-replicate 512 k noLink 0 c ∙ sym (lowest-past (getD tails k 0) (k + 1) (omega arith));
       }
 
   -- take in link l,

@@ -10,13 +10,13 @@ use lib.Seq.{getD-set-same, getD-set-other, set-getD, ext-getD}
 use borrow.Author.Count.{below-more}
 use Rattle.theory.specs.Finite.{sum}
 use Rattle.theory.specs.Laws.Cases.{on-equal}
-use Rattle.theory.specs.Laws.Finite.{below-suc, sum-mono, length-tabulate, getD-tabulate}
+use Rattle.theory.specs.Laws.Finite.{order, below-suc, sum-mono, length-tabulate, getD-tabulate}
 use Rattle.routes.specs.Search.{unreached, noLink}
 use Rattle.routes.specs.Given.{longest}
 use Rattle.routes.specs.Chains.{Linked}
 use Rattle.routes.specs.Rows.{Worked}
 use Rattle.routes.specs.Marks.{allUnreached, total}
-use Rattle.routes.specs.Lanes.{lane, allRowsUnreached, totals, Shaped, Marked, EachRelaxed, Compared, EachSearchable, EachSearching, EachScanning, EachScanned, EachScans, EachQuiet, Visited, Swept, SetOut, Found}
+use Rattle.routes.specs.Lanes.{lane, allRowsUnreached, totals, Shaped, Marked, EachRelaxed, Compared, EachSearchable, EachSearching, EachScanning, EachScanned, EachScans, EachQuiet, Visited, Swept, Reset, Ready, SetOut, Found}
 use Rattle.routes.specs.Laws.Sweep.{relaxed-least, scan-begins, scan-ends, scan-at, scan-goes, scans-none, scans-more, scans-total, scans-settled}
 use Rattle.routes.specs.Laws.Found.{search-found}
 
@@ -45,20 +45,16 @@ lane-set i table j row size =
         ∙ sym (lane-at i table a h)
         ∙ sym (getD-set-other (lane i table) j a (getD row i 0) 0 away))
 
--- All nodes are unreached in each lane.
-pub lane-unreached : (i : ℕ) → i < 8 → lane i allRowsUnreached ≡ allUnreached
-unfolding allRowsUnreached allUnreached
-lane-unreached i h =
-    ext-getD 0 (lane i (replicate 128 (replicate 8 unreached))) (replicate 128 unreached)
-    (length-lane i (replicate 128 (replicate 8 unreached)) ∙ sym (length-replicate 128 unreached))
-    (λ j b. at j (omega (arith, length-lane i (replicate 128 (replicate 8 unreached)))))
-  where
-    at : (j : ℕ) → j < 128 → getD (lane i (replicate 128 (replicate 8 unreached))) j 0 ≡ getD (replicate 128 unreached) j 0
-    at j b =
-        lane-at i (replicate 128 (replicate 8 unreached)) j b
-        ∙ ap (λ r. getD r i 0) (getD-replicate 128 j (replicate 8 unreached) [] b)
-        ∙ getD-replicate 8 i unreached 0 h
-        ∙ sym (getD-replicate 128 j unreached 0 b)
+-- A row that is unreached has an unreached mark in each lane.
+row-unreached : (i : ℕ) (table : List (List ℕ)) (j : ℕ) → i < 8 → j < 128 → getD table j [] ≡ replicate 8 unreached → getD (lane i table) j 0 ≡ unreached
+row-unreached i table j h b e = lane-at i table j b ∙ ap (λ r. getD r i 0) e ∙ getD-replicate 8 i unreached 0 h
+
+-- A lane in which all nodes are unreached.
+lane-unreached : (i : ℕ) (table : List (List ℕ)) → ((j : ℕ) → j < 128 → getD (lane i table) j 0 ≡ unreached) → lane i table ≡ allUnreached
+unfolding allUnreached
+lane-unreached i table each =
+    ext-getD 0 (lane i table) (replicate 128 unreached) (length-lane i table ∙ sym (length-replicate 128 unreached))
+    (λ j b. let h : j < 128 = omega (arith, length-lane i table) in each j h ∙ sym (getD-replicate 128 j unreached 0 h))
 
 unreached-shaped : Shaped allRowsUnreached
 unfolding allRowsUnreached
@@ -67,6 +63,15 @@ unreached-shaped =
       size = length-replicate 128 (replicate 8 unreached);
       rows = λ j h. ap length (getD-replicate 128 j (replicate 8 unreached) [] h) ∙ length-replicate 8 unreached;
     }
+
+all-unreached : (i : ℕ) → i < 8 → (j : ℕ) → j < 128 → getD (lane i allRowsUnreached) j 0 ≡ unreached
+unfolding allRowsUnreached
+all-unreached i h j c =
+    row-unreached i (replicate 128 (replicate 8 unreached)) j h c (getD-replicate 128 j (replicate 8 unreached) [] c)
+
+-- A table in which all rows are unreached is ready for a search.
+pub ready-first : {n : ℕ} → Ready n allRowsUnreached
+ready-first = record { shaped = unreached-shaped; outside = λ i h j b c. omega (arith, all-unreached i h j c) }
 
 module _ {table : List (List ℕ)} (shaped : Shaped table) where
   -- A row of eight that is stored keeps the shape.
@@ -91,6 +96,34 @@ module _ {table : List (List ℕ)} (shaped : Shaped table) where
             ∙ relaxed-least (lane i table) tail head time (getD own i 0)
             (omega (arith, w .done i b, lane-at i table head h, lane-at i table tail t));
       }
+
+-- The rows of a table are marked unreached one by one:
+pub reset-none : {table : List (List ℕ)} → Shaped table → Reset 0 table table
+reset-none shaped = record { shaped = shaped; below = λ j h. absurd (omega arith); rest = λ j h. refl }
+
+pub reset-more : {k : ℕ} {table₀ table : List (List ℕ)} → k < 128 → Reset k table₀ table → Reset (k + 1) table₀ (set table k (replicate 8 unreached))
+reset-more {k} {table₀} {table} h w =
+    record {
+      shaped = shaped-set (w .shaped) k (replicate 8 unreached) (length-replicate 8 unreached);
+      below = λ j b.
+          on-equal j k (λ e. rw e (getD-set-same table k (replicate 8 unreached) [] (omega (arith, w .shaped .size))))
+          (λ away. getD-set-other table k j (replicate 8 unreached) [] away ∙ w .below j (omega (arith, away)));
+      rest = λ j b. getD-set-other table k j (replicate 8 unreached) [] (λ e. omega arith) ∙ w .rest j (omega arith);
+    }
+
+-- where those of n nodes are, no mark is reached.
+pub reset-all : {n : ℕ} {scanned₀ scanned : List (List ℕ)} → Ready n scanned₀ → Reset n scanned₀ scanned → Ready 0 scanned
+reset-all {n} {scanned₀} {scanned} ready w =
+    record {
+      shaped = w .shaped;
+      outside = λ i h j b c.
+          ⊎-elim (λ under. omega (arith, row-unreached i scanned j h c (w .below j under)))
+          (λ past. omega (arith, same i j past c, ready .outside i h j past c))
+          (order j n);
+    }
+  where
+    same : (i j : ℕ) → n ≤ j → j < 128 → getD (lane i scanned) j 0 ≡ getD (lane i scanned₀) j 0
+    same i j past c = lane-at i scanned j c ∙ ap (λ r. getD r i 0) (w .rest j past) ∙ sym (lane-at i scanned₀ j c)
 
 -- A mark of a table, by row.
 pub row-most : (table : List (List ℕ)) → Marked table → {j : ℕ} → j < 128 → (i : ℕ) → i < 8 → getD (getD table j []) i 0 ≤ unreached
@@ -218,12 +251,11 @@ module _ {n m : ℕ} {tails heads times group : List ℕ} (g : EachSearchable n 
 
   -- The searches set out with each destination marked,
   pub set-none : SetOut group 0 allRowsUnreached
-  unfolding allRowsUnreached
   set-none =
       record {
         shaped = unreached-shaped;
         marked = λ i h. absurd (omega arith);
-        rest = λ i h b. lane-unreached i b;
+        rest = λ i h b. lane-unreached i allRowsUnreached (λ j c. all-unreached i b j c);
       }
 
   pub set-more : {k s : ℕ} {table : List (List ℕ)} → k < 8 → s ≡ getD group k 0 → SetOut group k table
@@ -254,12 +286,20 @@ module _ {n m : ℕ} {tails heads times group : List ℕ} (g : EachSearchable n 
           ∙ set-getD (lane i table) s 0
 
   -- and none scanned.
-  pub set-all : {table : List (List ℕ)} → SetOut group 8 table → EachScans m tails heads times n group table allRowsUnreached
-  set-all w =
+  pub set-all : {table scanned : List (List ℕ)} → Ready 0 scanned → SetOut group 8 table → EachScans m tails heads times n group table scanned
+  set-all {table} {scanned} ready w =
       record {
         shaped = w .shaped;
-        shaped-scans = unreached-shaped;
-        each = λ i h. rw (w .marked i h, lane-unreached i h) (scans-none (g i h));
+        shaped-scans = ready .shaped;
+        each = λ i h. rw (w .marked i h) (scans-none (g i h) (length-lane i scanned) (λ j b. ready .outside i h j (omega arith) b));
+      }
+
+  -- The table of the marks at the last scans is ready for the next search.
+  pub scans-ready : {table scanned : List (List ℕ)} → EachScans m tails heads times n group table scanned → Ready n scanned
+  scans-ready w =
+      record {
+        shaped = w .shaped-scans;
+        outside = λ i h j b c. omega (arith, w .each i h .searching .outside j b c, w .each i h .above j c);
       }
 
   -- After a sweep that scans no node the marks are the distances.

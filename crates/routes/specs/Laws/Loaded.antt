@@ -1,18 +1,18 @@
 -- Where the next links are the definition's, what is sent along them is the loading.
-use Prim.Native.Nat.{ℕ, zero, suc, _+_, _*_, _≤_, _<_}
+use Prim.Native.Nat.{ℕ, zero, suc, _*_, _≤_, _<_}
 use native.Mathlib.Omega.{arith}
 use mathlib.Core.Path.{_≡_, refl, sym, _∙_, ap}
-use mathlib.Core.List.{List, [], _++_, map}
+use mathlib.Core.List.{List, [], map}
 use mathlib.Core.Logic.{⊎-elim}
 use mathlib.Core.Option.{Option, none, some}
-use lib.ListN.{length, getD, drop, length-map, List·getD-map, List·getD-eq-default}
+use lib.ListN.{length, getD, length-map, List·getD-map, List·getD-eq-default}
 use borrow.Author.Tests.{ne-eqb}
 use Rattle.theory.specs.Routes.{Routing, distances, distance, fitsNext, nextLinks, walk, occurrences}
 use Rattle.theory.specs.Laws.Cases.{on-option}
-use Rattle.theory.specs.Laws.Finite.{order, sum-cong, first-some, tabulate-cong}
+use Rattle.theory.specs.Laws.Finite.{order, sum-cong, first-some}
 use Rattle.theory.specs.Laws.Next.{length-next, next-first, next-without-path}
 use Rattle.theory.specs.Laws.Walks.{walkFrom, walked, walk-stops}
-use Rattle.theory.specs.Laws.Loading.{loaded as flow, row-loaded}
+use Rattle.theory.specs.Laws.Loading.{loaded as flow}
 use Rattle.routes.specs.Search.{routingFrom, noLink, linkMark, linkMarks}
 use Rattle.routes.specs.Given.{Searchable}
 use Rattle.routes.specs.Along.{linkOf, walkAlong, flowAlong, Followable}

@@ -5,12 +5,13 @@ use native.Mathlib.Omega.{arith}
 use mathlib.Core.Path.{_≡_, refl, sym, _∙_, ap}
 use mathlib.Core.List.{List, [], _∷_}
 use mathlib.Core.Logic.{_⊎_, ⊎-elim}
-use lib.ListN.{length, getD, set, length-set, length-replicate, getD-replicate}
+use lib.ListN.{length, getD, set, replicate, length-set, length-replicate, getD-replicate}
 use lib.Seq.{getD-set-same, getD-set-other, ext-getD}
-use Rattle.theory.specs.Finite.{sum}
+use Rattle.theory.specs.Finite.{sum, tabulate}
 use Rattle.theory.specs.Laws.Cases.{on-equal}
 use Rattle.theory.specs.Laws.Finite.{below-suc, sum-cong, sum-zero, sum-term, sum-bound, length-tabulate, getD-tabulate}
 use Rattle.routes.specs.Search.{noLink}
+use Rattle.routes.specs.Table.{ZeroBelow}
 use Rattle.routes.specs.Along.{walkAlong, oneIfSame, leaves, volumesAlong, Followable}
 use Rattle.routes.specs.Sending.{allZero, worth, linksAhead, OwnBelow, Sending, Sent, SentBelow, Nodes}
 use Rattle.routes.specs.Laws.Leaves.{same-one, other-none, leaves-at-most, leaves-none, head-below, sets-out}
@@ -249,3 +250,14 @@ nodes-set {n} {order} nodes i v node =
     set-there [] i b = b
     set-there (x ∷ xs) zero b = node
     set-there (x ∷ xs) (suc i) b = set-there xs i b
+
+-- Where there are no trips there is nothing to send.
+pub volumes-none : (n : ℕ) (heads next trips : List ℕ) → ZeroBelow n trips → allZero ≡ volumesAlong n heads next (λ j. getD trips j 0)
+unfolding allZero volumesAlong
+volumes-none n heads next trips zeros =
+    ext-getD 0 (replicate 128 0) (tabulate 128 volume) (length-replicate {A = ℕ} 128 0 ∙ sym (length-tabulate 128 volume))
+    (λ j h. let b : j < 128 = omega (arith, length-replicate {A = ℕ} 128 0) in
+    getD-replicate 128 j 0 0 b ∙ sym (getD-tabulate 128 volume 0 j b ∙ sum-zero n _ (λ i c. rw (zeros i c) (omega arith))))
+  where
+    volume : ℕ → ℕ
+    volume j = sum n (λ i. getD trips i 0 * leaves heads next n i j)

@@ -247,17 +247,17 @@ module _ {n m : ℕ} {tails heads times : List ℕ} {s : ℕ} (g : Searchable n 
             )
 
   -- Before the first sweep no node is scanned.
-  pub scans-none : Scans m tails heads times n s (set allUnreached s 0) allUnreached
-  scans-none =
+  pub scans-none : {p : List ℕ} → length p ≡ 128 → ((j : ℕ) → j < 128 → unreached ≤ getD p j 0) → Scans m tails heads times n s (set allUnreached s 0) p
+  scans-none size least =
       record {
         searching = sets-out;
-        size = length-unreached;
-        above = λ j h. omega (arith, sets-out .marked j h, at-unreached j h);
+        size = size;
+        above = λ j h. omega (arith, sets-out .marked j h, least j h);
         settled = λ l h.
             omega (
               arith,
               sets-out .marked (getD tails l 0) (omega (arith, g .tail-node l h, g .few-nodes)),
-              at-unreached (getD heads l 0) (omega (arith, g .head-node l h, g .few-nodes)),
+              least (getD heads l 0) (omega (arith, g .head-node l h, g .few-nodes)),
             );
       }
 

@@ -1,22 +1,21 @@
--- The table of next links: what it asks and what a row of it has.
-use Prim.Native.Nat.{ℕ, _+_, _-_, _≤_, _<_, min}
+-- The table of next links: what it asks, and how its rows are written.
+use Prim.Native.Nat.{ℕ, _+_, _-_, _≤_, _<_}
 use native.Mathlib.Omega.{arith}
 use mathlib.Core.Path.{_≡_, refl, sym, _∙_, ap}
 use mathlib.Core.Bool.{Bool}
 use mathlib.Core.List.{List, []}
-use mathlib.Core.Logic.{⊎-elim}
-use lib.ListN.{length, getD, set, replicate, length-set, List·getD-append}
+use mathlib.Core.Logic.{⊎-elim, inl, inr}
+use lib.ListN.{length, getD, set, length-set}
 use lib.Seq.{getD-set-same, getD-set-other}
-use Rattle.theory.specs.Finite.{first, tabulate}
+use Rattle.theory.specs.Finite.{first}
 use Rattle.theory.specs.Laws.Cases.{on-equal, on-option}
-use Rattle.theory.specs.Laws.Finite.{order, first-some, length-tabulate, getD-tabulate}
+use Rattle.theory.specs.Laws.Finite.{order, first-some}
 use Rattle.theory.specs.Routes.{distances, fitsNext}
 use Rattle.routes.specs.Search.{routingFrom, noLink, linkMark, linkMarks}
 use Rattle.routes.specs.Given.{Searchable, AllSearchable}
 use Rattle.routes.specs.Lanes.{EachSearchable}
 use Rattle.routes.specs.Next.{firstFitting, EachFirstFitting}
-use Rattle.routes.specs.Table.{noLinks, nextTable, Member, RowFits, Outside, RowPut, GroupEmpty, GroupPut}
-use Rattle.routes.specs.Laws.Padded.{getD-default}
+use Rattle.routes.specs.Table.{noLinks, NoTrips, NextRow, Nexts, NextsBelow, Member, RowFits, Outside, RowPut, RowsEmpty, GroupEmpty, GroupPut}
 use Rattle.routes.specs.Laws.Filled.{Filled, filled-none, filled-more}
 use Rattle.routes.specs.Laws.Next.{link-marks-filled}
 
@@ -38,16 +37,6 @@ searchable-to g {k} h e =
 first-small : (m : ℕ) (t : ℕ → Bool) → m ≤ 512 → linkMark (first m t) < 65536
 unfolding linkMark
 first-small m t few = on-option (first m t) (λ e. rw e (omega arith)) (λ i e. rw e (omega (arith, first-some m t i e .below)))
-
--- The row of a destination has the next links to it.
-pub table-row : (n m p : ℕ) (tails heads times destinations : List ℕ) (k : ℕ) (d : List ℕ) → k < p
-    → getD (nextTable n m p tails heads times destinations) k d ≡ linkMarks (routingFrom n m tails heads times (getD destinations k 0))
-unfolding nextTable
-table-row n m p tails heads times destinations k d h =
-    List·getD-append (tabulate p row) (replicate (32 - p) noLinks) d k (omega (arith, length-tabulate p row)) ∙ getD-tabulate p row d k h
-  where
-    row : ℕ → List ℕ
-    row i = linkMarks (routingFrom n m tails heads times (getD destinations i 0))
 
 -- A member of a group is a destination.
 pub member-searchable : {n m p : ℕ} {tails heads times destinations : List ℕ} → AllSearchable n m p tails heads times destinations
@@ -117,38 +106,62 @@ pub fitting-fits : {n m : ℕ} {tails heads times : List ℕ} (group : List ℕ)
 fitting-fits {n} {m} {tails} {heads} {times} group g j row w i h =
     omega (arith, w i h, first-small m (fitsNext (routingFrom n m tails heads times (getD group i 0)) (distances (routingFrom n m tails heads times (getD group i 0))) j) (g i h .few-links))
 
--- The groups are written one after the other.
-module _ (n m p : ℕ) (tails heads times destinations : List ℕ) (few : p ≤ 32) (first : ℕ) (table : List (List ℕ))
-    (w : Filled (λ q. linkMarks (routingFrom n m tails heads times (getD destinations q 0))) noLinks 32 (min first p) table) (h : first < p) where
-  pub groups-empty : GroupEmpty p first table
-  groups-empty i b c = getD-default table (first + i) [] noLinks (omega (arith, w .long)) ∙ w .rest (first + i) (omega arith) (omega arith)
+-- The rows of a table are emptied one by one.
+pub empty-none : {table : List (List ℕ)} → length table ≡ 32 → RowsEmpty 0 table
+empty-none size = record { size = size; empty = λ q h. absurd (omega arith) }
 
-  pub groups-more : {group : List ℕ} {table′ : List (List ℕ)} → ((i : ℕ) → i < 8 → Member p destinations first i (getD group i 0))
-      → GroupPut n m p tails heads times group first table table′
-      → Filled (λ q. linkMarks (routingFrom n m tails heads times (getD destinations q 0))) noLinks 32 (min (first + 8) p) table′
-  groups-more {group} {table′} members v =
-      record {
-        long = v .size;
-        front = λ q b. ⊎-elim (before q b) (here q b) (order q first);
-        rest = λ q b c. same q c (λ i d e f. omega arith) ∙ w .rest q (omega arith) c;
-      }
-    where
-      same : (q : ℕ) → q < 32 → Outside p first 8 q → getD table′ q noLinks ≡ getD table q noLinks
-      same q c off =
-          getD-default table′ q noLinks [] (omega (arith, v .size)) ∙ v .rest q off ∙ getD-default table q [] noLinks (omega (arith, w .long))
+pub empty-more : {k : ℕ} {table : List (List ℕ)} → k < 32 → RowsEmpty k table → RowsEmpty (k + 1) (set table k noLinks)
+empty-more {k} {table} h w =
+    record {
+      size = length-set table k noLinks ∙ w .size;
+      empty = λ q b.
+          on-equal q k (λ e. rw e (getD-set-same table k noLinks [] (omega (arith, w .size))))
+          (λ away. getD-set-other table k q noLinks [] away ∙ w .empty q (omega (arith, away)));
+    }
 
-      before : (q : ℕ) → q < min (first + 8) p → q < first
-          → getD table′ q noLinks ≡ linkMarks (routingFrom n m tails heads times (getD destinations q 0))
-      before q b c = same q (omega arith) (λ i d e f. omega arith) ∙ w .front q (omega arith)
+-- The groups are done one after the other: none at first,
+module _ {n m p : ℕ} {tails heads times destinations trips : List ℕ} where
+  pub groups-none : {table : List (List ℕ)} → RowsEmpty p table → NextsBelow n m p tails heads times destinations trips 0 table
+  groups-none w = record { size = w .size; done = λ q b. absurd (omega arith); rest = λ q b c. w .empty q c }
 
-      here : (q : ℕ) → q < min (first + 8) p → first ≤ q
-          → getD table′ q noLinks ≡ linkMarks (routingFrom n m tails heads times (getD destinations q 0))
-      here q b c =
-          let i-below : q - first < 8 = omega arith in
-          let place : first + (q - first) ≡ q = omega arith in
-          let one = members (q - first) i-below in
-          let own : one .number ≡ q = one .own (omega arith) ∙ place in
-          getD-default table′ q noLinks [] (omega (arith, v .size))
-          ∙ ap (λ a. getD table′ a []) (sym place)
-          ∙ v .put (q - first) i-below (omega arith)
-          ∙ ap (λ s. linkMarks (routingFrom n m tails heads times s)) (one .is ∙ ap (λ a. getD destinations a 0) own)
+  module _ {first : ℕ} {table : List (List ℕ)} (w : NextsBelow n m p tails heads times destinations trips first table) where
+    pub groups-empty : GroupEmpty p first table
+    groups-empty i b c = w .rest (first + i) (omega arith) c
+
+    -- then one more, whose links are written,
+    pub groups-more : {group : List ℕ} {table′ : List (List ℕ)} → ((i : ℕ) → i < 8 → Member p destinations first i (getD group i 0))
+        → GroupPut n m p tails heads times group first table table′
+        → NextsBelow n m p tails heads times destinations trips (first + 8) table′
+    groups-more {group} {table′} members v =
+        record {
+          size = v .size;
+          done = λ q b c. ⊎-elim (before q c) (here q b c) (order q first);
+          rest = λ q b c. v .rest q (λ i d e f. omega arith) ∙ w .rest q (omega arith) c;
+        }
+      where
+        before : (q : ℕ) → q < p → q < first → NextRow n m tails heads times destinations trips q (getD table′ q [])
+        before q c b = rw (v .rest q (λ i d e f. omega arith)) (w .done q b c)
+
+        here : (q : ℕ) → q < first + 8 → q < p → first ≤ q → NextRow n m tails heads times destinations trips q (getD table′ q [])
+        here q b c d =
+            let i-below : q - first < 8 = omega arith in
+            let place : first + (q - first) ≡ q = omega arith in
+            let one = members (q - first) i-below in
+            let own : one .number ≡ q = one .own (omega arith) ∙ place in
+            inl (ap (λ a. getD table′ a []) (sym place)
+            ∙ v .put (q - first) i-below (omega arith)
+            ∙ ap (λ s. linkMarks (routingFrom n m tails heads times s)) (one .is ∙ ap (λ a. getD destinations a 0) own))
+
+    -- or one to which nobody goes,
+    pub groups-skip : ((q : ℕ) → first ≤ q → q < first + 8 → q < p → NoTrips n trips q)
+        → NextsBelow n m p tails heads times destinations trips (first + 8) table
+    groups-skip nobody =
+        record {
+          size = w .size;
+          done = λ q b c. ⊎-elim (λ d. w .done q d c) (λ d. inr (w .rest q d c, nobody q d b c)) (order q first);
+          rest = λ q b c. w .rest q (omega arith) c;
+        }
+
+    -- and all in the end.
+    pub groups-all : p ≤ first → Nexts n m p tails heads times destinations trips table
+    groups-all h = record { size = w .size; row = λ k b. w .done k (omega arith) b }

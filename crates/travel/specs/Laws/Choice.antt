@@ -2,11 +2,12 @@
 use Prim.Native.Nat.{ℕ, _+_, _*_, _-_, _≤_, _<_, min}
 use native.Mathlib.Nat.{mul-le-mul, mul-le-mul-left, le-trans}
 use native.Mathlib.Omega.{arith}
-use mathlib.Core.Path.{_≡_, refl}
+use mathlib.Core.Path.{_≡_, refl, sym}
 use mathlib.Core.Bool.{true, false}
 use mathlib.Core.List.{List}
 use mathlib.Core.Logic.{_⊎_}
 use lib.ListN.{getD}
+use borrow.Author.Tests.{le-leb, lt-leb}
 use Rattle.theory.specs.Finite.{sum}
 use Rattle.theory.specs.Network.{Network, Sound}
 use Rattle.theory.specs.Flows.{step, stepTime}
@@ -50,6 +51,17 @@ joined-sound m freeTimes rises capacities fit =
       rising = λ l r p. stepTime-mono (getD freeTimes l 0) (getD rises l 0) (omega arith);
       destination-node = λ k p. omega arith;
     }
+
+-- Whether j qualifies, by two numbers that are its sums.
+module _ (g : Network) (w : ℕ) (s y : ℕ → ℕ) (j : ℕ) {loaded spent : ℕ} (loaded-is : loaded ≡ w * movedTimes g w s y j y)
+    (spent-is : spent ≡ movedTimes g w s y j s) where
+  pub qualifies-yes : loaded ≤ spent → qualifies g w s y j ≡ true
+  unfolding qualifies
+  qualifies-yes h = rw (sym loaded-is, sym spent-is) (le-leb loaded spent h)
+
+  pub qualifies-no : spent < loaded → qualifies g w s y j ≡ false
+  unfolding qualifies
+  qualifies-no h = rw (sym loaded-is, sym spent-is) (lt-leb loaded spent h)
 
 -- What a bisection ends in is the chosen j: it is 0 or qualifies, and it is the last or the next does not qualify.
 pub roads-chosen : (m : ℕ) (freeTimes rises capacities : List ℕ) → LinksFit m freeTimes rises capacities → (w : ℕ) → 1 ≤ w →

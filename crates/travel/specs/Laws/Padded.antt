@@ -4,12 +4,12 @@ use native.Mathlib.Omega.{arith}
 use mathlib.Core.Path.{_≡_, refl, sym, _∙_, ap}
 use mathlib.Core.List.{List, _++_}
 use mathlib.Core.Logic.{⊎-elim}
-use lib.ListN.{length, getD, set, take, replicate, length-append, length-replicate, length-set, getD-replicate, List·getD-append, List·getD-eq-default}
-use lib.Seq.{take-at, getD-append-add, ext-getD, getD-set-same, getD-set-other}
+use lib.ListN.{length, getD, set, replicate, length-append, length-replicate, length-set, getD-replicate, List·getD-append, List·getD-eq-default}
+use lib.Seq.{getD-append-add, ext-getD, getD-set-same, getD-set-other}
 use Rattle.theory.specs.Finite.{tabulate}
 use Rattle.theory.specs.Laws.Finite.{length-tabulate, getD-tabulate, order, below-suc}
 use Rattle.travel.specs.Links.{padded}
-use Rattle.travel.specs.Ranges.{RowAdded}
+use Rattle.travel.specs.Ranges.{Clear, RowAdded}
 
 getD-zeros : (n i : ℕ) → getD {A = ℕ} (replicate n 0) i 0 ≡ 0
 getD-zeros n i =
@@ -47,10 +47,6 @@ pub getD-padded-rest : (m : ℕ) (f : ℕ → ℕ) (l : ℕ) → m ≤ l → get
 unfolding padded
 getD-padded-rest m f l p = rest 512 m f l p
 
-pub take-padded : (m : ℕ) (f : ℕ → ℕ) → take m (padded m f) ≡ tabulate m f
-unfolding padded
-take-padded m f = take-at (tabulate m f) _ m (length-tabulate m f)
-
 -- An array with these numbers is that one.
 pub padded-is : (m : ℕ) (f : ℕ → ℕ) (xs : List ℕ) → m ≤ 512 → length xs ≡ 512 → ((l : ℕ) → l < m → getD xs l 0 ≡ f l) →
     ((l : ℕ) → m ≤ l → getD xs l 0 ≡ 0) → xs ≡ padded m f
@@ -73,25 +69,40 @@ padded-zeros m f h zero = padded-none f ∙ padded-is m f (padded 0 f) h (length
     none : (l : ℕ) → getD (padded 0 f) l 0 ≡ 0
     none l = getD-padded-rest 0 f l (omega arith)
 
--- The next number, written after those that count.
-pub padded-more : (l : ℕ) (f : ℕ → ℕ) (xs : List ℕ) (x : ℕ) → l < 512 → xs ≡ padded l f → x ≡ f l → set xs l x ≡ padded (l + 1) f
-padded-more l f xs x h so-far this =
-    padded-is (l + 1) f (set xs l x) (omega arith) (length-set xs l x ∙ long) here past
-  where
-    long : length xs ≡ 512
-    long = ap length so-far ∙ length-padded l f (omega arith)
+-- Past the numbers that count there are zeros.
+pub padded-clear : (m : ℕ) (f : ℕ → ℕ) → m ≤ 512 → Clear m (padded m f)
+padded-clear m f h = record { size = length-padded m f h; rest = getD-padded-rest m f }
 
-    other : (i : ℕ) → (i ≡ l → ⊥) → getD (set xs l x) i 0 ≡ getD (padded l f) i 0
-    other i p = getD-set-other xs l i x 0 p ∙ ap (λ ys. getD ys i 0) so-far
+pub zeros-clear : (m : ℕ) → Clear m (replicate 512 0)
+zeros-clear m = record { size = length-replicate {A = ℕ} 512 0; rest = λ l p. getD-zeros 512 l }
 
-    at : (i : ℕ) → i ≡ l → getD (set xs l x) i 0 ≡ f i
-    at i e = rw e (getD-set-same xs l x 0 (omega (arith, long)) ∙ this)
+-- An array whose first m numbers are written one after the other: the first l are written, and past m there are zeros.
+pub record Filled (l m : ℕ) (f : ℕ → ℕ) (xs : List ℕ) : Type 0 where
+  pub size : length xs ≡ 512
+  pub written : (i : ℕ) → i < l → getD xs i 0 ≡ f i
+  pub past : (i : ℕ) → m ≤ i → getD xs i 0 ≡ 0
 
-    here : (i : ℕ) → i < l + 1 → getD (set xs l x) i 0 ≡ f i
-    here i p = ⊎-elim (λ q. other i (λ e. omega arith) ∙ getD-padded l f i q) (at i) (below-suc l i (omega arith))
+module _ (m : ℕ) (f : ℕ → ℕ) (xs : List ℕ) where
+  pub filled-none : Clear m xs → Filled 0 m f xs
+  filled-none clear = record { size = clear .size; written = λ i p. omega arith; past = clear .rest }
 
-    past : (i : ℕ) → l + 1 ≤ i → getD (set xs l x) i 0 ≡ 0
-    past i p = other i (λ e. omega arith) ∙ getD-padded-rest l f i (omega arith)
+  pub filled-all : m ≤ 512 → Filled m m f xs → xs ≡ padded m f
+  filled-all h all = padded-is m f xs h (all .size) (all .written) (all .past)
+
+  -- The next number.
+  pub filled-more : (l x : ℕ) → l < m → m ≤ 512 → Filled l m f xs → x ≡ f l → Filled (l + 1) m f (set xs l x)
+  filled-more l x h few so-far this =
+      record {
+        size = length-set xs l x ∙ so-far .size;
+        written = λ i p. ⊎-elim (λ q. other i (λ e. omega arith) ∙ so-far .written i q) (at i) (below-suc l i (omega arith));
+        past = λ i p. other i (λ e. omega arith) ∙ so-far .past i p;
+      }
+    where
+      other : (i : ℕ) → (i ≡ l → ⊥) → getD (set xs l x) i 0 ≡ getD xs i 0
+      other i p = getD-set-other xs l i x 0 p
+
+      at : (i : ℕ) → i ≡ l → getD (set xs l x) i 0 ≡ f i
+      at i e = rw e (getD-set-same xs l x 0 (omega (arith, so-far .size)) ∙ this)
 
 -- A row added to the array.
 pub padded-added : (m : ℕ) (f g : ℕ → ℕ) (row after : List ℕ) → m ≤ 512 → RowAdded m row (padded m f) after →

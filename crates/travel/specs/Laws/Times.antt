@@ -1,6 +1,6 @@
 -- Steps and times: their ranges, and that a time does not fall as the step grows.
 use Prim.Native.Nat.{ℕ, _*_, _/_, _^_, _≤_, _<_}
-use native.Mathlib.Nat.{min-le-left, min-le-right, le-trans, mul-le-mul, mul-le-mul-left, mul-le-mul-right, pow-le-pow-left, le-div-iff-mul-le, div-mul-le-self, zero-div, pow-suc, pow-zero}
+use native.Mathlib.Nat.{min-le-left, min-le-right, le-trans, mul-le-mul, mul-le-mul-right, div-mul-le-self, pow-suc, pow-zero}
 use native.Mathlib.Omega.{arith}
 use mathlib.Core.Path.{_≡_}
 use mathlib.Core.List.{List}
@@ -19,9 +19,6 @@ square-most r h = mul-le-mul h h
 
 pub fourth-most : (r : ℕ) → r ≤ 256 → r * r * (r * r) ≤ 4294967296
 fourth-most r h = mul-le-mul (square-most r h) (square-most r h)
-
-pub rise-most : (b r : ℕ) → b ≤ 16383 → r ≤ 256 → b * (r * r * (r * r)) ≤ 16383 * 4294967296
-rise-most b r hb h = mul-le-mul hb (fourth-most r h)
 
 -- The width of a tread, c·W.
 pub width-some : (c w : ℕ) → 1 ≤ c → 1 ≤ w → 1 ≤ c * w
@@ -44,11 +41,6 @@ stepTime-most a b r ha hb hr = le-trans (stepTime-mono a b hr) (top-time a b ha 
 pub step-most : (c w s : ℕ) → step c w s ≤ 256
 unfolding step
 step-most c w s = min-le-left 256 (64 * s / (c * w))
-
--- An empty road has step 0.
-pub step-empty : (c w : ℕ) → step c w 0 ≡ 0
-unfolding step
-step-empty c w = rw zero-div
 
 -- The treads below a step, each c·W wide, are within 64·S.
 pub step-within : (c w s : ℕ) → step c w s * (c * w) ≤ 64 * s

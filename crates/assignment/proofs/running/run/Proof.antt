@@ -1,9 +1,10 @@
 -- `assignment::run` meets its contract: a start, and then the turns, of what its questions accept.
-use mathlib.Core.Path.{_≡_, sym, _∙_}
+use mathlib.Core.Path.{_≡_, refl, sym, _∙_}
 use borrow.Author.Needs.{needs}
 use denote.Ref.{now}
 use Rattle.calls.specs.Calls.{runNumber}
 use Rattle.calls.specs.Laws.Calls.{run-kept}
+use Rattle.judging.specs.Laws.Judged.{zeros-lent}
 use Rattle.assignment.specs.Decoded.{decodedOf}
 use Rattle.assignment.specs.Runs.{Begun}
 use Rattle.assignment.specs.Laws.Decoding.{studyIn, study-decoded, total-decoded}
@@ -43,32 +44,43 @@ decoded c = study-decoded _ _ (read c .decode .ensures)
 accepted : (c : tie.Else1) → runNumber (now (given c .args .file)) (now (given c .args .table)) (given c .args .budget) ≡ 0
 accepted c = sym (c .before .run-refusal .ensures) ∙ c .if1 .left
 
+fourth-powers-requires : tie.Need-fourth-powers-requires
+fourth-powers-requires c κs = search needs
+
 start-table-requires : tie.Need-start-table-requires
-start-table-requires c κs = let else = c .before .before .before .before .before .before .before .before .before in run-ready _ _ _ (decoded else) _ (accepted else)
+start-table-requires c κs =
+    let raised = c .before .before .before .before .before .before .before .before .before .before .before .before .before .before in
+    let ready = run-ready _ _ _ (decoded (raised .before)) _ (accepted (raised .before)) in
+    (ready .0, (ready .1, (zeros-lent _ refl refl, raised .fourth-powers .ensures)))
 
 -- The turns begin with what the start left.
+abbrev raised : tie.After-start-table → tie.After-fourth-powers
+raised c = c .before .before .before .before .before .before .before .before .before .before .before .before .before .before .before
+
 abbrev yes : tie.After-start-table → tie.Else1
-yes c = c .before .before .before .before .before .before .before .before .before .before
+yes c = raised c .before
 
 begun : (c : tie.After-start-table) → Begun (now (given (yes c) .args .file)) (now (given (yes c) .args .table)) (given (yes c) .args .budget) (studyIn (read (yes c) .decode .result)) (c .start-table .last .1 .1 .1 .1 .1 .1 .1 .1 .1 .1 .0)
-begun c = run-begun _ _ _ (decoded (yes c)) _ _ (accepted (yes c)) (c .start-table .ensures)
+begun c = run-begun _ _ _ (decoded (yes c)) _ _ (accepted (yes c)) (c .start-table .ensures .0)
 
 turns-requires : tie.Need-turns-requires
 turns-requires c κs =
-    let started = c .before .before .before .before .before .before .before .before .before .before .before in
-    record {
-      total-is = total-decoded _ _ (read (yes started) .decode .ensures);
-      file = _;
-      before = _;
-      begun = begun started;
-    }
+    let started = c .before .before .before .before .before .before .before .before .before .before .before .before .before .before .before .before in (
+      record {
+        total-is = total-decoded _ _ (read (yes started) .decode .ensures);
+        file = _;
+        before = _;
+        begun = begun started;
+      },
+      (started .start-table .ensures .1, raised started .fourth-powers .ensures),
+    )
 
 same-length-2 : tie.Need-same-length-2
 same-length-2 c = search needs
 
 returns-2 : tie.Need-returns-2
 returns-2 c =
-    let ran = c .before .before .turns .ensures _ _ (begun (c .before .before .before .before .before .before .before .before .before .before .before .before .before .before)) in
+    let ran = c .before .before .turns .ensures _ _ (begun (c .before .before .before .before .before .before .before .before .before .before .before .before .before .before .before .before .before .before .before)) in
     (ran .answers, ran .leaves)
 
 pub run-spec : {M : Type 1} → statement M
@@ -80,6 +92,7 @@ run-spec =
     refused-run-requires
     same-length
     returns
+    fourth-powers-requires
     start-table-requires
     turns-requires
     same-length-2

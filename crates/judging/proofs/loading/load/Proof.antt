@@ -17,15 +17,15 @@ use Rattle.judging.proofs.loading.load.Statement.{statement}
 use Rattle.judging.proofs.loading.load.Tie as tie
 
 abbrev Inv-loop : tie.InvT-loop
-Inv-loop n m p heads trips next volumes₀ sums₀ k₀ volumes sums k =
+Inv-loop n m p heads trips next volumes₀ loads sums₀ k₀ volumes sums k =
     (k ≤ p) × (sums ≡ padded m (linkTotal k m (loadingAlong n m p heads trips next))) × LoadedRows n m k heads trips next volumes
 
 abbrev μ-loop : tie.MeasureT-loop
-μ-loop n m p heads trips next volumes₀ sums₀ k₀ volumes sums k = p - k
+μ-loop n m p heads trips next volumes₀ loads sums₀ k₀ volumes sums k = p - k
 
 loop-holds : tie.Need-loop-holds Inv-loop μ-loop
 loop-holds c =
-    (search needs, padded-zeros (c .before .args .m) _ (search needs) (λ l h. linkTotal-none _ _ l), loaded-none (c .before .pre .1))
+    (search needs, padded-zeros (c .before .args .m) _ (search needs) (λ l h. linkTotal-none _ _ l), loaded-none (c .before .pre .0 .1))
 
 -- The part of the trips of a turn is within the whole, and small; and there are few destinations.
 within :
@@ -34,12 +34,12 @@ within :
     let k = c .before .loop .k in
     (k * x .n + x .n ≤ length (x .trips .now)) × (k * x .n + x .n ≤ 4096)
 within c =
-    let given = c .before .before .before .pre .0 in
+    let given = c .before .before .before .pre .0 .0 in
     let inside = c .loop-test .taken in
     (trips-within given inside, row-most 32 128 inside (given .few-destinations) (given .few-nodes))
 
 few : (c : tie.In-loop Inv-loop μ-loop) → c .before .loop .k < 32
-few c = omega (arith, c .before .before .before .pre .0 .few-destinations, c .loop-test .taken)
+few c = omega (arith, c .before .before .before .pre .0 .0 .few-destinations, c .loop-test .taken)
 
 mul-first : tie.Need-mul-first Inv-loop μ-loop
 mul-first c = omega (arith, within c)
@@ -73,7 +73,7 @@ index-1-volumes-2 c = few (c .before .before)
 
 volumes-requires : tie.Need-volumes-requires Inv-loop μ-loop
 volumes-requires c κs =
-    let turn = c .before .before .before in row-sendable (turn .before .before .before .pre .0) (turn .loop-test .taken)
+    let turn = c .before .before .before in row-sendable (turn .before .before .before .pre .0 .0) (turn .loop-test .taken)
 
 -- The volumes of a turn give the loading of its destination.
 loaded :
@@ -84,7 +84,7 @@ loaded :
     (set (at .loop .volumes) (at .loop .k) (c .volumes .last .1 .1 .1 .1 .1 .0))
 loaded c =
     let turn = c .before .before .before .before in
-    let given = turn .before .before .before .pre .0 in
+    let given = turn .before .before .before .pre .0 .0 in
     let inside = turn .loop-test .taken in
     loaded-more (turn .before .loop .inv .2) (few turn) _
     (row-over given inside _ (λ l b. over-is-flow (given .followable (turn .before .loop .k) inside) _ (c .volumes .ensures) l))
@@ -93,7 +93,7 @@ slice-aggregate-add-volumes : tie.Need-slice-aggregate-add-volumes Inv-loop μ-l
 slice-aggregate-add-volumes c =
     let at = c .before .before .before .before .before .before in
     let start = at .before .before in
-    sym (ap length (at .loop .inv .1) ∙ length-padded (start .args .m) _ (start .pre .0 .few-links))
+    sym (ap length (at .loop .inv .1) ∙ length-padded (start .args .m) _ (start .pre .0 .0 .few-links))
 
 mul-add-volumes : tie.Need-mul-add-volumes Inv-loop μ-loop
 mul-add-volumes c = omega (arith, few (c .before .before .before .before .before))
@@ -111,7 +111,7 @@ add-volumes-requires : tie.Need-add-volumes-requires Inv-loop μ-loop
 add-volumes-requires c κs =
     let sent = c .before .before .before in
     let turn = sent .before .before .before .before in
-    totals-scatterable (turn .before .before .before .pre .0) (turn .loop-test .taken) _
+    totals-scatterable (turn .before .before .before .pre .0 .0) (turn .loop-test .taken) _
     (λ l b. loaded sent .over (turn .before .loop .k) l (omega arith) b) (turn .before .loop .inv .1)
 
 add-k : tie.Need-add-k Inv-loop μ-loop
@@ -125,7 +125,7 @@ loop-again c =
     let added = c .before in
     let sent = added .before .before .before .before in
     let turn = sent .before .before .before .before in
-    let given = turn .before .before .before .pre .0 in
+    let given = turn .before .before .before .pre .0 .0 in
     let inside = turn .loop-test .taken in (
       search needs,
       totals-more given inside _ (λ l b. loaded sent .over (turn .before .loop .k) l (omega arith) b) (turn .before .loop .inv .1) (added .add-volumes .ensures),
@@ -133,14 +133,14 @@ loop-again c =
     )
 
 widened-requires : tie.Need-widened-requires Inv-loop μ-loop
-widened-requires c κs = search needs
+widened-requires c κs = let start = c .before .before .before .before .before in (start .pre .0 .0 .few-links, start .pre .1)
 
 returns : tie.Need-returns Inv-loop μ-loop
 returns c =
-    let at = c .before .before .before in
+    let at = c .before .before .before .before in
     let start = at .before .before in
     let all : at .loop .k ≡ start .args .p = omega arith in (
-      c .widened .ensures ∙ totals-widened (start .args .m) _ (start .pre .0 .few-links) (rw all at (at .loop .inv .1)),
+      c .widened .ensures ∙ totals-widened (start .args .m) _ (start .pre .0 .0 .few-links) (rw all at (at .loop .inv .1)),
       (loaded-all (rw all at (at .loop .inv .2)), at .loop .inv .2 .size),
     )
 

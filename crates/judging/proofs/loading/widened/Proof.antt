@@ -4,19 +4,19 @@ use mathlib.Core.Path.{_≡_}
 use native.Mathlib.Omega.{arith}
 use borrow.Author.Needs.{needs}
 use lib.ListN.{getD}
-use Rattle.travel.specs.Links.{padded}
-use Rattle.travel.specs.Laws.Padded.{padded-none, padded-more}
+use Rattle.judging.specs.Loading.{front}
+use Rattle.judging.specs.Laws.Front.{front-none, front-more, front-clear}
 use Rattle.judging.proofs.loading.widened.Statement.{statement}
 use Rattle.judging.proofs.loading.widened.Tie as tie
 
 abbrev Inv-loop : tie.InvT-loop
-Inv-loop sums m totals₀ l₀ totals l = (l ≤ m) × (totals ≡ padded l (λ i. getD sums i 0))
+Inv-loop sums m totals₀ l₀ totals l = (l ≤ m) × (totals ≡ front l (λ i. getD sums i 0) totals₀)
 
 abbrev μ-loop : tie.MeasureT-loop
 μ-loop sums m totals₀ l₀ totals l = m - l
 
 loop-holds : tie.Need-loop-holds Inv-loop μ-loop
-loop-holds c = (search needs, padded-none _)
+loop-holds c = (search needs, front-none _ _)
 
 mul-wide : tie.Need-mul-wide Inv-loop μ-loop
 mul-wide c = search needs
@@ -30,8 +30,8 @@ wide-requires c κs = search needs
 mul-totals : tie.Need-mul-totals Inv-loop μ-loop
 mul-totals c = search needs
 
-array-write-totals : tie.Need-array-write-totals Inv-loop μ-loop
-array-write-totals c = search needs
+element-write-totals : tie.Need-element-write-totals Inv-loop μ-loop
+element-write-totals c = search needs
 
 add-l : tie.Need-add-l Inv-loop μ-loop
 add-l c = search needs
@@ -41,10 +41,12 @@ loop-less c = search needs
 
 loop-again : tie.Need-loop-again Inv-loop μ-loop
 loop-again c = let turn = c .before .before .before in
-    (search needs, padded-more _ _ _ _ (search needs) (turn .loop .inv .1) (c .wide .ensures))
+    (search needs, front-more _ _ _ _ _ (omega (arith, turn .before .pre .1 .size)) (turn .loop .inv .1) (c .wide .ensures))
 
 returns : tie.Need-returns Inv-loop μ-loop
-returns c = let all : c .before .loop .l ≡ c .before .before .args .m = omega arith in rw all at (c .before .loop .inv .1)
+returns c = let start = c .before .before in
+    let all : c .before .loop .l ≡ start .args .m = omega arith in
+    front-clear (start .args .m) _ (start .pre .0) (start .pre .1) (rw all at (c .before .loop .inv .1))
 
 pub widened-spec : {M : Type 1} → statement M
 widened-spec =
@@ -57,7 +59,7 @@ widened-spec =
     element-copy-out-wide
     wide-requires
     mul-totals
-    array-write-totals
+    element-write-totals
     add-l
     loop-less
     loop-again

@@ -4,37 +4,43 @@ use borrow.Author.Needs.{needs}
 use Rattle.theory.specs.Laws.Cases.{true-false}
 use Rattle.calls.specs.Calls.{shareAfter, tableAfter}
 use Rattle.judging.specs.Laws.Study.{links-fit}
-use Rattle.judging.specs.Laws.Judged.{share-fits, holds, totals-within, cost-is, gap-is, gap-fits, move-fits, movable, move-is, moves-is}
+use Rattle.judging.specs.Laws.Judged.{zeros-lent, share-fits, holds, totals-within, cost-is, gap-is, gap-fits, move-fits, movable, move-is, moves-is}
 use Rattle.judging.proofs.pass.pass_table.Statement.{statement}
 use Rattle.judging.proofs.pass.pass_table.Tie as tie
 
--- The places at which totals, what judging computes, the gap, the cost and j are there, each with the one before.
+-- The places at which fourth powers, totals, what judging computes, the gap, the cost and j are there, each with the one before.
+abbrev of-powers : tie.After-totals → tie.After-fourth-powers
+of-powers c = c .before .before
+
 abbrev of-totals : tie.After-totals → tie.Start
-of-totals c = c .before .before .before
+of-totals c = of-powers c .before .before
 
 abbrev of-judge : tie.After-judge → tie.After-totals
-of-judge c = c .before .before .before .before .before .before
+of-judge c = c .before .before .before .before .before .before .before
 
 abbrev of-gap : tie.After-gap-of → tie.After-judge
 of-gap c = c .before .before .before .before
 
 abbrev of-cost : tie.After-cost → tie.After-gap-of
-of-cost c = c .before .before
+of-cost c = c .before .before .before
 
 abbrev of-chosen : tie.After-chosen → tie.After-cost
-of-chosen c = c .before .before .before
+of-chosen c = c .before .before .before .before
+
+fourth-powers-requires : tie.Need-fourth-powers-requires
+fourth-powers-requires c κs = search needs
 
 totals-requires : tie.Need-totals-requires
-totals-requires c κs = let given = c .before .before .pre in
+totals-requires c κs = let given = c .before .before .before .pre in
     (given .0 .0 .few-destinations, given .0 .0 .few-links, holds (given .0 .0) (given .1))
 
 judge-requires : tie.Need-judge-requires
-judge-requires c κs = let at = c .before .before .before .before .before in
+judge-requires c κs = let at = c .before .before .before .before .before .before in
     let given = of-totals at .pre in (
       given .0,
       (
-        (share-fits (given .0 .0) (given .1), totals-within (given .0 .0) (given .1) (at .totals .ensures .0), refl),
-        λ e. true-false e refl,
+        (share-fits (given .0 .0) (given .1), totals-within (given .0 .0) (given .1) (at .totals .ensures .0)),
+        (λ e. true-false e refl, (zeros-lent (of-totals at .args .m) refl refl, of-powers at .fourth-powers .ensures)),
       ),
     )
 
@@ -45,15 +51,17 @@ gap-of-requires c κs = let judged = c .before .before .before in
     gap-fits (given .0 .0) (given .1) (at .totals .ensures .0) (judged .judge .ensures)
 
 cost-requires : tie.Need-cost-requires
-cost-requires c κs = let at = of-judge (of-gap (c .before)) in
-    let given = of-totals at .pre in
-    (links-fit (given .0 .0), share-fits (given .0 .0) (given .1), totals-within (given .0 .0) (given .1) (at .totals .ensures .0))
+cost-requires c κs = let at = of-judge (of-gap (c .before .before)) in
+    let given = of-totals at .pre in (
+      (links-fit (given .0 .0), share-fits (given .0 .0) (given .1), totals-within (given .0 .0) (given .1) (at .totals .ensures .0)),
+      of-powers at .fourth-powers .ensures,
+    )
 
 chosen-requires : tie.Need-chosen-requires
-chosen-requires c κs = let judged = of-gap (of-cost (c .before .before)) in
+chosen-requires c κs = let judged = of-gap (of-cost (c .before .before .before)) in
     let at = of-judge judged in
     let given = of-totals at .pre in
-    move-fits (given .0 .0) (given .1) (at .totals .ensures .0) (judged .judge .ensures)
+    (move-fits (given .0 .0) (given .1) (at .totals .ensures .0) (judged .judge .ensures), of-powers at .fourth-powers .ensures)
 
 can-move-requires : tie.Need-can-move-requires
 can-move-requires c κs = of-totals (of-judge (of-gap (of-cost (of-chosen c)))) .pre .1 .share-most
@@ -94,6 +102,7 @@ pub pass-table-spec : {M : Type 1} → statement M
 pass-table-spec =
     tie.close
     (tie.spec
+    fourth-powers-requires
     totals-requires
     judge-requires
     gap-of-requires

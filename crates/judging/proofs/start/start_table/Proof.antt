@@ -7,6 +7,7 @@ use Rattle.theory.specs.Laws.Cases.{true-false}
 use Rattle.judging.specs.Study.{studyOf}
 use Rattle.judging.specs.declared.Decoded.{Decoded}
 use Rattle.judging.specs.Laws.Study.{holds-rows}
+use Rattle.judging.specs.Laws.Judged.{known-lent}
 use Rattle.judging.specs.Laws.Start.{noFlows, no-flows-within, start-addable, start-is}
 use Rattle.judging.proofs.start.start_table.Statement.{statement}
 use Rattle.judging.proofs.start.start_table.Tie as tie
@@ -28,7 +29,10 @@ judge-requires : tie.Need-judge-requires
 unfolding noFlows
 judge-requires c κs = let at = c .before .before .before .before .before .before in (
   at .pre .0,
-  ((record { some-share = search needs; share-fits = search needs }, no-flows-within (at .args .m), refl), λ e. true-false e refl),
+  (
+    (record { some-share = search needs; share-fits = search needs }, no-flows-within (at .args .m)),
+    (λ e. true-false e refl, at .pre .1 .1),
+  ),
 )
 
 mul-empty-flows : tie.Need-mul-empty-flows
@@ -38,14 +42,14 @@ mul-empty-flows c = let ready = of-judge (c .before) .pre .0 .0 in
 empty-flows-requires : tie.Need-empty-flows-requires
 empty-flows-requires c κs =
     let at = of-judge (c .before) in
-    omega (arith, holds-rows (study at) (at .args .table .now) (at .pre .1))
+    omega (arith, holds-rows (study at) (at .args .table .now) (at .pre .1 .0))
 
 add-loadings-requires : tie.Need-add-loadings-requires
 unfolding noFlows
 add-loadings-requires c κs = let emptied = c .before .before .before .before .before in
     let judged = of-emptied emptied in
     let at = of-judge judged in
-    start-addable (at .pre .0 .0) (judged .judge .ensures) (at .args .table .now) (at .pre .1) (emptied .empty-flows .ensures) (at .pre .0 .1)
+    start-addable (at .pre .0 .0) (judged .judge .ensures) (at .args .table .now) (at .pre .1 .0) (emptied .empty-flows .ensures) (at .pre .0 .1)
 
 same-length : tie.Need-same-length
 same-length c = search needs
@@ -55,9 +59,11 @@ unfolding noFlows
 returns c = let added = c .before .before in
     let emptied = added .before .before .before .before .before .before in
     let judged = of-emptied emptied in
-    let at = of-judge judged in
-    start-is (at .pre .0 .0) (judged .judge .ensures) (at .args .table .now) (at .pre .1) (emptied .empty-flows .ensures)
-    (added .add-loadings .ensures)
+    let at = of-judge judged in (
+      start-is (at .pre .0 .0) (judged .judge .ensures) (at .args .table .now) (at .pre .1 .0) (emptied .empty-flows .ensures)
+          (added .add-loadings .ensures),
+      known-lent (at .pre .0 .0) (judged .judge .ensures),
+    )
 
 pub start-table-spec : {M : Type 1} → statement M
 start-table-spec =

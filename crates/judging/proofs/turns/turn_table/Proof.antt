@@ -13,21 +13,15 @@ use Rattle.calls.specs.Calls.{shareAfter, tableAfter}
 use Rattle.judging.specs.declared.Decoded.{Decoded}
 use Rattle.judging.specs.Study.{networkIn, moveOf, studyOf}
 use Rattle.judging.specs.Moves.{canMove}
-use Rattle.judging.specs.Laws.Judged.{known-at, share-fits, holds, totals-within, gap-is, gap-fits, move-fits, movable, move-is, moves-is}
+use Rattle.judging.specs.Laws.Judged.{known-lent, known-at, share-fits, totals-within, gap-is, gap-fits, move-fits, movable, totals-movable, totals-moved, move-is, moves-is}
 use Rattle.judging.specs.Laws.Doubled.{known-moved}
 use Rattle.judging.specs.Laws.Turns.{excess-fits, reached, finest, spent, moved}
 use Rattle.judging.proofs.turns.turn_table.Statement.{statement}
 use Rattle.judging.proofs.turns.turn_table.Tie as tie
 
--- The places at which totals and what judging computes are there, each with the one before.
-abbrev of-totals : tie.After-totals → tie.Start
-of-totals c = c .before .before .before
-
-abbrev of-judge : tie.After-judge → tie.After-totals
-of-judge c = c .before .before .before .before .before .before
-
+-- The place at which what judging computes is there, and what is given at the start.
 abbrev start : tie.After-judge → tie.Start
-start c = of-totals (of-judge c)
+start c = c .before .before .before .before .before .before .before
 
 -- The places at which the gap is there, is too large, j is there, and it is known that there is a move.
 abbrev of-gap : tie.After-gap-of → tie.After-judge
@@ -41,6 +35,10 @@ of-chosen c = c .before .before .before
 
 abbrev of-can : tie.Else2 → tie.After-chosen
 of-can c = c .before .before
+
+-- The place at which the totals are moved.
+abbrev of-moved : tie.After-move-totals → tie.Else3
+of-moved c = c .before .before .before
 
 abbrev judged : tie.After-chosen → tie.After-judge
 judged c = of-gap (of-above (of-chosen c))
@@ -59,7 +57,7 @@ gap-of :
 gap-of c =
     let at = of-gap c in
     let given = start at .pre .0 in
-    c .gap-of .ensures ∙ gap-is (given .0 .0) (given .1) (of-judge at .totals .ensures .0) (at .judge .ensures)
+    c .gap-of .ensures ∙ gap-is (given .0 .0) (given .1) (start at .pre .1 .1 .1 .1) (at .judge .ensures)
 
 limit :
     (c : tie.After-gap-of) →
@@ -77,31 +75,26 @@ can-move-is :
 can-move-is c =
     let at = judged c in
     let given = start at .pre .0 in
-    sym (moves-is (given .0 .0) (given .1) (of-judge at .totals .ensures .0) (at .judge .ensures) (c .chosen .ensures))
+    sym (moves-is (given .0 .0) (given .1) (start at .pre .1 .1 .1 .1) (at .judge .ensures) (c .chosen .ensures))
 
 can-move-yes : (c : tie.Else2) → canMove (start (judged (of-can c)) .args .share) (of-can c .chosen .result) ≡ true
 can-move-yes c = was-yes (c .before .can-move .ensures) (c .if2 .left)
 
-totals-requires : tie.Need-totals-requires
-totals-requires c κs = let given = c .before .before .pre .0 in
-    (given .0 .0 .few-destinations, given .0 .0 .few-links, holds (given .0 .0) (given .1))
-
 judge-requires : tie.Need-judge-requires
-judge-requires c κs = let at = c .before .before .before .before .before in
-    let begin = of-totals at in
+judge-requires c κs = let begin = c .before .before .before .before .before .before in
     let given = begin .pre .0 in
-    let totals-are = at .totals .ensures .0 in (
+    let (known, (lent, totals-are)) = begin .pre .1 .1 in (
       given .0,
       (
-        (share-fits (given .0 .0) (given .1), totals-within (given .0 .0) (given .1) totals-are, begin .pre .1 .1 .1),
-        λ e. known-at (begin .args .table .now) totals-are (begin .pre .1 .1 .0 e),
+        (share-fits (given .0 .0) (given .1), totals-within (given .0 .0) (given .1) totals-are),
+        (λ e. known-at (begin .args .table .now) totals-are (known e), lent),
       ),
     )
 
 gap-of-requires : tie.Need-gap-of-requires
 gap-of-requires c κs = let at = c .before .before .before in
     let given = start at .pre .0 in
-    gap-fits (given .0 .0) (given .1) (of-judge at .totals .ensures .0) (at .judge .ensures)
+    gap-fits (given .0 .0) (given .1) (start at .pre .1 .1 .1 .1) (at .judge .ensures)
 
 mul-if1 : tie.Need-mul-if1
 mul-if1 c = omega (arith, limit c .0)
@@ -111,9 +104,6 @@ mul-if1-2 c = omega (arith, limit c .1)
 
 turned-requires : tie.Need-turned-requires
 turned-requires c κs = search needs
-
-same-length : tie.Need-same-length
-same-length c = search needs
 
 returns : tie.Need-returns
 returns c = let at = c .before .before in
@@ -125,22 +115,19 @@ returns c = let at = c .before .before in
         share-is = refl;
         table-is = refl;
       },
-      (λ e. true-false e refl, of-gap at .judge .ensures .volumes-long),
+      (λ e. true-false e refl, (known-lent (begin .pre .0 .0 .0) (of-gap at .judge .ensures), begin .pre .1 .1 .1 .1)),
     )
 
 chosen-requires : tie.Need-chosen-requires
 chosen-requires c κs = let at = of-gap (of-above (c .before .before)) in
     let given = start at .pre .0 in
-    move-fits (given .0 .0) (given .1) (of-judge at .totals .ensures .0) (at .judge .ensures)
+    (move-fits (given .0 .0) (given .1) (start at .pre .1 .1 .1 .1) (at .judge .ensures), start at .pre .1 .1 .1 .0 .1)
 
 can-move-requires : tie.Need-can-move-requires
 can-move-requires c κs = start (judged c) .pre .0 .1 .share-most
 
 turned-requires-2 : tie.Need-turned-requires-2
 turned-requires-2 c κs = search needs
-
-same-length-2 : tie.Need-same-length-2
-same-length-2 c = search needs
 
 returns-2 : tie.Need-returns-2
 returns-2 c = let last = c .before in
@@ -155,14 +142,11 @@ returns-2 c = let last = c .before in
         share-is = refl;
         table-is = refl;
       },
-      (λ e. true-false e refl, judged chose .judge .ensures .volumes-long),
+      (λ e. true-false e refl, (known-lent (begin .pre .0 .0 .0) (judged chose .judge .ensures), begin .pre .1 .1 .1 .1)),
     )
 
 turned-requires-3 : tie.Need-turned-requires-3
 turned-requires-3 c κs = search needs
-
-same-length-3 : tie.Need-same-length-3
-same-length-3 c = search needs
 
 returns-3 : tie.Need-returns-3
 returns-3 c = let last = c .before in
@@ -177,30 +161,37 @@ returns-3 c = let last = c .before in
         share-is = refl;
         table-is = refl;
       },
-      (λ e. true-false e refl, judged chose .judge .ensures .volumes-long),
+      (λ e. true-false e refl, (known-lent (begin .pre .0 .0 .0) (judged chose .judge .ensures), begin .pre .1 .1 .1 .1)),
     )
 
-move-table-requires : tie.Need-move-table-requires
-move-table-requires c κs = let chose = of-can (c .before .before .before .before) in
+move-totals-requires : tie.Need-move-totals-requires
+move-totals-requires c κs = let chose = of-can (c .before .before .before) in
     let at = judged chose in
     let given = start at .pre .0 in
-    movable (given .0 .0) (given .1) (of-judge at .totals .ensures .0) (at .judge .ensures) (chose .chosen .ensures) (given .0 .1)
+    totals-movable (given .0 .0) (given .1) (start at .pre .1 .1 .1 .1) (at .judge .ensures) (chose .chosen .ensures)
+
+move-table-requires : tie.Need-move-table-requires
+move-table-requires c κs = let chose = of-can (of-moved (c .before .before .before) .before) in
+    let at = judged chose in
+    let given = start at .pre .0 in
+    movable (given .0 .0) (given .1) (start at .pre .1 .1 .1 .1) (at .judge .ensures) (chose .chosen .ensures) (given .0 .1)
 
 turned-requires-4 : tie.Need-turned-requires-4
 turned-requires-4 c κs = search needs
 
-same-length-4 : tie.Need-same-length-4
-same-length-4 c = search needs
+same-length : tie.Need-same-length
+same-length c = search needs
 
 returns-4 : tie.Need-returns-4
 returns-4 c = let moving = c .before .before .before in
-    let goes = moving .before .before .before .before in
+    let summed = moving .before .before .before .before in
+    let goes = of-moved summed in
     let chose = of-can (goes .before) in
     let above = of-chosen chose in
     let at = judged chose in
     let begin = start at in
     let given = begin .pre .0 in
-    let totals-are = of-judge at .totals .ensures .0 in
+    let totals-are = start at .pre .1 .1 .1 .1 in
     let can = can-move-yes (goes .before) in
     let next = move-is (given .0 .0) (given .1) totals-are (at .judge .ensures) (chose .chosen .ensures) in
     rw (c .turned4 .ensures) (
@@ -215,7 +206,11 @@ returns-4 c = let moving = c .before .before .before in
         λ e.
             known-moved (given .0 .0) (begin .args .table .now) totals-are (at .judge .ensures) can (eqb-true _ _ e) (moving .move-table .ensures .0)
             (moving .move-table .ensures .1),
-        at .judge .ensures .volumes-long,
+        (
+          known-lent (given .0 .0) (at .judge .ensures),
+          totals-moved (given .0 .0) (given .1) totals-are (at .judge .ensures) (chose .chosen .ensures) can (summed .move-totals .ensures)
+              (moving .move-table .ensures .1),
+        ),
       ),
     )
 
@@ -223,23 +218,20 @@ pub turn-table-spec : {M : Type 1} → statement M
 turn-table-spec =
     tie.close
     (tie.spec
-    totals-requires
     judge-requires
     gap-of-requires
     mul-if1
     mul-if1-2
     turned-requires
-    same-length
     returns
     chosen-requires
     can-move-requires
     turned-requires-2
-    same-length-2
     returns-2
     turned-requires-3
-    same-length-3
     returns-3
+    move-totals-requires
     move-table-requires
     turned-requires-4
-    same-length-4
+    same-length
     returns-4)

@@ -15,7 +15,7 @@ abbrev μ-loop : tie.MeasureT-loop
 μ-loop m tails first₀ next₀ l₀ first next l = l
 
 loop-holds : tie.Need-loop-holds Inv-loop μ-loop
-loop-holds c = (search needs, chains-begin _ _ (c .pre .few-links))
+loop-holds c = (search needs, chains-begin _ _ (c .pre .0 .few-links) (c .pre .1 .0) (c .pre .1 .1))
 
 sub-l : tie.Need-sub-l Inv-loop μ-loop
 sub-l c = search needs
@@ -31,39 +31,40 @@ index-requires c κs = search needs
 
 -- The tail of the link is one of 128 nodes.
 tail-node : (c : tie.After-index Inv-loop μ-loop) → c .index .result < 128
-tail-node c = omega (arith, c .index .ensures, c .before .before .before .before .pre .tail-node (c .before .before .before .loop .l - 1) (omega arith))
+tail-node c = omega (arith, c .index .ensures, c .before .before .before .before .pre .0 .tail-node (c .before .before .before .loop .l - 1) (omega arith))
 
 mul-next : tie.Need-mul-next Inv-loop μ-loop
 mul-next c = omega (arith, tail-node c)
 
-array-read-next : tie.Need-array-read-next Inv-loop μ-loop
-array-read-next c = tail-node c
+element-copy-out-next : tie.Need-element-copy-out-next Inv-loop μ-loop
+element-copy-out-next c = tail-node c
 
 mul-next-2 : tie.Need-mul-next-2 Inv-loop μ-loop
 mul-next-2 c = search needs
 
-array-write-next : tie.Need-array-write-next Inv-loop μ-loop
-array-write-next c = search needs
+element-write-next : tie.Need-element-write-next Inv-loop μ-loop
+element-write-next c = search needs
 
 cast-first : tie.Need-cast-first Inv-loop μ-loop
 cast-first c = search needs
 
 mul-first : tie.Need-mul-first Inv-loop μ-loop
-mul-first c = omega (arith, tail-node c)
+mul-first c = omega (arith, tail-node (c .before))
 
-array-write-first : tie.Need-array-write-first Inv-loop μ-loop
-array-write-first c = tail-node c
+element-write-first : tie.Need-element-write-first Inv-loop μ-loop
+element-write-first c = tail-node (c .before)
 
 loop-less : tie.Need-loop-less Inv-loop μ-loop
 loop-less c = search needs
 
 loop-again : tie.Need-loop-again Inv-loop μ-loop
 loop-again c =
-    let start = c .before .before .before .before in
-    let turn = c .before .before .before .loop in
+    let after-index = c .before in
+    let start = after-index .before .before .before .before in
+    let turn = after-index .before .before .before .loop in
     let down : turn .l ≡ turn .l - 1 + 1 = omega arith in (
       search needs,
-      chains-take _ _ (turn .l - 1) _ _ _ (omega arith) (start .pre .few-links) (c .index .ensures) (tail-node c) (rw down at (turn .inv .1)),
+      chains-take _ _ (turn .l - 1) _ _ _ (omega arith) (start .pre .0 .few-links) (after-index .index .ensures) (tail-node after-index) (rw down at (turn .inv .1)),
     )
 
 returns : tie.Need-returns Inv-loop μ-loop
@@ -81,12 +82,12 @@ link-chains-spec =
     element-copy-out-index
     index-requires
     mul-next
-    array-read-next
+    element-copy-out-next
     mul-next-2
-    array-write-next
+    element-write-next
     cast-first
     mul-first
-    array-write-first
+    element-write-first
     loop-less
     loop-again
     returns)

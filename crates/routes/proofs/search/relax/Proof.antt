@@ -52,7 +52,15 @@ array-read-lower-2 : tie.Need-array-read-lower-2 Inv-loop μ-loop
 array-read-lower-2 c = search needs
 
 lower-requires : tie.Need-lower-requires Inv-loop μ-loop
-lower-requires c κs = search needs
+lower-requires c κs =
+    let start = c .before .before .before .before in
+    let turn = c .before .loop in
+    let table = start .args .marks .now in
+    let marked = start .pre .1 .1 in
+    let inside = c .loop-test .taken in (
+      omega (arith, row-most table marked (start .pre .0 .1) (turn .k) inside),
+      omega (arith, row-most table marked (start .pre .0 .0) (turn .k) inside, turn .inv .1 .rest (turn .k) (le-refl _)),
+    )
 
 mul-own-2 : tie.Need-mul-own-2 Inv-loop μ-loop
 mul-own-2 c = search needs

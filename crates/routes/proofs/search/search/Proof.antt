@@ -6,14 +6,14 @@ use Prim.Native.Nat.{_-_, _≤_}
 use mathlib.Core.Path.{_≡_, refl}
 use native.Mathlib.Omega.{arith}
 use borrow.Author.Needs.{needs}
-use Rattle.routes.specs.Lanes.{allRowsUnreached, totals, SetOut, EachScans}
-use Rattle.routes.specs.Laws.Lanes.{set-none, set-more, set-all, sweep-found}
+use Rattle.routes.specs.Lanes.{allRowsUnreached, totals, Ready, SetOut, EachScans}
+use Rattle.routes.specs.Laws.Lanes.{reset-all, set-none, set-more, set-all, scans-ready, sweep-found}
 use Rattle.routes.proofs.search.search.Statement.{statement}
 use Rattle.routes.proofs.search.search.Tie as tie
 
 abbrev Inv-loop : tie.InvT-loop
 Inv-loop n m tails heads times group first-in next-in marks₀ scanned k₀ marks k =
-    (k ≤ 8) × (marks₀ ≡ allRowsUnreached) × (scanned ≡ allRowsUnreached) × SetOut group k marks
+    (k ≤ 8) × (marks₀ ≡ allRowsUnreached) × Ready 0 scanned × SetOut group k marks
 
 abbrev μ-loop : tie.MeasureT-loop
 μ-loop n m tails heads times group first-in next-in marks₀ scanned k₀ marks k = 8 - k
@@ -24,9 +24,18 @@ Inv-loop2 n m tails heads times group first-in next-in marks₀ scanned₀ k mar
 abbrev μ-loop2 : tie.MeasureT-loop2
 μ-loop2 n m tails heads times group first-in next-in marks₀ scanned₀ k marks scanned = totals scanned
 
+-- There are at most 128 nodes.
+few-nodes : (c : tie.Start Inv-loop μ-loop Inv-loop2 μ-loop2) → c .args .n ≤ 128
+few-nodes c = c .pre .0 0 (omega arith) .few-nodes
+
+reset-requires : tie.Need-reset-requires Inv-loop μ-loop Inv-loop2 μ-loop2
+reset-requires c κs = let start = c .before .before in (few-nodes start, start .pre .1 .1 .shaped)
+
 loop-holds : tie.Need-loop-holds Inv-loop μ-loop Inv-loop2 μ-loop2
 unfolding allRowsUnreached
-loop-holds c = (search needs, refl, refl, set-none (c .before .pre .0))
+loop-holds c =
+    let start = c .before .before .before in
+    (search needs, refl, reset-all (start .pre .1 .1) (c .reset .ensures), set-none (start .pre .0))
 
 mul-index : tie.Need-mul-index Inv-loop μ-loop Inv-loop2 μ-loop2
 mul-index c = search needs
@@ -37,11 +46,15 @@ element-copy-out-index c = search needs
 index-requires : tie.Need-index-requires Inv-loop μ-loop Inv-loop2 μ-loop2
 index-requires c κs = search needs
 
+-- The beginning, from a turn of the first loop.
+abbrev start-of : tie.At-loop Inv-loop μ-loop Inv-loop2 μ-loop2 → tie.Start Inv-loop μ-loop Inv-loop2 μ-loop2
+start-of c = c .before .before .before .before
+
 set-out-requires : tie.Need-set-out-requires Inv-loop μ-loop Inv-loop2 μ-loop2
 set-out-requires c κs =
     let turn = c .before .before .before .before in
     let inside = c .before .before .before .loop-test .taken in
-    let one = turn .before .before .pre .0 (turn .loop .k) inside in
+    let one = start-of turn .pre .0 (turn .loop .k) inside in
     (omega (arith, c .index .ensures, one .destination-node, one .few-nodes), inside)
 
 add-k : tie.Need-add-k Inv-loop μ-loop Inv-loop2 μ-loop2
@@ -56,25 +69,26 @@ loop-again c =
       search needs,
       turn .loop .inv .1,
       turn .loop .inv .2,
-      rw (c .set-out .ensures) (set-more (turn .before .before .pre .0) (c .before .before .before .before .loop-test .taken) (c .before .index .ensures) (turn .loop .inv .3)),
+      rw (c .set-out .ensures) (set-more (start-of turn .pre .0) (c .before .before .before .before .loop-test .taken) (c .before .index .ensures) (turn .loop .inv .3)),
     )
 
 loop2-holds : tie.Need-loop2-holds Inv-loop μ-loop Inv-loop2 μ-loop2
 loop2-holds c =
     let turn = c .before in
     let all : turn .loop .k ≡ 8 = omega arith in
-    rw (turn .loop .inv .2) (set-all (turn .before .before .pre .0) (rw all at (turn .loop .inv .3)))
+    set-all (start-of turn .pre .0) (turn .loop .inv .2) (rw all at (turn .loop .inv .3))
 
 sweep-up-requires : tie.Need-sweep-up-requires Inv-loop μ-loop Inv-loop2 μ-loop2
 sweep-up-requires c κs =
     let turn = c .before .before in
-    let start = turn .before .before .before in
-    (start .before .pre .0, (start .before .pre .1, turn .loop2 .inv))
+    let start = start-of (turn .before .before) in
+    (start .pre .0, (start .pre .1 .0, turn .loop2 .inv))
 
 sweep-down-requires : tie.Need-sweep-down-requires Inv-loop μ-loop Inv-loop2 μ-loop2
 sweep-down-requires c κs =
-    let start = c .before .before .before .before .before .before .before .before .before .before in
-    (start .pre .0, (start .pre .1, c .before .before .before .sweep-up .ensures .scans))
+    let swept = c .before .before .before in
+    let start = start-of (swept .before .before .before .before .before) in
+    (start .pre .0, (start .pre .1 .0, swept .sweep-up .ensures .scans))
 
 loop2-less : tie.Need-loop2-less Inv-loop μ-loop Inv-loop2 μ-loop2
 loop2-less c =
@@ -86,8 +100,9 @@ loop2-again c = c .sweep-down .ensures .scans
 
 returns : tie.Need-returns Inv-loop μ-loop Inv-loop2 μ-loop2
 returns c =
-    let given = c .before .before .before .before .before .before .before .before .pre .0 in
-    sweep-found given (c .before .sweep-up .ensures) (omega (arith, c .if1 .taken))
+    let given = start-of (c .before .before .before .before .before .before) .pre .0 in
+    let swept = c .before .sweep-up .ensures in
+    (sweep-found given swept (omega (arith, c .if1 .taken)), scans-ready given (swept .scans))
 
 pub search-spec : {M : Type 1} → statement M
 search-spec =
@@ -97,6 +112,7 @@ search-spec =
     μ-loop
     Inv-loop2
     μ-loop2
+    reset-requires
     loop-holds
     mul-index
     element-copy-out-index

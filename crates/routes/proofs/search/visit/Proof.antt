@@ -1,7 +1,6 @@
 -- `search::visit` meets its contract. One of the node's marks is below its mark at the last scan, or none is.
 use Prim.Native.Nat.{_<_}
 use native.Mathlib.Omega.{arith}
-use borrow.Author.Needs.{needs}
 use Rattle.routes.specs.Laws.Lanes.{above-at, each-searching, visit-none, visit-scans}
 use Rattle.routes.proofs.search.visit.Statement.{statement}
 use Rattle.routes.proofs.search.visit.Tie as tie

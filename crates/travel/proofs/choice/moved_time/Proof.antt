@@ -20,7 +20,7 @@ add-link-time-2 : tie.Need-add-link-time-2
 add-link-time-2 c = omega (arith, flow-most c)
 
 link-time-requires : tie.Need-link-time-requires
-link-time-requires c κs = (c .pre .0, record { some-share = omega arith; share-fits = c .pre .2 }, omega (arith, flow-most c))
+link-time-requires c κs = ((c .pre .0 .0, record { some-share = omega arith; share-fits = c .pre .0 .2 }, omega (arith, flow-most c)), c .pre .1)
 
 returns : tie.Need-returns
 returns c = search needs

@@ -10,10 +10,10 @@ use Rattle.travel.proofs.costs.cost.Statement.{statement}
 use Rattle.travel.proofs.costs.cost.Tie as tie
 
 abbrev Inv-loop : tie.InvT-loop
-Inv-loop free rises capacities totals m share area₀ l₀ area l = (l ≤ m) × (area ≡ listCost l free rises capacities share totals)
+Inv-loop free rises capacities totals m share powers area₀ l₀ area l = (l ≤ m) × (area ≡ listCost l free rises capacities share totals)
 
 abbrev μ-loop : tie.MeasureT-loop
-μ-loop free rises capacities totals m share area₀ l₀ area l = m - l
+μ-loop free rises capacities totals m share powers area₀ l₀ area l = m - l
 
 -- The cost of the first l links of a call.
 abbrev cost-of : tie.Start Inv-loop μ-loop → ℕ → ℕ
@@ -66,7 +66,7 @@ link-cost-requires : tie.Need-link-cost-requires Inv-loop μ-loop
 link-cost-requires c κs =
     let l = c .before .before .before .before .before .loop .l in
     let pre = c .before .before .before .before .before .before .pre in
-    (pre .0 .link l (omega arith), search needs, pre .2 l (omega arith))
+    ((pre .0 .0 .link l (omega arith), search needs, pre .0 .2 l (omega arith)), pre .1)
 
 add-area : tie.Need-add-area Inv-loop μ-loop
 add-area c =
@@ -75,7 +75,7 @@ add-area c =
     omega (
       arith,
       turn c,
-      cost-most (x .free .now) (x .rises .now) (x .capacities .now) (x .share) (x .totals .now) (x .m) (start .pre .0) (search needs) (start .pre .2) (at-loop c .loop .l + 1) (omega arith),
+      cost-most (x .free .now) (x .rises .now) (x .capacities .now) (x .share) (x .totals .now) (x .m) (start .pre .0 .0) (search needs) (start .pre .0 .2) (at-loop c .loop .l + 1) (omega arith),
     )
 
 add-l : tie.Need-add-l Inv-loop μ-loop

@@ -1,35 +1,78 @@
--- `heights_below` meets its contract. The invariant: the heights of the treads passed are added. The measure is what is left of the treads.
+-- `heights_below` meets its contract. The invariant: what the treads passed rise is added. The measure is what is left of the treads.
 -- Assumes nothing.
-use Prim.Native.Nat.{_-_, _≤_}
+use Prim.Native.Nat.{_+_, _*_, _-_, _/_, _≤_}
+use native.Mathlib.Nat.{mul-le-mul}
 use native.Mathlib.Omega.{arith}
-use mathlib.Core.Path.{_≡_, refl}
+use mathlib.Core.Path.{_≡_, refl, sym, _∙_, ap, ap₂}
+use lib.ListN.{getD}
 use borrow.Author.Needs.{needs}
 use Rattle.theory.specs.Finite.{sum}
 use Rattle.theory.specs.Flows.{stepTime}
 use Rattle.theory.specs.Laws.Finite.{sum-suc}
+use Rattle.travel.specs.Ranges.{mostTime}
 use Rattle.travel.specs.Laws.Costs.{heights-most}
+use Rattle.travel.specs.Laws.Powers.{risenAt, power-below, rise-at, risen-most, heights-risen}
 use Rattle.travel.proofs.costs.heights_below.Statement.{statement}
 use Rattle.travel.proofs.costs.heights_below.Tie as tie
 
 abbrev Inv-loop : tie.InvT-loop
-Inv-loop free rise step heights₀ r₀ heights r = (r ≤ step) × (heights ≡ sum r (stepTime free rise))
+Inv-loop free rise step powers risen₀ r₀ risen r = (r ≤ step) × (risen ≡ sum r (risenAt rise))
 
 abbrev μ-loop : tie.MeasureT-loop
-μ-loop free rise step heights₀ r₀ heights r = step - r
+μ-loop free rise step powers risen₀ r₀ risen r = step - r
+
+-- The power that a turn reads.
+low : (c : tie.After-risen Inv-loop μ-loop) → getD (c .before .before .before .args .powers .now) (c .before .before .loop .r) 0 ≤ 4228250625
+low c =
+    let at-loop = c .before .before in
+    power-below (at-loop .before .args .powers .now) (at-loop .before .pre .1) (at-loop .loop .r) (omega arith)
+
+-- After a turn the sum is that of one tread more.
+turn : (c : tie.After-risen Inv-loop μ-loop) →
+    c .before .before .loop .risen + c .before .before .before .args .rise * getD (c .before .before .before .args .powers .now) (c .before .before .loop .r) 0 / 16777216 ≡ sum (c .before .before .loop .r + 1) (risenAt (c .before .before .before .args .rise))
+turn c =
+    let at-loop = c .before .before in
+    let x = at-loop .before .args in
+    ap₂ _+_ (at-loop .loop .inv .1) (rise-at (x .powers .now) (at-loop .before .pre .1) (at-loop .loop .r) (x .rise) (omega arith))
+    ∙ sym (sum-suc (at-loop .loop .r) (risenAt (x .rise)))
+
+-- What the code adds up at the end is the sum of the heights.
+same : (c : tie.After-loop Inv-loop μ-loop) →
+    c .before .before .args .free * c .before .before .args .step + c .before .loop .risen ≡ sum (c .before .before .args .step) (stepTime (c .before .before .args .free) (c .before .before .args .rise))
+same c =
+    let x = c .before .before .args in
+    let end : c .before .loop .r ≡ x .step = omega arith in
+    ap (λ y. x .free * x .step + y) (rw end at (c .before .loop .inv .1)) ∙ heights-risen (x .free) (x .rise) (x .step)
+
+most : (c : tie.Start Inv-loop μ-loop) → sum (c .args .step) (stepTime (c .args .free) (c .args .rise)) ≤ c .args .step * mostTime
+most c = heights-most (c .args .free) (c .args .rise) (c .args .step) (search needs) (search needs) (search needs)
 
 loop-holds : tie.Need-loop-holds Inv-loop μ-loop
 unfolding sum
 loop-holds c = (search needs, refl)
 
-time-at-requires : tie.Need-time-at-requires Inv-loop μ-loop
-time-at-requires c κs = search needs
+mul-risen : tie.Need-mul-risen Inv-loop μ-loop
+mul-risen c = search needs
 
-add-heights : tie.Need-add-heights Inv-loop μ-loop
-add-heights c =
+element-copy-out-risen : tie.Need-element-copy-out-risen Inv-loop μ-loop
+element-copy-out-risen c = search needs
+
+cast-risen : tie.Need-cast-risen Inv-loop μ-loop
+cast-risen c = omega (arith, low c)
+
+cast-risen-2 : tie.Need-cast-risen-2 Inv-loop μ-loop
+cast-risen-2 c = omega (arith, low c)
+
+mul-risen-2 : tie.Need-mul-risen-2 Inv-loop μ-loop
+mul-risen-2 c = omega (arith, mul-le-mul {n₁ = c .before .before .before .args .rise} {n₂ = 16383} (search needs) (low c))
+
+add-risen : tie.Need-add-risen Inv-loop μ-loop
+add-risen c =
     let at-loop = c .before .before in
     omega (
       arith,
-      heights-most (at-loop .before .args .free) (at-loop .before .args .rise) (at-loop .loop .r) (search needs) (search needs) (omega arith),
+      turn c,
+      risen-most (at-loop .before .args .rise) (at-loop .loop .r + 1) (search needs) (omega arith),
     )
 
 add-r : tie.Need-add-r Inv-loop μ-loop
@@ -39,16 +82,18 @@ loop-less : tie.Need-loop-less Inv-loop μ-loop
 loop-less c = search needs
 
 loop-again : tie.Need-loop-again Inv-loop μ-loop
-loop-again c =
-    let at-loop = c .before .before in
-    (search needs, omega (arith, sum-suc (at-loop .loop .r) (stepTime (at-loop .before .args .free) (at-loop .before .args .rise))))
+loop-again c = (search needs, turn c)
+
+mul-result : tie.Need-mul-result Inv-loop μ-loop
+mul-result c =
+    let x = c .before .before .args in
+    omega (arith, heights-risen (x .free) (x .rise) (x .step), most (c .before .before))
+
+add-result : tie.Need-add-result Inv-loop μ-loop
+add-result c = omega (arith, same c, most (c .before .before))
 
 returns : tie.Need-returns Inv-loop μ-loop
-returns c =
-    let x = c .before .before .args in
-    let end : c .before .loop .r ≡ x .step = omega arith in
-    let same : c .before .loop .heights ≡ sum (x .step) (stepTime (x .free) (x .rise)) = (rw end at (c .before .loop .inv .1)) in
-    (same, omega (arith, heights-most (x .free) (x .rise) (x .step) (search needs) (search needs) (search needs)))
+returns c = (same c, rw (same c) (most (c .before .before)))
 
 pub heights-below-spec : {M : Type 1} → statement M
 heights-below-spec =
@@ -57,9 +102,15 @@ heights-below-spec =
     Inv-loop
     μ-loop
     loop-holds
-    time-at-requires
-    add-heights
+    mul-risen
+    element-copy-out-risen
+    cast-risen
+    cast-risen-2
+    mul-risen-2
+    add-risen
     add-r
     loop-less
     loop-again
+    mul-result
+    add-result
     returns)

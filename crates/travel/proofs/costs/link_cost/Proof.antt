@@ -37,7 +37,7 @@ same c =
 most : (c : tie.Start) → cost-of c ≤ 64 * c .args .flow * mostTime
 most c =
     let x = c .args in
-    cost-of-most (x .free) (x .rise) (x .capacity) (x .share) (x .flow) (c .pre .0) (search needs)
+    cost-of-most (x .free) (x .rise) (x .capacity) (x .share) (x .flow) (c .pre .0 .0) (search needs)
 
 mul-width : tie.Need-mul-width
 mul-width c = omega (arith, width-most (c .args .capacity) (c .args .share) (search needs) (search needs))

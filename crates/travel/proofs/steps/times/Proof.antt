@@ -1,23 +1,23 @@
--- `times` meets its contract. The invariant: the times of the links passed are written, and the rest is 0. The measure is what is left
--- of the links. Assumes nothing.
+-- `times` meets its contract. The invariant: the times of the links passed are written, and past all links there are zeros. The measure
+-- is what is left of the links. Assumes nothing.
 use Prim.Native.Nat.{_-_, _≤_}
 use native.Mathlib.Omega.{arith}
 use mathlib.Core.Path.{_≡_}
 use borrow.Author.Needs.{needs}
 use Rattle.travel.specs.Links.{padded, listTime}
-use Rattle.travel.specs.Laws.Padded.{getD-padded, padded-none, padded-more}
+use Rattle.travel.specs.Laws.Padded.{Filled, getD-padded, filled-none, filled-more, filled-all}
 use Rattle.travel.specs.Laws.Times.{listTime-least, listTime-most}
 use Rattle.travel.proofs.steps.times.Statement.{statement}
 use Rattle.travel.proofs.steps.times.Tie as tie
 
 abbrev Inv-loop : tie.InvT-loop
-Inv-loop free rises capacities totals m share result₀ l₀ result l = (l ≤ m) × (result ≡ padded l (listTime free rises capacities share totals))
+Inv-loop free rises capacities totals m share powers times₀ l₀ times l = (l ≤ m) × Filled l m (listTime free rises capacities share totals) times
 
 abbrev μ-loop : tie.MeasureT-loop
-μ-loop free rises capacities totals m share result₀ l₀ result l = m - l
+μ-loop free rises capacities totals m share powers times₀ l₀ times l = m - l
 
 loop-holds : tie.Need-loop-holds Inv-loop μ-loop
-loop-holds c = (search needs, padded-none _)
+loop-holds c = (search needs, filled-none (c .args .m) _ (c .args .times .now) (c .pre .1 .1))
 
 mul-link-time : tie.Need-mul-link-time Inv-loop μ-loop
 mul-link-time c = search needs
@@ -45,20 +45,20 @@ element-copy-out-link-time-4 c = search needs
 
 link-time-requires : tie.Need-link-time-requires Inv-loop μ-loop
 link-time-requires c κs =
-    let at-loop = c .before .before .before .before .before in (
-      at-loop .before .pre .0 .link (at-loop .loop .l) (omega arith),
-      search needs,
-      at-loop .before .pre .2 (at-loop .loop .l) (omega arith),
+    let at-loop = c .before .before .before .before .before in
+    let pre = at-loop .before .pre in (
+      (pre .0 .0 .link (at-loop .loop .l) (omega arith), search needs, pre .0 .2 (at-loop .loop .l) (omega arith)),
+      pre .1 .0,
     )
 
-cast-result : tie.Need-cast-result Inv-loop μ-loop
-cast-result c = search needs
+cast-times : tie.Need-cast-times Inv-loop μ-loop
+cast-times c = search needs
 
-mul-result : tie.Need-mul-result Inv-loop μ-loop
-mul-result c = search needs
+mul-times : tie.Need-mul-times Inv-loop μ-loop
+mul-times c = search needs
 
-array-write-result : tie.Need-array-write-result Inv-loop μ-loop
-array-write-result c = search needs
+element-write-times : tie.Need-element-write-times Inv-loop μ-loop
+element-write-times c = search needs
 
 add-l : tie.Need-add-l Inv-loop μ-loop
 add-l c = search needs
@@ -70,17 +70,18 @@ loop-again : tie.Need-loop-again Inv-loop μ-loop
 unfolding listTime
 loop-again c =
     let at-loop = c .before .before .before .before .before .before in
-    (search needs, padded-more (at-loop .loop .l) _ _ _ (omega arith) (at-loop .loop .inv .1) (c .link-time .ensures .0))
+    (search needs, filled-more _ _ _ (at-loop .loop .l) _ (omega arith) (at-loop .before .pre .0 .0 .few) (at-loop .loop .inv .1) (c .link-time .ensures .0))
 
 returns : tie.Need-returns Inv-loop μ-loop
 returns c =
     let x = c .before .before .args in
     let end : c .before .loop .l ≡ x .m = omega arith in
-    let same : c .before .loop .result ≡ padded (x .m) (listTime (x .free .now) (x .rises .now) (x .capacities .now) (x .share) (x .totals .now)) = (rw end at (c .before .loop .inv .1)) in (
+    let fit = c .before .before .pre .0 .0 in
+    let same : c .before .loop .times ≡ padded (x .m) (listTime (x .free .now) (x .rises .now) (x .capacities .now) (x .share) (x .totals .now)) = filled-all (x .m) _ _ (fit .few) (rw end at (c .before .loop .inv .1)) in (
       same,
       rw same (record {
-        some-time = λ l p. rw (getD-padded (x .m) _ l p) (listTime-least (x .m) _ _ _ (c .before .before .pre .0) (x .share) _ l p);
-        times-fit = λ l p. rw (getD-padded (x .m) _ l p) (listTime-most (x .m) _ _ _ (c .before .before .pre .0) (x .share) _ l p);
+        some-time = λ l p. rw (getD-padded (x .m) _ l p) (listTime-least (x .m) _ _ _ fit (x .share) _ l p);
+        times-fit = λ l p. rw (getD-padded (x .m) _ l p) (listTime-most (x .m) _ _ _ fit (x .share) _ l p);
       }),
     )
 
@@ -100,9 +101,9 @@ times-spec =
     mul-link-time-4
     element-copy-out-link-time-4
     link-time-requires
-    cast-result
-    mul-result
-    array-write-result
+    cast-times
+    mul-times
+    element-write-times
     add-l
     loop-less
     loop-again

@@ -1,4 +1,4 @@
--- `next::group_of` meets its contract. The loop's invariant: the first `k` destinations of the group are members of it. The measure is what is
+-- `groups::group_of` meets its contract. The loop's invariant: the first `k` destinations of the group are members of it. The measure is what is
 -- left of the group.
 use Prim.Native.Nat.{_-_, _≤_}
 use mathlib.Core.Path.{_≡_, refl}
@@ -7,8 +7,8 @@ use borrow.Author.Needs.{needs}
 use Rattle.routes.specs.Rows.{Worked}
 use Rattle.routes.specs.Table.{Member}
 use Rattle.routes.specs.Laws.Rows.{worked-none, worked-more}
-use Rattle.routes.proofs.next.group_of.Statement.{statement}
-use Rattle.routes.proofs.next.group_of.Tie as tie
+use Rattle.routes.proofs.groups.group_of.Statement.{statement}
+use Rattle.routes.proofs.groups.group_of.Tie as tie
 
 abbrev Inv-loop : tie.InvT-loop
 Inv-loop p destinations first group₀ k₀ group k = (k ≤ 8) × Worked (Member p destinations first) group₀ k group

@@ -1,0 +1,70 @@
+-- The sum of least times, as an audit takes it from the marks of a search.
+use Prim.Native.Nat.{ℕ, _*_, _≤_, _<_}
+use native.Mathlib.Omega.{arith}
+use mathlib.Core.Path.{_≡_, refl, _∙_, ap, fun-ext}
+use mathlib.Core.List.{List}
+use mathlib.Core.Option.{Option·getD}
+use lib.ListN.{getD}
+use Rattle.theory.specs.Finite.{sum}
+use Rattle.theory.specs.Network.{Network}
+use Rattle.theory.specs.Routes.{Routing, routing, distance, isSome}
+use Rattle.theory.specs.Cost.{leastTimes}
+use Rattle.theory.specs.Laws.Cases.{on-equal, on-option, true-false}
+use Rattle.theory.specs.Laws.Finite.{sum-cong}
+use Rattle.theory.specs.Laws.Routings.{Served}
+use Rattle.calls.specs.Study.{networkFrom}
+use Rattle.routes.specs.Search.{routingFrom, mark, marks}
+use Rattle.routes.specs.Table.{leastOver}
+use Rattle.routes.specs.Laws.Found.{marks-at}
+use Rattle.judging.specs.declared.Decoded.{Decoded}
+use Rattle.judging.specs.Study.{networkIn, Ready}
+use Rattle.judging.specs.Laws.Routes.{TimesIn, times-own, served}
+
+-- A node with trips has a distance, which is its mark.
+mark-spent :
+    (q : Routing) → q .nodes ≤ 128 → (trips : ℕ → ℕ) → Served q trips → (j : ℕ) → j < q .nodes →
+    trips j * getD (marks q) j 0 ≡ trips j * Option·getD (distance q j) 0
+unfolding mark
+mark-spent q few trips served j h =
+    on-equal (trips j) 0
+    (λ e. rw e (omega arith))
+    (λ some-trips.
+    on-option (distance q j)
+    (λ e. true-false (served j h some-trips) (ap isSome e))
+    (λ x e. ap (λ y. trips j * y) (marks-at q few j (omega arith) ∙ rw e refl)))
+
+-- The least times go by the times of the links, number by number.
+least-at : (g : Network) (t u : List ℕ) → ((l : ℕ) → getD t l 0 ≡ getD u l 0) → leastTimes g t ≡ leastTimes g u
+unfolding leastTimes
+least-at g t u same =
+    ap
+    (λ time.
+    sum (g .commodities) (λ k.
+    sum (g .nodes) (λ j.
+    g .trips k j
+    * Option·getD
+    (distance
+    (record {
+      nodes = g .nodes;
+      links = g .links;
+      tail = g .tail;
+      head = g .head;
+      usable = g .mayUse k;
+      destination = g .destination k;
+      time = time;
+    })
+    j)
+    0)))
+    (fun-ext same)
+
+-- The sum of trips × mark is that of D(j,s) × distance.
+pub least-over :
+    {d : Decoded} → Ready d → {times exact : List ℕ} → TimesIn d times exact →
+    leastOver (d .nodes) (d .links) (d .destinations) (d .tails) (d .heads) times (d .«destination_nodes») (d .trips)
+    ≡ leastTimes (networkIn d) exact
+unfolding leastOver leastTimes routingFrom networkIn networkFrom
+least-over {d} ready {times} {exact} t =
+    sum-cong (d .destinations) _ _ (λ k h.
+    sum-cong (d .nodes) _ _ (λ j b.
+    mark-spent (routing (networkIn d) times k) (ready .few-nodes) (networkIn d .trips k) (served ready (times-own (t .fit)) k h) j b))
+    ∙ least-at (networkIn d) times exact (t .same)

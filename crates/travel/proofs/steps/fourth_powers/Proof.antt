@@ -1,0 +1,61 @@
+-- `fourth_powers` meets its contract. The invariant: the powers of the steps passed are written. The measure is what is left of the
+-- steps. Assumes nothing.
+use Prim.Native.Nat.{_-_, _≤_}
+use native.Mathlib.Omega.{arith}
+use mathlib.Core.Path.{_≡_}
+use borrow.Author.Needs.{needs}
+use Rattle.travel.specs.Laws.Times.{square-most, fourth-most}
+use Rattle.travel.specs.Laws.Powers.{Raised, raised-none, raised-more, raised-all}
+use Rattle.travel.proofs.steps.fourth_powers.Statement.{statement}
+use Rattle.travel.proofs.steps.fourth_powers.Tie as tie
+
+abbrev Inv-loop : tie.InvT-loop
+Inv-loop powers₀ r₀ powers r = (r ≤ 257) × Raised r powers
+
+abbrev μ-loop : tie.MeasureT-loop
+μ-loop powers₀ r₀ powers r = 257 - r
+
+loop-holds : tie.Need-loop-holds Inv-loop μ-loop
+loop-holds c = (search needs, raised-none)
+
+mul-square : tie.Need-mul-square Inv-loop μ-loop
+mul-square c = omega (arith, square-most (c .before .loop .r) (omega arith))
+
+mul-powers : tie.Need-mul-powers Inv-loop μ-loop
+mul-powers c = omega (arith, fourth-most (c .before .loop .r) (omega arith))
+
+mul-powers-2 : tie.Need-mul-powers-2 Inv-loop μ-loop
+mul-powers-2 c = search needs
+
+array-write-powers : tie.Need-array-write-powers Inv-loop μ-loop
+array-write-powers c = search needs
+
+add-r : tie.Need-add-r Inv-loop μ-loop
+add-r c = search needs
+
+loop-less : tie.Need-loop-less Inv-loop μ-loop
+loop-less c = search needs
+
+loop-again : tie.Need-loop-again Inv-loop μ-loop
+loop-again c = (search needs, raised-more (c .before .loop .r) (c .before .loop .powers) (omega arith) (c .before .loop .inv .1))
+
+returns : tie.Need-returns Inv-loop μ-loop
+returns c =
+    let end : c .before .loop .r ≡ 257 = omega arith in
+    raised-all (c .before .loop .powers) (rw end at (c .before .loop .inv .1))
+
+pub fourth-powers-spec : {M : Type 1} → statement M
+fourth-powers-spec =
+    tie.close
+    (tie.spec
+    Inv-loop
+    μ-loop
+    loop-holds
+    mul-square
+    mul-powers
+    mul-powers-2
+    array-write-powers
+    add-r
+    loop-less
+    loop-again
+    returns)
