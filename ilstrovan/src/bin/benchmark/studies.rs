@@ -108,7 +108,7 @@ fn any_link(dice: &mut Dice, nodes: u16) -> DraftLink {
 }
 
 /// A study on these links with a destination to four nodes, and 65,535 trips to
-/// 128 nodes.
+/// 128 nodes, at first so few from each that every destination has some.
 fn crowded(dice: &mut Dice, nodes: u16, links: Vec<DraftLink>) -> Draft {
     let plan = Plan {
         nodes: (2, 2),
@@ -116,7 +116,7 @@ fn crowded(dice: &mut Dice, nodes: u16, links: Vec<DraftLink>) -> Draft {
         destinations: u64::from(nodes / 4),
         time: 1,
         capacity: 1,
-        trips: 60,
+        trips: 30,
         tenths: 10,
     };
     let mut draft = plan.with_links(dice, nodes, links.clone());
