@@ -1,9 +1,17 @@
-use libc::STDOUT_FILENO;
+// A heading and the response to an input.
+use case_lines::label;
+use case_lines::number_within;
+use case_lines::text;
 
-// Writes a heading and the response to an input.
-pub fn show(heading: &[u8], input: &[u8], table: &mut [u32]) {
+pub fn show(input: &[u8], table: &mut [u32]) {
+    let size = number_within(input.len());
+    label();
+    text(b"\n");
+    respond(&input[..size], table);
+}
+
+fn respond(input: &[u8], table: &mut [u32]) {
     let mut listing = [0u8; 32768];
     let size = report::respond(input, table, &mut listing);
-    io::write_all(STDOUT_FILENO, heading);
-    io::write_all(STDOUT_FILENO, &listing[..size]);
+    text(&listing[..size]);
 }

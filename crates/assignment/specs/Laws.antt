@@ -1,5 +1,5 @@
--- The laws that join the definitions of `calls` over a file to those of `judging` over the decoded study.
-pub mod Decoding
+-- The laws that join the definitions of `calls` over a file to those of `judging` over its study.
+pub mod Parts
 pub mod Numbers
 pub mod Answers
 pub mod Runs

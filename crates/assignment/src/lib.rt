@@ -3,7 +3,6 @@
 // leaves the lent table as it was.
 mod answers;
 mod auditing;
-mod decoding;
 mod passing;
 mod refusals;
 mod running;

@@ -1,23 +1,75 @@
-// Runs document 01's cases of the town of two roads, one line of output for each call. Most tables have
-// one number more than their study asks for, which no call may change.
-mod cases;
-mod refusals;
+// Runs the calls that standard input lists, and prints a line for each: every number that it answers,
+// and the table that it leaves. The lines of the input (in the words of `case_lines`):
+//
+//     file STUDY                 the study of the calls that follow
+//     table TABLE                the table of the next call, where not as the call before left it
+//     start LABEL
+//     audit SHARE LABEL
+//     pass SHARE LABEL
+//     run BUDGET EXCESS LABEL
+//
+// Most tables have one number more than their study asks for, which no call may change.
+ghost use Prim.Native.Nat.{_≤_};
+ghost use lib.ListN.{length};
+use case_lines::read_study;
+use case_lines::read_table;
+use case_lines::word;
+
+mod calling;
 mod report;
-mod studies;
+
+// There are fewer lines than this.
+const MOST_LINES: usize = 1000;
+
+// How much of the file's and the table's memory is in use.
+struct Sizes {
+    file: usize,
+    table: usize,
+}
 
 fn main() {
-    cases::tables();
-    cases::runs();
-    cases::passes();
-    cases::endings();
-    cases::no_trips();
-    cases::leftovers();
-    refusals::files();
-    refusals::trips();
-    refusals::paths();
-    refusals::short_tables();
-    refusals::budgets();
-    refusals::shares();
-    refusals::audits();
-    refusals::passes();
+    let mut file_space = [0u8; 64];
+    let mut table_space = [0u32; 5];
+    let file: &mut [u8] = &mut file_space;
+    let table: &mut [u32] = &mut table_space;
+    run(file, table);
+}
+
+fn run(file: &mut [u8], table: &mut [u32]) {
+    let mut sizes = Sizes { file: 0, table: 0 };
+    for _ in 0..MOST_LINES {
+        let word = word();
+        if word == 0 {
+            return;
+        }
+        sizes = run_line(word, file, table, sizes);
+    }
+}
+
+fn run_line(word: u8, file: &mut [u8], table: &mut [u32], sizes: Sizes) -> Sizes
+    requires { ⌜ (sizes .file ≤ length (now file)) × (sizes .table ≤ length (now table)) ⌝ }
+    ensures { λ r. ⌜ (r .file ≤ length (now (file .entry))) × (r .table ≤ length (now (table .entry))) ⌝ }
+{
+    let size = sizes.file;
+    let count = sizes.table;
+    match word {
+        b'f' => {
+            let size = read_study(file);
+            Sizes {
+                file: size,
+                table: count,
+            }
+        }
+        b't' => {
+            let count = read_table(table);
+            Sizes {
+                file: size,
+                table: count,
+            }
+        }
+        _ => {
+            calling::call(word, &file[..size], &mut table[..count]);
+            sizes
+        }
+    }
 }

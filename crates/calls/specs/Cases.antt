@@ -16,7 +16,8 @@ use Rattle.theory.specs.Flows.{linkTotal, total, sumAt, balances, conserves, to
 use Rattle.theory.specs.Routes.{leastOf, fromHead, round, rounds, distances, fitsNext, nextLinks, walk, loadingRow, loading}
 use Rattle.theory.specs.Cost.{staircase, linkCost, cost, leastTimes, spentTimes, gap}
 use Rattle.theory.specs.Moves.{Shared, started, movedTimes, qualifies, chosen, added, doubled, move, afterMoves, reaches, stops, judged, lastJudged}
-use Rattle.calls.specs.Study.{linkFields, destinationNodes, tripEntries, networkFrom, networkOf}
+use Rattle.theory.specs.Study.{network}
+use Rattle.calls.specs.Study.{linkRow, linkRows, destinationNodes, tripEntries, networkOf}
 use Rattle.calls.specs.Questions.{endsFit, timesFit, destinationsFit, noTripsWithin, totalFits, hasPath, tripsReach, tableHolds, budgetFits, shareFits}
 use Rattle.calls.specs.Questions.{packedSize, outputHolds, studyQuestions, shareQuestions, checkQuestions, packQuestions, startQuestions, runQuestions, tableQuestions}
 use Rattle.calls.specs.Pack.{bytes16, bytes32, packedHeader, packed}
@@ -118,7 +119,7 @@ pub record Computed : Type 0 where
   pub stranded : checkNumber strandedTown ≡ 11
 
 pub computed : Computed
-unfolding cases case town strandedTown u16 u32 version nodeField linkField destinationField offset size lengthFits versionKnown countsFit sectionsInOrder sizesFit opening refusal nodes links destinations part tail head freeTime rise capacity destination trips sum all first largest tabulate rows totalTrips linkTotal sumAt balances conserves totalsFit step stepTime times leastOf fromHead round rounds distances fitsNext nextLinks walk loadingRow loading staircase linkCost cost leastTimes spentTimes gap started movedTimes qualifies chosen added doubled move afterMoves reaches stops judged lastJudged linkFields destinationNodes tripEntries networkFrom networkOf endsFit timesFit destinationsFit noTripsWithin totalFits hasPath tripsReach tableHolds budgetFits shareFits packedSize outputHolds studyQuestions shareQuestions checkQuestions packQuestions startQuestions runQuestions tableQuestions overwritten checkNumber startNumber startTable tableNumber auditAnswer passAnswer passTable runNumber endingAt runAnswer runTable
+unfolding cases case town strandedTown u16 u32 version nodeField linkField destinationField offset size lengthFits versionKnown countsFit sectionsInOrder sizesFit opening refusal nodes links destinations part tail head freeTime rise capacity destination trips sum all first largest tabulate rows totalTrips linkTotal sumAt balances conserves totalsFit step stepTime times leastOf fromHead round rounds distances fitsNext nextLinks walk loadingRow loading staircase linkCost cost leastTimes spentTimes gap started movedTimes qualifies chosen added doubled move afterMoves reaches stops judged lastJudged linkRow linkRows destinationNodes tripEntries network networkOf endsFit timesFit destinationsFit noTripsWithin totalFits hasPath tripsReach tableHolds budgetFits shareFits packedSize outputHolds studyQuestions shareQuestions checkQuestions packQuestions startQuestions runQuestions tableQuestions overwritten checkNumber startNumber startTable tableNumber auditAnswer passAnswer passTable runNumber endingAt runAnswer runTable
 computed =
     record {
       every-case-holds = refl;

@@ -5,7 +5,6 @@ use mathlib.Core.List.{List, [], _∷_, _++_}
 use mathlib.Core.Option.{none}
 use lib.ListN.{length, getD, replicate}
 use lib.Dec.{leb, ltb, eqb}
-use Rattle.study.specs.Fields.{tail, head, freeTime, rise, capacity}
 use Rattle.study.specs.Questions.{Question, within, opening}
 use Rattle.study.specs.Sections.{nodes, links, destinations}
 use Rattle.theory.specs.Finite.{all, tabulate}
@@ -13,16 +12,17 @@ use Rattle.theory.specs.Network.{Network, totalTrips}
 use Rattle.theory.specs.Flows.{totalsFit, conserves}
 use Rattle.theory.specs.Routes.{routing, distances, isSome}
 use Rattle.theory.specs.Moves.{tableSize}
-use Rattle.calls.specs.Study.{linkFields, networkOf}
+use Rattle.theory.specs.Study.{freeTime, rise, capacity, network}
+use Rattle.calls.specs.Study.{linkRows, destinationNodes, tripEntries, networkOf}
 
 -- 6. Are each link's tail and head below n and different?
 unfoldable pub endsFit : Network → Bool
 endsFit g = all (g .links) (λ l. ltb (g .tail l) (g .nodes) && ltb (g .head l) (g .nodes) && not (eqb (g .tail l) (g .head l)))
 
 -- 7. Are a 1 to 16,383, b 0 to 16,383, c at least 1 on every link?
-unfoldable pub timesFit : List ℕ → List ℕ → List ℕ → ℕ → Bool
-timesFit freeTimes rises capacities m =
-    all m (λ l. within 1 16383 (getD freeTimes l 0) && within 0 16383 (getD rises l 0) && leb 1 (getD capacities l 0))
+unfoldable pub timesFit : List (List ℕ) → Bool
+timesFit rows =
+    all (length rows) (λ l. within 1 16383 (freeTime rows l) && within 0 16383 (rise rows l) && leb 1 (capacity rows l))
 
 -- 8. Are the destinations below n and strictly ascending?
 unfoldable pub destinationsFit : Network → Bool
@@ -75,12 +75,12 @@ outputHolds file output = leb (packedSize file) (length output)
 abbrev pub ask : ℕ → Bool → Question
 ask number answer = record { number = number; yes = answer }
 
--- Questions 6 to 11 of a file that passes 1 to 5;
-unfoldable pub studyQuestions : List ℕ → List Question
-studyQuestions file =
-    let g = networkOf file in
+-- Questions 6 to 11 of a study whose file passes 1 to 5;
+unfoldable pub studyQuestions : ℕ → List (List ℕ) → List ℕ → List ℕ → List Question
+studyQuestions n rows nodeList entries =
+    let g = network n rows nodeList entries in
     ask 6 (endsFit g)
-    ∷ ask 7 (timesFit (linkFields freeTime file) (linkFields rise file) (linkFields capacity file) (links file))
+    ∷ ask 7 (timesFit rows)
     ∷ ask 8 (destinationsFit g)
     ∷ ask 9 (noTripsWithin g)
     ∷ ask 10 (totalFits g)
@@ -88,9 +88,8 @@ studyQuestions file =
     ∷ []
 
 -- questions 14 to 16 of a table and a share.
-unfoldable pub shareQuestions : List ℕ → List ℕ → ℕ → List Question
-shareQuestions file table share =
-    let g = networkOf file in
+unfoldable pub shareQuestions : Network → List ℕ → ℕ → List Question
+shareQuestions g table share =
     ask 14 (shareFits share)
     ∷ ask 15 (totalsFit g share table)
     ∷ ask 16 (conserves g share table)
@@ -98,7 +97,7 @@ shareQuestions file table share =
 
 -- Check puts 1 to 11;
 unfoldable pub checkQuestions : List ℕ → List Question
-checkQuestions file = opening file ++ studyQuestions file
+checkQuestions file = opening file ++ studyQuestions (nodes file) (linkRows file) (destinationNodes file) (tripEntries file)
 
 -- pack 1 to 11, then 17;
 unfoldable pub packQuestions : List ℕ → List ℕ → List Question
@@ -114,4 +113,4 @@ runQuestions file table budget = startQuestions file table ++ (ask 13 (budgetFit
 
 -- pass and audit 1 to 12, then 14 to 16.
 unfoldable pub tableQuestions : List ℕ → List ℕ → ℕ → List Question
-tableQuestions file table share = startQuestions file table ++ shareQuestions file table share
+tableQuestions file table share = startQuestions file table ++ shareQuestions (networkOf file) table share

@@ -9,11 +9,11 @@ use lib.ListN.{length, take, drop, length-append, length-drop}
 use lib.Seq.{take-at, drop-at}
 use borrow.Author.Tests.{leb-true, ne-eqb}
 use Rattle.study.specs.Questions.{refusal}
-use Rattle.study.specs.Laws.{accepted, opening-both}
-use Rattle.calls.specs.Questions.{packedSize, outputHolds, studyQuestions, checkQuestions}
+use Rattle.study.specs.Laws.{accepted}
+use Rattle.calls.specs.Questions.{packedSize, outputHolds}
 use Rattle.calls.specs.Pack.{packed}
 use Rattle.calls.specs.Calls.{overwritten, checkNumber, packNumber, packOutput}
-use Rattle.calls.specs.Laws.Questions.{pack-number}
+use Rattle.calls.specs.Laws.Questions.{pack-number, check-passed}
 use Rattle.calls.specs.Laws.Calls.{pack-kept}
 use Rattle.demands.specs.Packing.ReadBack.{packed-length, packed-shorter, packed-accepted, packed-nodes, packed-links, packed-destinations, packed-link-part, packed-destination-part, packed-trip-part}
 use Rattle.demands.specs.Packing.Same.{SameStudy, same-packed, same-check, same-pack-output}
@@ -65,8 +65,7 @@ pack-both file output e =
     by-check (suc number) holds z = absurd (let s = (rw eqb·suc-zero at z) in omega arith)
 
 pub pack-opened : (file output : List ℕ) → packNumber file output ≡ 0 → refusal file ≡ 0
-unfolding checkNumber checkQuestions
-pack-opened file output e = opening-both file (studyQuestions file) (pack-both file output e .0) .0
+pack-opened file output e = check-passed file (pack-both file output e .0) .described .opened
 
 -- What the call leaves in the output slice: the packed file, and after it the later bytes untouched.
 pub record Written (file output : List ℕ) : Type 0 where

@@ -13,7 +13,7 @@ use Rattle.theory.specs.Laws.Cases.{on-test}
 use Rattle.theory.specs.Laws.Routings.{Timed, AllServed, served-at-times}
 use Rattle.theory.specs.Laws.Loading.{loading-carries}
 use Rattle.theory.specs.Laws.Unreachable.{carried-served}
-use Rattle.calls.specs.Study.{networkFrom, networkOf}
+use Rattle.calls.specs.Study.{networkOf}
 use Rattle.calls.specs.Questions.{tripsReach}
 use Rattle.calls.specs.Calls.{checkNumber}
 use Rattle.calls.specs.Laws.Questions.{Described, Passed, described-check}

@@ -7,6 +7,7 @@ pub mod Loading
 pub mod Moves
 pub mod Totals
 pub mod Study
+pub mod Loaded
 pub mod Routes
 pub mod Least
 pub mod Judged

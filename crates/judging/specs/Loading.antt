@@ -5,16 +5,16 @@ use mathlib.Core.List.{List, [], _++_}
 use lib.ListN.{length, getD, drop}
 use Rattle.theory.specs.Finite.{tabulate, rows}
 use Rattle.theory.specs.Flows.{linkTotal}
-use Rattle.routes.specs.Search.{noLink}
-use Rattle.routes.specs.Along.{flowAlong, volumeOver, Followable}
+use Rattle.theory.specs.Study.{noLink}
+use Rattle.loading.specs.Along.{flowAlong, volumeOver, Followable}
 
 -- What the trips to destination k send over link l along its next links.
-unfoldable pub rowAlong : ℕ → List ℕ → List ℕ → List (List ℕ) → ℕ → ℕ → ℕ
-rowAlong n heads trips nexts k l = flowAlong n heads (getD nexts k []) (λ j. getD trips (k * n + j) 0) n l
+unfoldable pub rowAlong : ℕ → List (List ℕ) → List ℕ → List (List ℕ) → ℕ → ℕ → ℕ
+rowAlong n links trips nexts k l = flowAlong n links (getD nexts k []) (λ j. getD trips (k * n + j) 0) n l
 
 -- The loading that next links give: a table of p rows, each of m flows.
-unfoldable pub loadingAlong : ℕ → ℕ → ℕ → List ℕ → List ℕ → List (List ℕ) → List ℕ
-loadingAlong n m p heads trips nexts = rows p (λ k. tabulate m (rowAlong n heads trips nexts k))
+unfoldable pub loadingAlong : ℕ → List (List ℕ) → ℕ → List ℕ → List (List ℕ) → List ℕ
+loadingAlong n links p trips nexts = rows p (λ k. tabulate (length links) (rowAlong n links trips nexts k))
 
 -- The loading that volumes by destination and node give, each at its node's next link: a table of p rows, each of m flows.
 unfoldable pub volumeRows : ℕ → ℕ → ℕ → List (List ℕ) → List (List ℕ) → List ℕ
@@ -30,13 +30,13 @@ addedRows size weight y table = front size (λ i. getD table i 0 + weight * getD
 
 -- What the loading's totals ask: few nodes, links and destinations, trips from each node to each destination, walks along next links that
 -- stay in the network, and totals of at most 65,535.
-pub record AllFollowable (n m p : ℕ) (heads trips : List ℕ) (nexts : List (List ℕ)) : Type 0 where
+pub record AllFollowable (n : ℕ) (links : List (List ℕ)) (p : ℕ) (trips : List ℕ) (nexts : List (List ℕ)) : Type 0 where
   pub few-nodes : n ≤ 128
-  pub few-links : m ≤ 512
+  pub few-links : length links ≤ 512
   pub few-destinations : p ≤ 32
-  pub has-trips : p * n ≤ length trips
-  pub followable : (k : ℕ) → k < p → Followable n m heads (getD nexts k [])
-  pub small-totals : (l : ℕ) → l < m → linkTotal p m (loadingAlong n m p heads trips nexts) l ≤ 65535
+  pub has-trips : length trips ≡ p * n
+  pub followable : (k : ℕ) → k < p → Followable n links (getD nexts k [])
+  pub small-totals : (l : ℕ) → l < length links → linkTotal p (length links) (loadingAlong n links p trips nexts) l ≤ 65535
 
 -- What adding weight × a loading to a table asks: next links are links, the table has all its rows, and its numbers stay within 32 bits.
 pub record Addable (n m p : ℕ) (nexts volumes : List (List ℕ)) (weight : ℕ) (table : List ℕ) : Type 0 where

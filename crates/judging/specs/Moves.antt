@@ -9,8 +9,9 @@ use lib.Dec.{ltb, leb}
 use Rattle.theory.specs.Finite.{tabulate}
 use Rattle.theory.specs.Moves.{Shared}
 use Rattle.theory.specs.Laws.Local.{moveBy}
-use Rattle.travel.specs.Ranges.{Within, mostFlow}
-use Rattle.routes.specs.Search.{noLink}
+use Rattle.travel.specs.Links.{totalOf, loadOf}
+use Rattle.travel.specs.Ranges.{mostFlow}
+use Rattle.theory.specs.Study.{noLink}
 use Rattle.judging.specs.Loading.{volumeRows}
 
 -- There is a move where a j is chosen, or 2W is at most 1,024.
@@ -23,16 +24,16 @@ moveAlong size share j y table =
     moveBy share j (tabulate size (λ i. getD table i 0 + j * getD y i 0)) (tabulate size (λ i. 2 * getD table i 0))
 
 -- The total of link l after a move: S + j·Y, or 2S where no j is chosen.
-unfoldable pub totalAfter : ℕ → List ℕ → List ℕ → ℕ → ℕ
-totalAfter j totals loads l = cond (ltb 0 j) (getD totals l 0 + j * getD loads l 0) (2 * getD totals l 0)
+unfoldable pub totalAfter : ℕ → List (List ℕ) → ℕ → ℕ
+totalAfter j flows l = cond (ltb 0 j) (totalOf flows l + j * loadOf flows l) (2 * totalOf flows l)
 
--- What moving totals asks: few links, a j of at most 64, and arrays of totals of a table and of a loading that are in their ranges.
-pub record TotalsMovable (m j : ℕ) (totals loads : List ℕ) : Type 0 where
+-- What moving totals asks: few links, a j of at most 64, and totals of a table and of a loading that are in their ranges.
+pub record TotalsMovable (m j : ℕ) (flows : List (List ℕ)) : Type 0 where
   pub few-links : m ≤ 512
-  pub size : length totals ≡ 512
+  pub size : length (getD flows 0 []) ≡ 512
   pub small-step : j ≤ 64
-  pub totals-fit : Within m mostFlow totals
-  pub loads-fit : Within m mostFlow loads
+  pub totals-fit : (l : ℕ) → l < m → totalOf flows l ≤ mostFlow
+  pub loads-fit : (l : ℕ) → l < m → loadOf flows l ≤ mostFlow
 
 -- What a move asks: next links are links, the table has all its rows, a share and a j of which the sum is at most 1,024, flows of at most
 -- share × 65,535, and a loading of at most 65,535 on each link.

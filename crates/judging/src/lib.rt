@@ -1,9 +1,9 @@
 // Judging a table: its totals, times, next links, loading, gap and cost, and the move that a pass makes of it. Nothing here knows of
-// bytes: a study stands decoded in arrays.
+// bytes: a study stands decoded in rows.
 mod audit;
 mod gaps;
 mod judge;
-mod loading;
+mod loads;
 mod moves;
 mod pass;
 mod questions;
@@ -16,24 +16,6 @@ pub use pass::pass_table;
 pub use questions::table_refusal;
 pub use start::start_table;
 pub use turns::turn_table;
-
-// A study that passes questions 1 to 11, decoded once per call. Past the last link, destination, or destination and node, the arrays hold 0.
-pub struct Decoded {
-    pub nodes: usize,
-    pub links: usize,
-    pub destinations: usize,
-    // T of document 01
-    pub total_trips: u64,
-    pub tails: [u16; 512],
-    pub heads: [u16; 512],
-    pub free_times: [u16; 512],
-    pub rises: [u16; 512],
-    pub capacities: [u16; 512],
-    // by destination: its node
-    pub destination_nodes: [u16; 32],
-    // by destination and node, at destination * nodes + node
-    pub trips: [u16; 4096],
-}
 
 // The gap and cost of a judged table.
 pub struct Sums {
@@ -55,6 +37,16 @@ pub enum Step {
     Finest,
     Spent,
     Moved,
+}
+
+// Where a run stands before a turn: the table's share, whether the arrays that it is lent hold already what judging the table computes, a
+// guess of j, and what ends the run: a gap of at most limit × share, and the budget, if this is the last turn of it.
+pub struct Standing {
+    pub share: u32,
+    pub known: bool,
+    pub guess: u32,
+    pub limit: u64,
+    pub last: bool,
 }
 
 // One turn of a run: one judged table, its gap, the share after the turn, and whether the arrays that it was lent hold what judging the table

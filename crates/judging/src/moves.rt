@@ -1,11 +1,14 @@
 // Emptying, doubling and moving a table, and moving its totals.
 ghost use mathlib.Core.Path.{_≡_};
 ghost use Prim.Native.Nat.{ℕ, _*_, _≤_, _<_, _^_};
-ghost use lib.ListN.{length, getD};
+ghost use mathlib.Core.List.{[]};
+ghost use lib.ListN.{length, getD, set};
 ghost use Rattle.calls.specs.Calls.{shareAfter, tableAfter};
 ghost use Rattle.judging.specs.Loading.{volumeRows, front};
 ghost use Rattle.judging.specs.Moves.{canMove, moveAlong, totalAfter, TotalsMovable, Movable};
-use crate::loading::add_loadings;
+use crate::loads::add_loadings;
+use travel::LOAD;
+use travel::TOTAL;
 
 // Empties the first numbers of a table.
 pub fn empty_flows(table: &mut [u32], size: usize)
@@ -45,20 +48,20 @@ pub fn can_move(share: u32, j: u32) -> bool
 // Moves the table, where a pass that chose j does, and answers the share afterwards.
 pub fn move_table(
     table: &mut [u32],
-    n: usize,
+    nodes: usize,
     m: usize,
     p: usize,
     next: &[[u16; 128]; 32],
-    volumes: &[[u32; 128]; 32],
+    volumes: &[[u16; 128]; 32],
     share: u32,
     j: u32,
 ) -> u32
-    requires { ⌜ Movable n m p (now next) (now volumes) share j (now table) ⌝ }
-    ensures { λ r. ⌜ r ≡ shareAfter share (moveAlong (p * m) share j (volumeRows n m p (now (next .entry)) (now (volumes .entry))) (now (table .entry))) ⌝ }
-    ensures { λ r. ⌜ now (table .exit) ≡ tableAfter (now (table .entry)) (moveAlong (p * m) share j (volumeRows n m p (now (next .entry)) (now (volumes .entry))) (now (table .entry))) ⌝ }
+    requires { ⌜ Movable nodes m p (now next) (now volumes) share j (now table) ⌝ }
+    ensures { λ r. ⌜ r ≡ shareAfter share (moveAlong (p * m) share j (volumeRows nodes m p (now (next .entry)) (now (volumes .entry))) (now (table .entry))) ⌝ }
+    ensures { λ r. ⌜ now (table .exit) ≡ tableAfter (now (table .entry)) (moveAlong (p * m) share j (volumeRows nodes m p (now (next .entry)) (now (volumes .entry))) (now (table .entry))) ⌝ }
 {
     if 0 < j {
-        add_loadings(table, n, m, p, next, volumes, j);
+        add_loadings(table, nodes, m, p, next, volumes, j);
         return share + j;
     }
     if 2 * share <= 1024 {
@@ -70,20 +73,20 @@ pub fn move_table(
 
 // Moves the totals S of a table as a pass that chose j, and can move it, moves the table: it adds j × the loading's totals Y, or doubles
 // them where j is 0.
-pub fn move_totals(totals: &mut [u64; 512], loads: &[u64; 512], m: usize, j: u32)
-    requires { ⌜ TotalsMovable m j (now totals) (now loads) ⌝ }
-    ensures { λ _. ⌜ now (totals .exit) ≡ front m (totalAfter j (now (totals .entry)) (now (loads .entry))) (now (totals .entry)) ⌝ }
+pub fn move_totals(flows: &mut [[u64; 512]; 2], m: usize, j: u32)
+    requires { ⌜ TotalsMovable m j (now flows) ⌝ }
+    ensures { λ _. ⌜ now (flows .exit) ≡ set (now (flows .entry)) 0 (front m (totalAfter j (now (flows .entry))) (getD (now (flows .entry)) 0 [])) ⌝ }
 {
     let mut l: usize = 0;
     if 0 < j {
         while l < m {
-            totals[l] += j as u64 * loads[l];
+            flows[TOTAL][l] += j as u64 * flows[LOAD][l];
             l += 1;
         }
         return;
     }
     while l < m {
-        totals[l] = 2 * totals[l];
+        flows[TOTAL][l] = 2 * flows[TOTAL][l];
         l += 1;
     }
 }

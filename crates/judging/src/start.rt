@@ -1,62 +1,53 @@
 // A start.
 ghost use mathlib.Core.Path.{_≡_};
-ghost use Prim.Native.Nat.{_≤_};
-ghost use lib.ListN.{length};
-ghost use Rattle.theory.specs.Moves.{tableSize, started};
+ghost use mathlib.Core.List.{[]};
+ghost use Prim.Native.Nat.{_*_, _≤_};
+ghost use lib.ListN.{length, getD, replicate};
+ghost use Rattle.theory.specs.Moves.{started};
+ghost use Rattle.theory.specs.Study.{network};
 ghost use Rattle.calls.specs.Calls.{overwritten};
-ghost use Rattle.travel.specs.Links.{fourthPowers};
-ghost use Rattle.judging.specs.Study.{networkIn, studyOf, ReadyOf};
-ghost use Rattle.judging.specs.Judged.{Lent};
+ghost use Rattle.judging.specs.Study.{studyOf, Ready};
+ghost use Rattle.judging.specs.Judged.{Prepared, Lent};
 use crate::judge::judge;
-use crate::loading::add_loadings;
+use crate::loads::add_loadings;
 use crate::moves::empty_flows;
 
 // Start: the table becomes the loading at empty roads, whatever it held before. It is judged in arrays that are lent, and can be lent again.
-pub fn start_table<'a>(
-    n: usize,
-    m: usize,
-    p: usize,
-    tails: &'a [u16; 512],
-    heads: &'a [u16; 512],
-    free: &'a [u16; 512],
-    rises: &'a [u16; 512],
-    capacities: &'a [u16; 512],
-    nodes: &'a [u16; 32],
-    trips: &'a [u16; 4096],
-    table: &mut [u32],
+pub fn start_table(
+    nodes: usize,
+    links: &[[u16; 5]],
+    destinations: &[u16],
+    trips: &[u16],
+    chains: &[[u16; 640]; 2],
     powers: &[u64; 257],
+    table: &mut [u32],
     times: &mut [u32; 512],
     next: &mut [[u16; 128]; 32],
-    volumes: &mut [[u32; 128]; 32],
-    loads: &mut [u64; 512],
+    volumes: &mut [[u16; 128]; 32],
+    flows: &mut [[u64; 512]; 2],
 )
-    requires { ⌜ ReadyOf (studyOf n m p (now tails) (now heads) (now free) (now rises) (now capacities) (now nodes) (now trips)) ⌝ }
-    requires { ⌜ tableSize (networkIn (studyOf n m p (now tails) (now heads) (now free) (now rises) (now capacities) (now nodes) (now trips))) ≤ length (now table) ⌝ }
-    requires { ⌜ Lent m (now times) (now next) (now volumes) (now loads) × (now powers ≡ fourthPowers) ⌝ }
-    ensures { λ _. ⌜ now (table .exit) ≡ overwritten (started (networkIn (studyOf n m p (now (tails .entry)) (now (heads .entry)) (now (free .entry)) (now (rises .entry)) (now (capacities .entry)) (now (nodes .entry)) (now (trips .entry)))) .table) (now (table .entry)) ⌝ }
-    ensures { λ _. ⌜ Lent m (now (times .exit)) (now (next .exit)) (now (volumes .exit)) (now (loads .exit)) ⌝ }
+    requires { ⌜ Ready (studyOf nodes (now links) (now destinations) (now trips)) × Prepared (now links) (now chains) (now powers) ⌝ }
+    requires { ⌜ length (now destinations) * length (now links) ≤ length (now table) ⌝ }
+    requires { ⌜ Lent (length (now links)) (now times) (now next) (now volumes) (now flows) × (getD (now flows) 0 [] ≡ replicate 512 0) ⌝ }
+    ensures { λ _. ⌜ now (table .exit) ≡ overwritten (started (network nodes (now (links .entry)) (now (destinations .entry)) (now (trips .entry))) .table) (now (table .entry)) ⌝ }
+    ensures { λ _. ⌜ Lent (length (now (links .entry))) (now (times .exit)) (now (next .exit)) (now (volumes .exit)) (now (flows .exit)) × (getD (now (flows .exit)) 0 [] ≡ replicate 512 0) ⌝ }
 {
-    let empty = [0u64; 512];
+    let m = links.len();
+    let p = destinations.len();
     judge(
-        n,
-        m,
-        p,
-        tails,
-        heads,
-        free,
-        rises,
-        capacities,
         nodes,
+        links,
+        destinations,
         trips,
-        &empty,
+        chains,
+        powers,
         1,
         false,
-        powers,
         times,
         next,
         volumes,
-        loads,
+        flows,
     );
     empty_flows(table, p * m);
-    add_loadings(table, n, m, p, next, volumes, 1);
+    add_loadings(table, nodes, m, p, next, volumes, 1);
 }

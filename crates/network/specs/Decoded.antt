@@ -1,21 +1,23 @@
--- The fields of a study in arrays: the entries of a section, read from its own bytes, and 0 past them.
-use Prim.Native.Nat.{ℕ, _-_, _≤_, _<_}
-use mathlib.Core.List.{List, _++_}
+-- The fields of a study in rows: the entries of a section, read from its own bytes.
+use Prim.Native.Nat.{ℕ, _*_, _≤_, _<_}
+use mathlib.Core.List.{List}
 use mathlib.Core.Path.{_≡_}
-use lib.ListN.{length, replicate}
-use Rattle.study.specs.Fields.{tail, head, freeTime, rise, capacity, destination, trips, HasLink, HasDestination, HasTrips}
+use lib.ListN.{length, take}
+use Rattle.study.specs.Fields.{destination, trips, HasLink, HasDestination, HasTrips}
+use Rattle.study.specs.Questions.{refusal}
 use Rattle.study.specs.Sections.{nodes, links, destinations}
 use Rattle.theory.specs.Finite.{tabulate, rows}
-use Rattle.calls.specs.Study.{linkFields, destinationNodes, tripEntries}
-use Rattle.network.specs.declared.decoding.Links.{Links}
+use Rattle.calls.specs.Study.{linkRow, linkRows, destinationNodes, tripEntries}
+use Rattle.network.specs.declared.decoding.Opening.{Opening}
 
--- A list in an array of a given size, with 0 past its end.
-unfoldable pub padded : ℕ → List ℕ → List ℕ
-padded size list = list ++ replicate (size - length list) 0
+-- An array of a given size holds a list in its first places.
+pub record Holds {A : Type 0} (size : ℕ) (list array : List A) : Type 0 where
+  pub long : length array ≡ size
+  pub front : take (length list) array ≡ list
 
--- A field of the first m links.
-unfoldable pub fieldsIn : (List ℕ → ℕ → ℕ) → List ℕ → ℕ → List ℕ
-fieldsIn field linkBytes m = tabulate m (field linkBytes)
+-- The rows of the first m links.
+unfoldable pub linkRowsIn : List ℕ → ℕ → List (List ℕ)
+linkRowsIn linkBytes m = tabulate m (linkRow linkBytes)
 
 -- The nodes of the first p destinations.
 unfoldable pub nodesIn : List ℕ → ℕ → List ℕ
@@ -38,15 +40,28 @@ HasRow tripBytes n k = (j : ℕ) → j < n → HasTrips tripBytes n k j
 unfoldable pub HasRows : List ℕ → ℕ → ℕ → Type 0
 HasRows tripBytes n p = (k : ℕ) → k < p → HasRow tripBytes n k
 
--- The five fields of the first m links.
-pub record LinksDecoded (linkBytes : List ℕ) (m : ℕ) (links : Links) : Type 0 where
-  pub tails : links .tails ≡ padded 512 (fieldsIn tail linkBytes m)
-  pub heads : links .heads ≡ padded 512 (fieldsIn head linkBytes m)
-  pub freeTimes : links .«free_times» ≡ padded 512 (fieldsIn freeTime linkBytes m)
-  pub rises : links .rises ≡ padded 512 (fieldsIn rise linkBytes m)
-  pub capacities : links .capacities ≡ padded 512 (fieldsIn capacity linkBytes m)
+-- A study is of the size that questions 3 and 5 allow.
+pub record Sized (n : ℕ) (linkList : List (List ℕ)) (nodeList entries : List ℕ) : Type 0 where
+  pub few-nodes : n ≤ 128
+  pub few-links : length linkList ≤ 512
+  pub few-destinations : length nodeList ≤ 32
+  pub entries-long : length entries ≡ length nodeList * n
 
--- The counts of an accepted file.
+-- What decoding makes of a file: the number of the first of questions 1 to 5 that refuses it, or 0; n, m and p; and its rows in the first
+-- places of three arrays.
+pub record Decoded (file : List ℕ) (opening : Opening) (linkArray : List (List ℕ)) (nodeArray entryArray : List ℕ) : Type 0 where
+  pub refusal-is : opening .refusal ≡ refusal file
+  pub nodes-are : opening .nodes ≡ nodes file
+  pub links-are : opening .links ≡ links file
+  pub destinations-are : opening .destinations ≡ destinations file
+  pub links-long : length linkArray ≡ 512
+  pub nodes-long : length nodeArray ≡ 32
+  pub entries-long : length entryArray ≡ 4096
+  pub links-held : take (opening .links) linkArray ≡ linkRows file
+  pub nodes-held : take (opening .destinations) nodeArray ≡ destinationNodes file
+  pub entries-held : take (opening .destinations * opening .nodes) entryArray ≡ tripEntries file
+
+-- The counts of a file, which are within bounds.
 pub record Counts (file : List ℕ) (n m p : ℕ) : Type 0 where
   pub nodes-are : n ≡ nodes file
   pub links-are : m ≡ links file
@@ -54,14 +69,3 @@ pub record Counts (file : List ℕ) (n m p : ℕ) : Type 0 where
   pub nodes-most : n ≤ 128
   pub links-most : m ≤ 512
   pub destinations-most : p ≤ 32
-
--- The counts of an accepted file and its fields, in arrays.
-pub record Decoded (file : List ℕ) (n m p : ℕ) (tails heads freeTimes rises capacities destinationArray tripArray : List ℕ) : Type 0 where
-  pub counts : Counts file n m p
-  pub tails-are : tails ≡ padded 512 (linkFields tail file)
-  pub heads-are : heads ≡ padded 512 (linkFields head file)
-  pub freeTimes-are : freeTimes ≡ padded 512 (linkFields freeTime file)
-  pub rises-are : rises ≡ padded 512 (linkFields rise file)
-  pub capacities-are : capacities ≡ padded 512 (linkFields capacity file)
-  pub destination-nodes-are : destinationArray ≡ padded 32 (destinationNodes file)
-  pub trips-are : tripArray ≡ padded 4096 (tripEntries file)

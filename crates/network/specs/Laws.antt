@@ -3,5 +3,4 @@ pub mod Decoding
 pub mod Questions
 pub mod Bits
 pub mod Reach
-pub mod Answers
 pub mod Packing

@@ -1,6 +1,6 @@
 -- What the functions of this crate compute, over the decoded fields of a study.
 pub mod Decoded
-pub mod Networks
+pub mod Destinations
 pub mod Reach
 pub mod Written
 pub mod Laws

@@ -1,14 +1,15 @@
 -- The marks of a reach search, and what a sweep over the links makes of them.
-use Prim.Native.Nat.{ℕ, _+_, _-_, _*_, _/_, _%_, _^_, _<_, _≤_}
+use Prim.Native.Nat.{ℕ, _+_, _-_, _/_, _%_, _^_, _<_, _≤_}
 use mathlib.Core.Bool.{Bool, true, _||_, _&&_}
-use mathlib.Core.List.{List}
+use mathlib.Core.List.{List, [], _∷_}
 use mathlib.Core.Path.{_≡_}
 use lib.Dec.{eqb}
 use lib.ListN.{getD, length, replicate}
 use Rattle.theory.specs.Finite.{all, sum, tabulate}
+use Rattle.theory.specs.Network.{Network}
 use Rattle.theory.specs.Routes.{Routing, routing, IsPath}
+use Rattle.theory.specs.Study.{tail, head, network}
 use Rattle.calls.specs.Questions.{hasPath}
-use Rattle.network.specs.Networks.{toward}
 
 -- How marks are kept: node j is marked for destination k where bit k of its word is 1, and each of 128 nodes has a word of 32
 -- bits. Nothing else says it.
@@ -42,23 +43,27 @@ pub record Stranded (trips word k count : ℕ) : Type 0 where
   pub most : count ≤ 1
   pub none : eqb count 0 ≡ (eqb trips 0 || bit word k)
 
--- Every node with trips to destination k is marked for it: the test of one node, and of all.
-unfoldable pub markedTest : ℕ → ℕ → List ℕ → List ℕ → ℕ → Bool
-markedTest n k trips marks j = eqb (getD trips (k * n + j) 0) 0 || marked marks k j
+-- Every node with trips to destination k is marked for it, by the trips of all nodes to it: the test of one node, and of all.
+unfoldable pub markedTest : ℕ → List ℕ → List ℕ → ℕ → Bool
+markedTest k trips marks j = eqb (getD trips j 0) 0 || marked marks k j
 
-unfoldable pub allMarked : ℕ → ℕ → List ℕ → List ℕ → Bool
-allMarked n k trips marks = all n (markedTest n k trips marks)
+unfoldable pub allMarked : ℕ → List ℕ → List ℕ → Bool
+allMarked k trips marks = all (length trips) (markedTest k trips marks)
 
 -- How far the words of the n nodes can still grow.
 unfoldable pub room : ℕ → List ℕ → ℕ
 room n marks = sum n (λ j. 2 ^ 32 - getD marks j 0)
 
--- What question 11 asks of a node: a path to s, whatever the times, here 1 on every link.
-abbrev pub toDestination : ℕ → ℕ → List ℕ → List ℕ → ℕ → Routing
-toDestination n m tails heads s = routing (toward n m tails heads s) (replicate m 1) 0
+-- Links and one destination.
+abbrev pub toward : ℕ → List (List ℕ) → ℕ → Network
+toward nodes links s = network nodes links (s ∷ []) []
 
-abbrev pub PathTo : ℕ → ℕ → List ℕ → List ℕ → ℕ → ℕ → Type 0
-PathTo n m tails heads s j = (path : List ℕ) × IsPath (toDestination n m tails heads s) j path
+-- What question 11 asks of a node: a path to s, whatever the times, here 1 on every link.
+abbrev pub toDestination : ℕ → List (List ℕ) → ℕ → Routing
+toDestination nodes links s = routing (toward nodes links s) (replicate (length links) 1) 0
+
+abbrev pub PathTo : ℕ → List (List ℕ) → ℕ → ℕ → Type 0
+PathTo nodes links s j = (path : List ℕ) × IsPath (toDestination nodes links s) j path
 
 -- What a sweep makes of the marks at one link: its tail gets the marks of its head. The count is 0 where the tail had them.
 pub record LinkSwept (tail head : ℕ) (before after : List ℕ) (count : ℕ) : Type 0 where
@@ -69,24 +74,24 @@ pub record LinkSwept (tail head : ℕ) (before after : List ℕ) (count : ℕ) :
   pub same : count ≡ 0 → (k j : ℕ) → marked after k j ≡ marked before k j
 
 -- What the links from `first` to before `end` make of the marks before a sweep, where nodes got new marks `count` times.
-pub record Swept (n m : ℕ) (tails heads before : List ℕ) (first end : ℕ) (after : List ℕ) (count : ℕ) : Type 0 where
+pub record Swept (nodes : ℕ) (links : List (List ℕ)) (before : List ℕ) (first end : ℕ) (after : List ℕ) (count : ℕ) : Type 0 where
   pub whole : Whole after
   -- Marks stay.
   pub stays : (k j : ℕ) → marked before k j ≡ true → marked after k j ≡ true
   -- Where the nodes marked for k had a path to s, they have one still.
-  pub supports : (k s : ℕ) → ((j : ℕ) → marked before k j ≡ true → PathTo n m tails heads s j) → (j : ℕ) → marked after k j ≡ true → PathTo n m tails heads s j
+  pub supports : (k s : ℕ) → ((j : ℕ) → marked before k j ≡ true → PathTo nodes links s j) → (j : ℕ) → marked after k j ≡ true → PathTo nodes links s j
   pub most : count + first ≤ end
-  pub counts : count + room n after ≤ room n before
+  pub counts : count + room nodes after ≤ room nodes before
   -- Where no node got a mark, no link leads from an unmarked node to a marked one.
-  pub closes : count ≡ 0 → (k i : ℕ) → first ≤ i → i < end → marked after k (getD heads i 0) ≡ true → marked after k (getD tails i 0) ≡ true
+  pub closes : count ≡ 0 → (k i : ℕ) → first ≤ i → i < end → marked after k (head links i) ≡ true → marked after k (tail links i) ≡ true
 
 -- The marks between two sweeps: each destination is marked for itself, and every node marked for it has a path to it.
-pub record Searched (n m p : ℕ) (tails heads destinations marks : List ℕ) : Type 0 where
+pub record Searched (nodes : ℕ) (links : List (List ℕ)) (destinations marks : List ℕ) : Type 0 where
   pub whole : Whole marks
-  pub own : (k : ℕ) → k < p → marked marks k (getD destinations k 0) ≡ true
-  pub supported : (k j : ℕ) → marked marks k j ≡ true → PathTo n m tails heads (getD destinations k 0) j
+  pub own : (k : ℕ) → k < length destinations → marked marks k (getD destinations k 0) ≡ true
+  pub supported : (k j : ℕ) → marked marks k j ≡ true → PathTo nodes links (getD destinations k 0) j
 
 -- The marks after the last sweep: the nodes marked for a destination are those with a path to it.
-abbrev pub Found : ℕ → ℕ → ℕ → List ℕ → List ℕ → List ℕ → List ℕ → Type 0
-Found n m p tails heads destinations marks =
-    (k : ℕ) → k < p → tabulate n (marked marks k) ≡ hasPath (toward n m tails heads (getD destinations k 0)) 0
+abbrev pub Found : ℕ → List (List ℕ) → List ℕ → List ℕ → Type 0
+Found nodes links destinations marks =
+    (k : ℕ) → k < length destinations → tabulate nodes (marked marks k) ≡ hasPath (toward nodes links (getD destinations k 0)) 0

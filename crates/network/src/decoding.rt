@@ -1,75 +1,94 @@
-// The fields of a study in arrays, read once. Past a section's last entry an array holds 0.
+// The fields of a study, read once, into rows that the caller lends.
 ghost use Prim.Native.Nat.{_+_, _*_, _≤_};
 ghost use mathlib.Core.Path.{_≡_};
-ghost use Rattle.network.specs.Decoded.{HasLinks, HasDestinations, HasRows, LinksDecoded, HasRow, padded, nodesIn, entriesIn};
+ghost use lib.ListN.{length};
+ghost use Rattle.network.specs.Decoded.{Decoded, Holds, linkRowsIn, nodesIn, entriesIn, HasLinks, HasDestinations, HasRow, HasRows};
 
-// By link: tail, head, free time a, rise b, capacity c.
-pub struct Links {
-    pub tails: [u16; 512],
-    pub heads: [u16; 512],
-    pub free_times: [u16; 512],
-    pub rises: [u16; 512],
-    pub capacities: [u16; 512],
+// The number of the first of questions 1 to 5 that refuses a file, or 0, and how many nodes, links and destinations an accepted one has.
+pub struct Opening {
+    pub refusal: u8,
+    pub nodes: usize,
+    pub links: usize,
+    pub destinations: usize,
 }
 
-pub fn decode_links(links: &[u8], m: usize) -> Links
-    requires { ⌜ (m ≤ 512) × HasLinks (now links) m ⌝ }
-    ensures { λ r. ⌜ LinksDecoded (now (links .entry)) m r ⌝ }
+// Reads the fields of a file into the first links, destinations and trips of what it is lent. Of a file that one of questions 1 to 5
+// refuses every count is 0.
+pub fn decode(
+    file: &[u8],
+    links: &mut [[u16; 5]; 512],
+    destinations: &mut [u16; 32],
+    trips: &mut [u16; 4096],
+) -> Opening
+    requires { ⌜ (length (now links) ≡ 512) × (length (now destinations) ≡ 32) × (length (now trips) ≡ 4096) ⌝ }
+    ensures { λ r. ⌜ Decoded (now (file .entry)) r (now (links .exit)) (now (destinations .exit)) (now (trips .exit)) ⌝ }
 {
-    let mut fields = Links {
-        tails: [0; 512],
-        heads: [0; 512],
-        free_times: [0; 512],
-        rises: [0; 512],
-        capacities: [0; 512],
-    };
+    let refusal = study::refusal(file);
+    let n = study::node_count(file);
+    let m = study::link_count(file);
+    let p = study::destination_count(file);
+    let link_bytes = study::links(file);
+    let destination_bytes = study::destinations(file);
+    let trip_bytes = study::trips(file);
+    decode_links(link_bytes, m, links);
+    decode_destinations(destination_bytes, p, destinations);
+    decode_trips(trip_bytes, n, p, trips);
+    Opening {
+        refusal,
+        nodes: n,
+        links: m,
+        destinations: p,
+    }
+}
+
+fn decode_links(bytes: &[u8], m: usize, links: &mut [[u16; 5]; 512])
+    requires { ⌜ (m ≤ 512) × HasLinks (now bytes) m × (length (now links) ≡ 512) ⌝ }
+    ensures { λ _. ⌜ Holds 512 (linkRowsIn (now (bytes .entry)) m) (now (links .exit)) ⌝ }
+{
     let mut l = 0;
     while l < m {
-        fields.tails[l] = study::tail(links, l);
-        fields.heads[l] = study::head(links, l);
-        fields.free_times[l] = study::free_time(links, l);
-        fields.rises[l] = study::rise(links, l);
-        fields.capacities[l] = study::capacity(links, l);
+        links[l] = [
+            study::tail(bytes, l),
+            study::head(bytes, l),
+            study::free_time(bytes, l),
+            study::rise(bytes, l),
+            study::capacity(bytes, l),
+        ];
         l += 1;
     }
-    fields
 }
 
-pub fn decode_destinations(destinations: &[u8], p: usize) -> [u16; 32]
-    requires { ⌜ (p ≤ 32) × HasDestinations (now destinations) p ⌝ }
-    ensures { λ r. ⌜ r ≡ padded 32 (nodesIn (now (destinations .entry)) p) ⌝ }
+fn decode_destinations(bytes: &[u8], p: usize, destinations: &mut [u16; 32])
+    requires { ⌜ (p ≤ 32) × HasDestinations (now bytes) p × (length (now destinations) ≡ 32) ⌝ }
+    ensures { λ _. ⌜ Holds 32 (nodesIn (now (bytes .entry)) p) (now (destinations .exit)) ⌝ }
 {
-    let mut nodes = [0; 32];
     let mut k = 0;
     while k < p {
-        nodes[k] = study::destination(destinations, k);
+        destinations[k] = study::destination(bytes, k);
         k += 1;
     }
-    nodes
 }
 
 // The trips from node j to destination k are entry k * n + j.
-pub fn decode_trips(trips: &[u8], p: usize, n: usize) -> [u16; 4096]
-    requires { ⌜ (p * n ≤ 4096) × HasRows (now trips) n p ⌝ }
-    ensures { λ r. ⌜ r ≡ padded 4096 (entriesIn (now (trips .entry)) n p) ⌝ }
+fn decode_trips(bytes: &[u8], n: usize, p: usize, trips: &mut [u16; 4096])
+    requires { ⌜ (p * n ≤ 4096) × HasRows (now bytes) n p × (length (now trips) ≡ 4096) ⌝ }
+    ensures { λ _. ⌜ Holds 4096 (entriesIn (now (bytes .entry)) n p) (now (trips .exit)) ⌝ }
 {
-    let mut entries = [0; 4096];
     let mut k = 0;
     while k < p {
-        decode_row(trips, n, k, &mut entries);
+        decode_row(bytes, n, k, trips);
         k += 1;
     }
-    entries
 }
 
 // The trips to destination k, after those to the destinations before it.
-fn decode_row(trips: &[u8], n: usize, k: usize, entries: &mut [u16; 4096])
-    requires { ⌜ (k * n + n ≤ 4096) × HasRow (now trips) n k × (now entries ≡ padded 4096 (entriesIn (now trips) n k)) ⌝ }
-    ensures { λ r. ⌜ now (entries .exit) ≡ padded 4096 (entriesIn (now (trips .entry)) n (k + 1)) ⌝ }
+fn decode_row(bytes: &[u8], n: usize, k: usize, trips: &mut [u16; 4096])
+    requires { ⌜ (k * n + n ≤ 4096) × HasRow (now bytes) n k × Holds 4096 (entriesIn (now bytes) n k) (now trips) ⌝ }
+    ensures { λ _. ⌜ Holds 4096 (entriesIn (now (bytes .entry)) n (k + 1)) (now (trips .exit)) ⌝ }
 {
     let mut j = 0;
     while j < n {
-        entries[k * n + j] = study::trips_from(trips, n, k, j);
+        trips[k * n + j] = study::trips_from(bytes, n, k, j);
         j += 1;
     }
 }

@@ -9,9 +9,7 @@ mod reach;
 
 pub use checking::check;
 pub use checking::study_refusal;
-pub use decoding::Links;
-pub use decoding::decode_destinations;
-pub use decoding::decode_links;
-pub use decoding::decode_trips;
+pub use decoding::Opening;
+pub use decoding::decode;
 pub use packing::pack;
 pub use questions::total_trips;

@@ -1,26 +1,30 @@
-// Document 01, 'The questions, in order': questions 6 to 11, one function each, over the decoded fields.
-ghost use Prim.Native.Nat.{_≤_};
+// Document 01, 'The questions, in order': questions 6 to 10, one function each. Question 11 is the reach search.
+ghost use Prim.Native.Nat.{_*_, _≤_};
 ghost use mathlib.Core.Bool.{_&&_, not, true};
 ghost use mathlib.Core.List.{[]};
 ghost use mathlib.Core.Path.{_≡_};
 ghost use lib.Dec.{eqb, leb, ltb};
+ghost use lib.ListN.{length, getD};
 ghost use Rattle.study.specs.Questions.{within as withinOf};
-ghost use Rattle.theory.specs.Network.{totalTrips};
-ghost use Rattle.calls.specs.Questions.{endsFit, timesFit, destinationsFit, noTripsWithin, totalFits, tripsReach};
-ghost use Rattle.network.specs.Networks.{roads, demand, served, allNodes, allAscending};
+ghost use Rattle.theory.specs.Finite.{sum};
+ghost use Rattle.theory.specs.Study.{network};
+ghost use Rattle.calls.specs.Questions.{endsFit, timesFit, destinationsFit, noTripsWithin};
+ghost use Rattle.network.specs.Destinations.{allNodes, allAscending};
 use crate::numbers::amount;
 use crate::numbers::node;
-use crate::reach::reached;
-use crate::reach::trips_marked;
+use theory::CAPACITY;
+use theory::FREE_TIME;
+use theory::HEAD;
+use theory::RISE;
+use theory::TAIL;
 
 // 6. Are each link's tail and head below n and different?
-pub fn ends_fit(n: usize, m: usize, tails: &[u16; 512], heads: &[u16; 512]) -> bool
-    requires { ⌜ m ≤ 512 ⌝ }
-    ensures { λ r. ⌜ r ≡ endsFit (roads n m (now (tails .entry)) (now (heads .entry))) ⌝ }
+pub fn ends_fit(nodes: usize, links: &[[u16; 5]]) -> bool
+    ensures { λ r. ⌜ r ≡ endsFit (network nodes (now (links .entry)) [] []) ⌝ }
 {
     let mut l = 0;
-    while l < m {
-        if !link_ends_fit(n, node(tails[l]), node(heads[l])) {
+    while l < links.len() {
+        if !link_ends_fit(nodes, node(links[l][TAIL]), node(links[l][HEAD])) {
             return false;
         }
         l += 1;
@@ -35,18 +39,12 @@ fn link_ends_fit(n: usize, tail: usize, head: usize) -> bool
 }
 
 // 7. Are a 1 to 16,383, b 0 to 16,383, c at least 1 on every link?
-pub fn times_fit(
-    m: usize,
-    free_times: &[u16; 512],
-    rises: &[u16; 512],
-    capacities: &[u16; 512],
-) -> bool
-    requires { ⌜ m ≤ 512 ⌝ }
-    ensures { λ r. ⌜ r ≡ timesFit (now («free_times» .entry)) (now (rises .entry)) (now (capacities .entry)) m ⌝ }
+pub fn times_fit(links: &[[u16; 5]]) -> bool
+    ensures { λ r. ⌜ r ≡ timesFit (now (links .entry)) ⌝ }
 {
     let mut l = 0;
-    while l < m {
-        if !link_times_fit(free_times[l], rises[l], capacities[l]) {
+    while l < links.len() {
+        if !link_times_fit(links[l][FREE_TIME], links[l][RISE], links[l][CAPACITY]) {
             return false;
         }
         l += 1;
@@ -69,23 +67,21 @@ fn within(least: u16, most: u16, x: u16) -> bool
 }
 
 // 8. Are the destinations below n and strictly ascending?
-pub fn destinations_fit(n: usize, p: usize, destinations: &[u16; 32]) -> bool
-    requires { ⌜ p ≤ 32 ⌝ }
-    ensures { λ r. ⌜ r ≡ destinationsFit (demand n p (now (destinations .entry)) []) ⌝ }
+pub fn destinations_fit(nodes: usize, destinations: &[u16]) -> bool
+    ensures { λ r. ⌜ r ≡ destinationsFit (network nodes [] (now (destinations .entry)) []) ⌝ }
 {
-    if !destinations_are_nodes(n, p, destinations) {
+    if !destinations_are_nodes(nodes, destinations) {
         return false;
     }
-    destinations_ascend(p, destinations)
+    destinations_ascend(destinations)
 }
 
-fn destinations_are_nodes(n: usize, p: usize, destinations: &[u16; 32]) -> bool
-    requires { ⌜ p ≤ 32 ⌝ }
-    ensures { λ r. ⌜ r ≡ allNodes n p (now (destinations .entry)) ⌝ }
+fn destinations_are_nodes(nodes: usize, destinations: &[u16]) -> bool
+    ensures { λ r. ⌜ r ≡ allNodes nodes (now (destinations .entry)) ⌝ }
 {
     let mut k = 0;
-    while k < p {
-        if n <= node(destinations[k]) {
+    while k < destinations.len() {
+        if nodes <= node(destinations[k]) {
             return false;
         }
         k += 1;
@@ -93,12 +89,11 @@ fn destinations_are_nodes(n: usize, p: usize, destinations: &[u16; 32]) -> bool
     true
 }
 
-fn destinations_ascend(p: usize, destinations: &[u16; 32]) -> bool
-    requires { ⌜ p ≤ 32 ⌝ }
-    ensures { λ r. ⌜ r ≡ allAscending p (now (destinations .entry)) ⌝ }
+fn destinations_ascend(destinations: &[u16]) -> bool
+    ensures { λ r. ⌜ r ≡ allAscending (now (destinations .entry)) ⌝ }
 {
     let mut k = 0;
-    while k + 1 < p {
+    while k + 1 < destinations.len() {
         if destinations[k + 1] <= destinations[k] {
             return false;
         }
@@ -108,14 +103,15 @@ fn destinations_ascend(p: usize, destinations: &[u16; 32]) -> bool
 }
 
 // 9. Is D(s,s) zero for every destination?
-pub fn no_trips_within(n: usize, p: usize, destinations: &[u16; 32], trips: &[u16; 4096]) -> bool
-    requires { ⌜ (n ≤ 128) × (p ≤ 32) × (destinationsFit (demand n p (now destinations) []) ≡ true) ⌝ }
-    ensures { λ r. ⌜ r ≡ noTripsWithin (demand n p (now (destinations .entry)) (now (trips .entry))) ⌝ }
+pub fn no_trips_within(nodes: usize, destinations: &[u16], trips: &[u16]) -> bool
+    requires { ⌜ length (now trips) ≡ length (now destinations) * nodes ⌝ }
+    requires { ⌜ destinationsFit (network nodes [] (now destinations) []) ≡ true ⌝ }
+    ensures { λ r. ⌜ r ≡ noTripsWithin (network nodes [] (now (destinations .entry)) (now (trips .entry))) ⌝ }
 {
     let mut k = 0;
-    while k < p {
+    while k < destinations.len() {
         let s = node(destinations[k]);
-        if trips[k * n + s] != 0 {
+        if trips[k * nodes + s] != 0 {
             return false;
         }
         k += 1;
@@ -123,15 +119,14 @@ pub fn no_trips_within(n: usize, p: usize, destinations: &[u16; 32], trips: &[u1
     true
 }
 
-// T of document 01.
-pub fn total_trips(n: usize, p: usize, trips: &[u16; 4096]) -> u64
-    requires { ⌜ (n ≤ 128) × (p ≤ 32) ⌝ }
-    ensures { λ r. ⌜ r ≡ totalTrips (demand n p [] (now (trips .entry))) ⌝ }
+// T of document 01: the sum of the trips of all nodes to all destinations.
+pub fn total_trips(trips: &[u16]) -> u64
+    requires { ⌜ length (now trips) ≤ 4096 ⌝ }
+    ensures { λ r. ⌜ r ≡ sum (length (now (trips .entry))) (λ i. getD (now (trips .entry)) i 0) ⌝ }
 {
-    let entries = p * n;
     let mut total = 0;
     let mut i = 0;
-    while i < entries {
+    while i < trips.len() {
         total += amount(trips[i]);
         i += 1;
     }
@@ -139,35 +134,9 @@ pub fn total_trips(n: usize, p: usize, trips: &[u16; 4096]) -> u64
 }
 
 // 10. Is the total of trips, T, at most 65,535?
-pub fn total_fits(n: usize, p: usize, trips: &[u16; 4096]) -> bool
-    requires { ⌜ (n ≤ 128) × (p ≤ 32) ⌝ }
-    ensures { λ r. ⌜ r ≡ totalFits (demand n p [] (now (trips .entry))) ⌝ }
+pub fn total_fits(trips: &[u16]) -> bool
+    requires { ⌜ length (now trips) ≤ 4096 ⌝ }
+    ensures { λ r. ⌜ r ≡ leb (sum (length (now (trips .entry))) (λ i. getD (now (trips .entry)) i 0)) 65535 ⌝ }
 {
-    total_trips(n, p, trips) <= 65535
-}
-
-// 11. Does every node with trips to s have a path to s?
-pub fn trips_reach(
-    n: usize,
-    m: usize,
-    p: usize,
-    tails: &[u16; 512],
-    heads: &[u16; 512],
-    destinations: &[u16; 32],
-    trips: &[u16; 4096],
-) -> bool
-    requires { ⌜ (n ≤ 128) × (m ≤ 512) × (p ≤ 32) ⌝ }
-    requires { ⌜ endsFit (roads n m (now tails) (now heads)) ≡ true ⌝ }
-    requires { ⌜ destinationsFit (demand n p (now destinations) []) ≡ true ⌝ }
-    ensures { λ r. ⌜ r ≡ tripsReach (served n m p (now (tails .entry)) (now (heads .entry)) (now (destinations .entry)) (now (trips .entry))) ⌝ }
-{
-    let marks = reached(n, m, p, tails, heads, destinations);
-    let mut k = 0;
-    while k < p {
-        if !trips_marked(n, k, trips, &marks) {
-            return false;
-        }
-        k += 1;
-    }
-    true
+    total_trips(trips) <= 65535
 }

@@ -1,48 +1,65 @@
-// The search for the nodes that have a path to each destination, all destinations at once. Only this
-// file knows how marks are kept: bit k of a node's word is its mark for destination k.
-ghost use Prim.Native.Nat.{_+_, _*_, _<_, _≤_};
+// Question 11: the search for the nodes that have a path to each destination, all destinations at once. Only this file knows how marks are
+// kept: bit k of a node's word is its mark for destination k.
+ghost use Prim.Native.Nat.{_<_, _≤_};
 ghost use mathlib.Core.Bool.{true};
 ghost use mathlib.Core.List.{[]};
 ghost use mathlib.Core.Path.{_≡_};
-ghost use Rattle.calls.specs.Questions.{endsFit, destinationsFit};
-ghost use Rattle.network.specs.Networks.{roads, demand};
+ghost use lib.ListN.{length};
+ghost use Rattle.theory.specs.Study.{network};
+ghost use Rattle.calls.specs.Questions.{endsFit, destinationsFit, tripsReach};
+ghost use Rattle.network.specs.Decoded.{Sized};
 ghost use Rattle.network.specs.Reach.{Whole, Marks, Started, Stranded, Found, allMarked, LinkSwept, Swept};
 use crate::numbers::node;
+use theory::HEAD;
+use theory::TAIL;
 
-// Which of the n nodes have a path to each of the p destinations.
-pub fn reached(
-    n: usize,
-    m: usize,
-    p: usize,
-    tails: &[u16; 512],
-    heads: &[u16; 512],
-    destinations: &[u16; 32],
-) -> [u32; 128]
-    requires { ⌜ (n ≤ 128) × (m ≤ 512) × (p ≤ 32) ⌝ }
-    requires { ⌜ endsFit (roads n m (now tails) (now heads)) ≡ true ⌝ }
-    requires { ⌜ destinationsFit (demand n p (now destinations) []) ≡ true ⌝ }
-    ensures { λ r. ⌜ Found n m p (now (tails .entry)) (now (heads .entry)) (now (destinations .entry)) r ⌝ }
+// 11. Does every node with trips to s have a path to s?
+pub fn trips_reach(nodes: usize, links: &[[u16; 5]], destinations: &[u16], trips: &[u16]) -> bool
+    requires { ⌜ Sized nodes (now links) (now destinations) (now trips) ⌝ }
+    requires { ⌜ endsFit (network nodes (now links) [] []) ≡ true ⌝ }
+    requires { ⌜ destinationsFit (network nodes [] (now destinations) []) ≡ true ⌝ }
+    ensures { λ r. ⌜ r ≡ tripsReach (network nodes (now (links .entry)) (now (destinations .entry)) (now (trips .entry))) ⌝ }
+{
+    let marks = reached(nodes, links, destinations);
+    let mut k = 0;
+    while k < destinations.len() {
+        let first = k * nodes;
+        if !trips_marked(k, &trips[first..first + nodes], &marks) {
+            return false;
+        }
+        k += 1;
+    }
+    true
+}
+
+// Which of the nodes have a path to each of the destinations.
+fn reached(nodes: usize, links: &[[u16; 5]], destinations: &[u16]) -> [u32; 128]
+    requires { ⌜ (nodes ≤ 128) × (length (now links) ≤ 512) × (length (now destinations) ≤ 32) ⌝ }
+    requires { ⌜ endsFit (network nodes (now links) [] []) ≡ true ⌝ }
+    requires { ⌜ destinationsFit (network nodes [] (now destinations) []) ≡ true ⌝ }
+    ensures { λ r. ⌜ Found nodes (now (links .entry)) (now (destinations .entry)) r ⌝ }
 {
     let mut marks = [0u32; 128];
-    mark_destinations(n, p, destinations, &mut marks);
+    mark_destinations(nodes, destinations, &mut marks);
     loop {
-        if sweep_up(n, m, tails, heads, &mut marks) == 0 {
+        if sweep_up(nodes, links, &mut marks) == 0 {
             return marks;
         }
-        if sweep_down(n, m, tails, heads, &mut marks) == 0 {
+        if sweep_down(nodes, links, &mut marks) == 0 {
             return marks;
         }
     }
 }
 
 // Each destination marks its own node.
-fn mark_destinations(n: usize, p: usize, destinations: &[u16; 32], marks: &mut [u32; 128])
-    requires { ⌜ (n ≤ 128) × (p ≤ 32) × (destinationsFit (demand n p (now destinations) []) ≡ true) ⌝ }
+fn mark_destinations(nodes: usize, destinations: &[u16], marks: &mut [u32; 128])
+    requires { ⌜ (nodes ≤ 128) × (length (now destinations) ≤ 32) ⌝ }
+    requires { ⌜ destinationsFit (network nodes [] (now destinations) []) ≡ true ⌝ }
     requires { ⌜ Started (now destinations) 0 (now marks) ⌝ }
-    ensures { λ r. ⌜ Started (now (destinations .entry)) p (now (marks .exit)) ⌝ }
+    ensures { λ r. ⌜ Started (now (destinations .entry)) (length (now (destinations .entry))) (now (marks .exit)) ⌝ }
 {
     let mut k = 0;
-    while k < p {
+    while k < destinations.len() {
         mark(k, node(destinations[k]), marks);
         k += 1;
     }
@@ -58,41 +75,29 @@ fn mark(k: usize, j: usize, marks: &mut [u32; 128])
 
 // One sweep over the links from the first to the last: a link's tail gets its head's marks. How many
 // times a node got new marks.
-fn sweep_up(
-    n: usize,
-    m: usize,
-    tails: &[u16; 512],
-    heads: &[u16; 512],
-    marks: &mut [u32; 128],
-) -> usize
-    requires { ⌜ (n ≤ 128) × (m ≤ 512) × (endsFit (roads n m (now tails) (now heads)) ≡ true) × Whole (now marks) ⌝ }
-    ensures { λ r. ⌜ Swept n m (now (tails .entry)) (now (heads .entry)) (now (marks .entry)) 0 m (now (marks .exit)) r ⌝ }
+fn sweep_up(nodes: usize, links: &[[u16; 5]], marks: &mut [u32; 128]) -> usize
+    requires { ⌜ (nodes ≤ 128) × (endsFit (network nodes (now links) [] []) ≡ true) × Whole (now marks) ⌝ }
+    ensures { λ r. ⌜ Swept nodes (now (links .entry)) (now (marks .entry)) 0 (length (now (links .entry))) (now (marks .exit)) r ⌝ }
 {
     let mut count = 0;
     let mut l = 0;
-    while l < m {
-        count += mark_tail(node(tails[l]), node(heads[l]), marks);
+    while l < links.len() {
+        count += mark_tail(node(links[l][TAIL]), node(links[l][HEAD]), marks);
         l += 1;
     }
     count
 }
 
 // The same from the last link to the first.
-fn sweep_down(
-    n: usize,
-    m: usize,
-    tails: &[u16; 512],
-    heads: &[u16; 512],
-    marks: &mut [u32; 128],
-) -> usize
-    requires { ⌜ (n ≤ 128) × (m ≤ 512) × (endsFit (roads n m (now tails) (now heads)) ≡ true) × Whole (now marks) ⌝ }
-    ensures { λ r. ⌜ Swept n m (now (tails .entry)) (now (heads .entry)) (now (marks .entry)) 0 m (now (marks .exit)) r ⌝ }
+fn sweep_down(nodes: usize, links: &[[u16; 5]], marks: &mut [u32; 128]) -> usize
+    requires { ⌜ (nodes ≤ 128) × (endsFit (network nodes (now links) [] []) ≡ true) × Whole (now marks) ⌝ }
+    ensures { λ r. ⌜ Swept nodes (now (links .entry)) (now (marks .entry)) 0 (length (now (links .entry))) (now (marks .exit)) r ⌝ }
 {
     let mut count = 0;
-    let mut l = m;
+    let mut l = links.len();
     while 0 < l {
         l -= 1;
-        count += mark_tail(node(tails[l]), node(heads[l]), marks);
+        count += mark_tail(node(links[l][TAIL]), node(links[l][HEAD]), marks);
     }
     count
 }
@@ -111,14 +116,14 @@ fn mark_tail(tail: usize, head: usize, marks: &mut [u32; 128]) -> usize
 
 // Whether every node with trips to destination k is marked for it. Counts the others, without an
 // early return: the compiler vectorises this loop.
-pub fn trips_marked(n: usize, k: usize, trips: &[u16; 4096], marks: &[u32; 128]) -> bool
-    requires { ⌜ (n ≤ 128) × (k < 32) × (k * n + n ≤ 4096) ⌝ }
-    ensures { λ r. ⌜ r ≡ allMarked n k (now (trips .entry)) (now (marks .entry)) ⌝ }
+fn trips_marked(k: usize, trips: &[u16], marks: &[u32; 128]) -> bool
+    requires { ⌜ (length (now trips) ≤ 128) × (k < 32) ⌝ }
+    ensures { λ r. ⌜ r ≡ allMarked k (now (trips .entry)) (now (marks .entry)) ⌝ }
 {
     let mut count: u32 = 0;
     let mut j = 0;
-    while j < n {
-        count += stranded(trips[k * n + j], marks[j], k);
+    while j < trips.len() {
+        count += stranded(trips[j], marks[j], k);
         j += 1;
     }
     count == 0

@@ -1,39 +1,43 @@
-// Lines on standard output.
-ghost use Prim.Native.Nat.{_<_};
-use libc::STDOUT_FILENO;
+// Lines of output.
+ghost use Prim.Native.Nat.{_≤_, _<_};
+ghost use lib.ListN.{length};
+use case_lines::label;
+use case_lines::number_within;
+use case_lines::print;
+use case_lines::text;
 
-pub fn text(words: &[u8]) {
-    io::write_all(STDOUT_FILENO, words);
-}
-
-pub fn number(words: &[u8], value: u64) {
-    text(words);
-    io::print_decimal(STDOUT_FILENO, value);
+// Reads the size of the output, which is answered, and the label.
+pub fn pack(file: &[u8], output: &mut [u8]) -> usize
+    ensures { λ r. ⌜ r ≤ length (now (output .entry)) ⌝ }
+{
+    let room = number_within(output.len());
+    label();
+    answers(file, &mut output[..room]);
+    room
 }
 
 // What check and pack answer of a file, and a digest of the output that pack was lent.
-pub fn answers(label: &[u8], file: &[u8], output: &mut [u8]) {
+fn answers(file: &[u8], output: &mut [u8]) {
     fill(output);
-    text(label);
-    number(b": check ", network::check(file) as u64);
-    number(b", pack ", network::pack(file, output) as u64);
-    number(b", output ", digest(output));
-    text(b"\n");
+    let check = network::check(file) as u64;
+    let pack = network::pack(file, output) as u64;
+    print(
+        b": check #, pack #, output #\n",
+        &[check, pack, digest(output)],
+    );
 }
 
-// A line with every byte of a list.
-pub fn listing(words: &[u8], bytes: &[u8]) {
-    text(words);
-    let mut i = 0;
-    while i < bytes.len() {
-        number(b" ", wide(bytes[i]));
-        i += 1;
+// Reads the label of a line with every byte of the output.
+pub fn show(output: &[u8]) {
+    label();
+    for i in 0..output.len() {
+        print(b" #", &[wide(output[i])]);
     }
     text(b"\n");
 }
 
 // Every byte of the output is 170 before a pack.
-pub fn fill(output: &mut [u8]) {
+fn fill(output: &mut [u8]) {
     let mut i = 0;
     while i < output.len() {
         output[i] = 170;
@@ -45,10 +49,8 @@ fn digest(bytes: &[u8]) -> u64
     ensures { λ r. ⌜ r < 1000003 ⌝ }
 {
     let mut sum = 0;
-    let mut i = 0;
-    while i < bytes.len() {
+    for i in 0..bytes.len() {
         sum = (sum * 31 + wide(bytes[i]) + 1) % 1000003;
-        i += 1;
     }
     sum
 }

@@ -53,24 +53,14 @@ fn write_accepted(file: &[u8], table: &[u32], answer: RunAnswer, out: &mut [u8])
     requires { ⌜ (tableNumber (now file) (now table) (answer .share) ≡ 0) × (32768 ≤ length (now out)) ⌝ }
     ensures { λ r. ⌜ Written (now (out .entry)) (listed (now (file .entry)) (now (table .entry)) answer) (now (out .exit)) r ⌝ }
 {
-    let m = study::link_count(file);
-    let p = study::destination_count(file);
-    let links = network::decode_links(study::links(file), m);
-    let free = links.free_times;
-    let rises = links.rises;
-    let capacities = links.capacities;
-    let flows = travel::totals(table, p, m);
+    let mut rows = [[0u16, 0, 0, 0, 0]; 512];
+    let mut places = [0u16; 32];
+    let mut entries = [0u16; 4096];
+    let opening = network::decode(file, &mut rows, &mut places, &mut entries);
+    let m = opening.links;
+    let flows = travel::totals(table, opening.destinations, m);
     let powers = travel::fourth_powers();
     let mut times = [0u32; 512];
-    travel::times(
-        &free,
-        &rises,
-        &capacities,
-        &flows,
-        m,
-        answer.share,
-        &powers,
-        &mut times,
-    );
+    travel::times(&rows[..m], &flows, answer.share, &powers, &mut times);
     listing::write_listing(answer, m, &flows, &times, out)
 }

@@ -1,56 +1,61 @@
--- The search for a node's next links, to eight destinations side by side, along the chain of the links out of it.
-use Prim.Native.Nat.{ℕ, _+_, _≤_, _<_}
+-- A node's next link to one destination: the first fitting link, along the chain of the links out of the node. The links are looked at first by the
+-- last 16 bits of times and marks, for eight destinations side by side.
+use Prim.Native.Nat.{ℕ, _+_, _-_, _<_, _%_}
 use mathlib.Core.Path.{_≡_}
 use mathlib.Core.Bool.{false}
-use mathlib.Core.List.{List}
+use mathlib.Core.List.{List, []}
 use lib.ListN.{length, getD}
 use Rattle.theory.specs.Finite.{first}
 use Rattle.theory.specs.Routes.{distances, fitsNext}
-use Rattle.routes.specs.Search.{routingFrom, unreached, noLink, linkMark}
-use Rattle.routes.specs.Chains.{Passed}
-use Rattle.routes.specs.Rows.{Worked}
+use Rattle.theory.specs.Study.{head, noLink}
+use Rattle.search.specs.Search.{routingFrom}
+use Rattle.search.specs.Chains.{linkMark, Passed}
+use Rattle.search.specs.Rows.{Worked}
 
--- Of the links that fit the first is kept: r is the link that was there, or else link l where what it gives is the node's own mark.
-pub record Picked (old given own l r : ℕ) : Type 0 where
-  pub kept : (old ≡ noLink → ⊥) → r ≡ old
+-- The first link that fits as the next link of node j to destination s, as it is kept.
+abbrev pub firstFitting : ℕ → List (List ℕ) → List ℕ → ℕ → ℕ → ℕ
+firstFitting nodes links times s j =
+    linkMark (first (length links) (fitsNext (routingFrom nodes links times s) (distances (routingFrom nodes links times s)) j))
+
+-- Link l is a link out of node j, or none, and no link out of node j before it fits.
+abbrev pub Unfit : ℕ → List (List ℕ) → List ℕ → ℕ → ℕ → ℕ → Type 0
+Unfit nodes links times s j l =
+    Passed links 0 j (λ i. fitsNext (routingFrom nodes links times s) (distances (routingFrom nodes links times s)) j i ≡ false) l
+
+-- The last 16 bits of the marks of the nodes, to the destinations of a group.
+pub record Lows (nodes : ℕ) (marks lows : List (List ℕ)) : Type 0 where
+  pub size : length lows ≡ 128
+  pub each : (j : ℕ) → j < nodes → (i : ℕ) → i < 8 → getD (getD lows j []) i 0 ≡ getD (getD marks j []) i 0 % 65536
+
+-- Of the links that the last 16 bits do not rule out the first is kept: r is the link that was there, or else link l where what it gives is the
+-- node's own.
+pub record Kept (old given own l r : ℕ) : Type 0 where
+  pub stays : (old ≡ noLink → ⊥) → r ≡ old
   pub took : old ≡ noLink → given ≡ own → r ≡ l
   pub none : old ≡ noLink → (given ≡ own → ⊥) → r ≡ noLink
 
--- No mark of a row is above unreached.
-abbrev pub RowMarked : List ℕ → Type 0
-RowMarked row = (i : ℕ) → i < 8 → getD row i 0 ≤ unreached
+-- Link l is kept, where it is not ruled out, for each of the first k destinations that had none.
+abbrev pub RowKept : List ℕ → List ℕ → ℕ → ℕ → List ℕ → ℕ → List ℕ → Type 0
+RowKept own ahead time l row₀ k row =
+    Worked (λ i r. Kept (getD row₀ i 0) ((getD ahead i 0 + time) % 65536) (getD own i 0) l r) row₀ k row
 
--- Link l is taken, where it fits, for each destination that had none.
-abbrev pub Taken : List ℕ → List ℕ → ℕ → ℕ → List ℕ → ℕ → List ℕ → Type 0
-Taken own ahead time l row₀ k row = Worked (λ i v. Picked (getD row₀ i 0) (getD ahead i 0 + time) (getD own i 0) l v) row₀ k row
+-- Link l is a link out of node j, or none, and the last 16 bits rule out each link out of node j before it, for destination i of a group: its time
+-- plus its head's mark differs from the node's own mark.
+abbrev pub RuledOut : List (List ℕ) → List ℕ → List (List ℕ) → ℕ → ℕ → ℕ → Type 0
+RuledOut links times lows j i l =
+    Passed links 0 j (λ a. (getD (getD lows (head links a) []) i 0 + getD times a 0) % 65536 ≡ getD (getD lows j []) i 0 → ⊥) l
 
--- Where k of the first k destinations have a link, each of them has one.
-pub record AllLinked (row : List ℕ) (k r : ℕ) : Type 0 where
-  pub few : r ≤ k
-  pub each : r ≡ k → (i : ℕ) → i < k → getD row i 0 ≡ noLink → ⊥
+-- The walk along the links out of node j is at link l, with link r kept, or none.
+pub record Candidate (links : List (List ℕ)) (times : List ℕ) (lows : List (List ℕ)) (j i l r : ℕ) : Type 0 where
+  pub none-yet : r ≡ noLink → RuledOut links times lows j i l
+  pub found : (r ≡ noLink → ⊥) → RuledOut links times lows j i r
 
--- The links out of node j that are passed do not fit.
-abbrev pub Unfit : ℕ → ℕ → List ℕ → List ℕ → List ℕ → ℕ → ℕ → ℕ → Type 0
-Unfit n m tails heads times s j l =
-    Passed m tails j
-    (λ i. fitsNext (routingFrom n m tails heads times s) (distances (routingFrom n m tails heads times s)) j i ≡ false) l
-
--- The first link that fits as the next link of node j, as a mark.
-abbrev pub firstFitting : ℕ → ℕ → List ℕ → List ℕ → List ℕ → ℕ → ℕ → ℕ
-firstFitting n m tails heads times s j =
-    linkMark (first m (fitsNext (routingFrom n m tails heads times s) (distances (routingFrom n m tails heads times s)) j))
-
--- The first fitting links of node j to the destinations of a group.
-abbrev pub EachFirstFitting : ℕ → ℕ → List ℕ → List ℕ → List ℕ → List ℕ → ℕ → List ℕ → Type 0
-EachFirstFitting n m tails heads times group j row = (i : ℕ) → i < 8 → getD row i 0 ≡ firstFitting n m tails heads times (getD group i 0) j
-
--- The search of node j for a next link is at link l, with r the link found.
-pub record Seeking (n m : ℕ) (tails heads times : List ℕ) (s j l r : ℕ) : Type 0 where
-  pub none-yet : r ≡ noLink → Unfit n m tails heads times s j l
-  pub found : (r ≡ noLink → ⊥) → r ≡ firstFitting n m tails heads times s j
-
--- The searches to the destinations of a group are at link l, with the links found in a row.
-pub record EachSeeking (n m : ℕ) (tails heads times group : List ℕ) (j l : ℕ) (row : List ℕ) : Type 0 where
+-- The same for each destination of a group.
+pub record EachCandidate (links : List (List ℕ)) (times : List ℕ) (lows : List (List ℕ)) (j l : ℕ) (row : List ℕ) : Type 0 where
   pub size : length row ≡ 8
-  pub chain : Passed m tails j (λ i. i ≡ i) l
-  pub each : (i : ℕ) → i < 8 → Seeking n m tails heads times (getD group i 0) j l (getD row i 0)
+  pub chain : Passed links 0 j (λ a. a ≡ a) l
+  pub each : (i : ℕ) → i < 8 → Candidate links times lows j i l (getD row i 0)
+
+-- The links kept for the destinations of a group, when the walk is over.
+abbrev pub Candidates : List (List ℕ) → List ℕ → List (List ℕ) → ℕ → List ℕ → Type 0
+Candidates links times lows j row = (i : ℕ) → i < 8 → RuledOut links times lows j i (getD row i 0)

@@ -1,44 +1,46 @@
-// Lines on standard output.
-use libc::STDOUT_FILENO;
+// What the file layer answers of a file, in one line.
+use case_lines::label;
+use case_lines::print;
+use case_lines::text;
 
-pub fn text(words: &[u8]) {
-    io::write_all(STDOUT_FILENO, words);
-}
-
-pub fn number(words: &[u8], value: u64) {
-    text(words);
-    io::print_decimal(STDOUT_FILENO, value);
-}
-
-// What the file layer answers of a file.
-pub fn answers(label: &[u8], file: &[u8]) {
-    text(label);
-    let refusal = study::refusal(file);
-    if refusal == 0 {
-        text(b": accepted");
-    } else {
-        number(b": refused ", refusal as u64);
-    }
-    number(b", n ", study::node_count(file) as u64);
-    number(b", m ", study::link_count(file) as u64);
-    number(b", p ", study::destination_count(file) as u64);
-    part(b", links ", study::links(file));
-    part(b", destinations ", study::destinations(file));
-    part(b", trips ", study::trips(file));
+// Reads the label of the line.
+pub fn answers(file: &[u8]) {
+    label();
+    verdict(study::refusal(file));
+    counts(file);
+    sections(file);
     text(b"\n");
 }
 
-// A part's length, and its first and last byte if it has any.
-fn part(words: &[u8], bytes: &[u8]) {
-    number(words, bytes.len() as u64);
-    text(b" bytes");
-    if 0 < bytes.len() {
-        number(b" (first ", wide(bytes[0]));
-        number(b", last ", wide(bytes[bytes.len() - 1]));
-        text(b")");
+fn verdict(refusal: u8) {
+    if refusal == 0 {
+        text(b": accepted");
+    } else {
+        print(b": refused #", &[refusal as u64]);
     }
 }
 
-fn wide(x: u8) -> u64 {
-    x as u64
+fn counts(file: &[u8]) {
+    let n = study::node_count(file) as u64;
+    let m = study::link_count(file) as u64;
+    let p = study::destination_count(file) as u64;
+    print(b", n #, m #, p #", &[n, m, p]);
+}
+
+fn sections(file: &[u8]) {
+    section(b", links # bytes", study::links(file));
+    section(b", destinations # bytes", study::destinations(file));
+    section(b", trips # bytes", study::trips(file));
+}
+
+// A section's length, and its first and last byte if it has any.
+fn section(words: &[u8], bytes: &[u8]) {
+    print(words, &[bytes.len() as u64]);
+    if 0 < bytes.len() {
+        ends(bytes[0], bytes[bytes.len() - 1]);
+    }
+}
+
+fn ends(first: u8, last: u8) {
+    print(b" (first #, last #)", &[first as u64, last as u64]);
 }

@@ -28,3 +28,5 @@ pub mod Moves
 pub mod Descent
 pub mod Runs
 pub mod Local
+pub mod Padded
+pub mod Filled

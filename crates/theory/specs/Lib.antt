@@ -6,4 +6,5 @@ pub mod Flows
 pub mod Routes
 pub mod Cost
 pub mod Moves
+pub mod Study
 pub mod Laws

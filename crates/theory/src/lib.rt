@@ -1,1 +1,14 @@
-// Definitions and laws only: the crate has no code. See specs/.
+// Definitions and laws, in specs/. The crate has no code but the names of a link's columns: a study's links are rows of five numbers, as
+// specs/Study.antt has them.
+pub const TAIL: usize = 0;
+
+pub const HEAD: usize = 1;
+// free time a
+pub const FREE_TIME: usize = 2;
+// rise b
+pub const RISE: usize = 3;
+// capacity c
+pub const CAPACITY: usize = 4;
+
+// No link, where link numbers are kept.
+pub const NO_LINK: u16 = 65535;

@@ -1,4 +1,4 @@
--- What the functions of this crate compute, over lists of link fields and link totals.
+-- What the functions of this crate compute, over rows of links and lists of link totals.
 pub mod Links
 pub mod Ranges
 pub mod Laws

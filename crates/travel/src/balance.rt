@@ -3,26 +3,26 @@ ghost use Prim.Native.Nat.{_≤_};
 ghost use mathlib.Core.Path.{_≡_};
 ghost use lib.ListN.{length};
 ghost use Rattle.travel.specs.Links.{rowBalances};
-ghost use Rattle.travel.specs.Ranges.{Below, RowFits, SumsAt};
+ghost use Rattle.travel.specs.Ranges.{EndsFit, RowFits, SumsAt};
+use theory::HEAD;
+use theory::TAIL;
 
 // Does the row balance at every node but its destination: flow out = flow in + share × trips?
 pub fn row_balances(
-    row: &[u32],
-    tails: &[u16; 512],
-    heads: &[u16; 512],
-    trips: &[u16],
-    n: usize,
-    m: usize,
+    nodes: usize,
+    links: &[[u16; 5]],
     destination: usize,
+    trips: &[u16],
+    row: &[u32],
     share: u32,
 ) -> bool
-    requires { ⌜ RowFits n m (now tails) (now heads) (now trips) (now row) × (share ≤ 1024) ⌝ }
-    ensures { λ r. ⌜ r ≡ rowBalances n m (now (tails .entry)) (now (heads .entry)) (now (trips .entry)) destination share (now (row .entry)) ⌝ }
+    requires { ⌜ RowFits nodes (now links) (now trips) (now row) × (share ≤ 1024) ⌝ }
+    ensures { λ r. ⌜ r ≡ rowBalances nodes (now (links .entry)) destination (now (trips .entry)) share (now (row .entry)) ⌝ }
 {
-    let out = sums_at(row, tails, m);
-    let into = sums_at(row, heads, m);
+    let out = sums_at(links, TAIL, row);
+    let into = sums_at(links, HEAD, row);
     let mut j = 0;
-    while j < n {
+    while j < nodes {
         if j != destination {
             let sent = share as u64 * trips[j] as u64;
             if out[j] != into[j] + sent {
@@ -35,14 +35,14 @@ pub fn row_balances(
 }
 
 // The flow at each node: of the links whose end (tail or head) it is.
-fn sums_at(row: &[u32], ends: &[u16; 512], m: usize) -> [u64; 128]
-    requires { ⌜ (m ≤ 512) × (m ≤ length (now row)) × Below m 128 (now ends) ⌝ }
-    ensures { λ r. ⌜ SumsAt m (now (ends .entry)) (now (row .entry)) r ⌝ }
+fn sums_at(links: &[[u16; 5]], end: usize, row: &[u32]) -> [u64; 128]
+    requires { ⌜ EndsFit (now links) end × (length (now row) ≡ length (now links)) ⌝ }
+    ensures { λ r. ⌜ SumsAt (length (now (links .entry))) (now (links .entry)) end (now (row .entry)) r ⌝ }
 {
     let mut sums = [0u64; 128];
     let mut l = 0;
-    while l < m {
-        let node = ends[l] as usize;
+    while l < links.len() {
+        let node = links[l][end] as usize;
         sums[node] += row[l] as u64;
         l += 1;
     }

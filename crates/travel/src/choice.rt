@@ -1,13 +1,15 @@
-// The choice of j, by which a pass moves a table. `flows` are the links' totals S of the table, at share
-// W, and `loading` their totals Y of the loading.
+// The choice of j, by which a pass moves a table. `flows` are the links' totals: S of the table, at share
+// W, and Y of the loading.
 ghost use Prim.Native.Nat.{_+_, _*_, _-_, _≤_, _<_, min};
 ghost use mathlib.Core.Path.{_≡_};
 ghost use lib.ListN.{getD};
-ghost use Rattle.theory.specs.Flows.{step, stepTime};
+ghost use Rattle.theory.specs.Flows.{step};
 ghost use Rattle.theory.specs.Moves.{movedTimes, chosen as chosenOf};
-ghost use Rattle.travel.specs.Links.{roads, fourthPowers};
+ghost use Rattle.travel.specs.Links.{roads, fourthPowers, rowTime, totalOf, loadOf};
 ghost use Rattle.travel.specs.Ranges.{LinkFits, MoveFits, mostTime};
 use crate::steps::link_time;
+use crate::table::LOAD;
+use crate::table::TOTAL;
 
 // What decides whether j qualifies: W × the sum of Y × time, and the sum of S × time.
 struct Sums {
@@ -20,20 +22,15 @@ struct Sums {
 // does. Which j between the two are tried is a matter of speed alone: `guess`, and the gap of the table,
 // by which the sums at 0 differ, change nothing of the answer.
 pub fn chosen(
-    free: &[u16; 512],
-    rises: &[u16; 512],
-    capacities: &[u16; 512],
-    flows: &[u64; 512],
-    loading: &[u64; 512],
-    m: usize,
+    links: &[[u16; 5]],
+    flows: &[[u64; 512]; 2],
     share: u32,
     guess: u32,
     gap: u64,
     powers: &[u64; 257],
 ) -> u32
-    requires { ⌜ MoveFits m (now free) (now rises) (now capacities) (now flows) (now loading) share ⌝ }
-    requires { ⌜ now powers ≡ fourthPowers ⌝ }
-    ensures { λ r. ⌜ r ≡ chosenOf (roads m (now (free .entry)) (now (rises .entry)) (now (capacities .entry))) share (λ l. getD (now (flows .entry)) l 0) (λ l. getD (now (loading .entry)) l 0) ⌝ }
+    requires { ⌜ MoveFits (now links) (now flows) share × (now powers ≡ fourthPowers) ⌝ }
+    ensures { λ r. ⌜ r ≡ chosenOf (roads (now (links .entry))) share (totalOf (now (flows .entry))) (loadOf (now (flows .entry))) ⌝ }
 {
     let mut low = 0;
     let mut high = last(share);
@@ -43,7 +40,7 @@ pub fn chosen(
     while low < high {
         let j = next_try(low, high, tries, guess, gap, below, above);
         tries = std::num::wrapping_add_u32(tries, 1);
-        let sums = sums_at(free, rises, capacities, flows, loading, m, share, j, powers);
+        let sums = sums_at(links, flows, share, j, powers);
         if sums.loaded <= sums.spent {
             low = j;
             below = sums.spent - sums.loaded;
@@ -133,28 +130,23 @@ fn last(share: u32) -> u32
 
 // What decides whether j qualifies. Times are those at flow S + j·Y and share W + j.
 fn sums_at(
-    free: &[u16; 512],
-    rises: &[u16; 512],
-    capacities: &[u16; 512],
-    flows: &[u64; 512],
-    loading: &[u64; 512],
-    m: usize,
+    links: &[[u16; 5]],
+    flows: &[[u64; 512]; 2],
     share: u32,
     j: u32,
     powers: &[u64; 257],
 ) -> Sums
-    requires { ⌜ MoveFits m (now free) (now rises) (now capacities) (now flows) (now loading) share × (share + j ≤ 1024) ⌝ }
-    requires { ⌜ now powers ≡ fourthPowers ⌝ }
-    ensures { λ r. ⌜ r .loaded ≡ share * movedTimes (roads m (now (free .entry)) (now (rises .entry)) (now (capacities .entry))) share (λ l. getD (now (flows .entry)) l 0) (λ l. getD (now (loading .entry)) l 0) j (λ l. getD (now (loading .entry)) l 0) ⌝ }
-    ensures { λ r. ⌜ r .spent ≡ movedTimes (roads m (now (free .entry)) (now (rises .entry)) (now (capacities .entry))) share (λ l. getD (now (flows .entry)) l 0) (λ l. getD (now (loading .entry)) l 0) j (λ l. getD (now (flows .entry)) l 0) ⌝ }
+    requires { ⌜ MoveFits (now links) (now flows) share × (share + j ≤ 1024) × (now powers ≡ fourthPowers) ⌝ }
+    ensures { λ r. ⌜ r .loaded ≡ share * movedTimes (roads (now (links .entry))) share (totalOf (now (flows .entry))) (loadOf (now (flows .entry))) j (loadOf (now (flows .entry))) ⌝ }
+    ensures { λ r. ⌜ r .spent ≡ movedTimes (roads (now (links .entry))) share (totalOf (now (flows .entry))) (loadOf (now (flows .entry))) j (totalOf (now (flows .entry))) ⌝ }
 {
     let mut loaded = 0;
     let mut spent = 0;
     let mut l = 0;
-    while l < m {
-        let s = flows[l];
-        let y = loading[l];
-        let time = moved_time(free[l], rises[l], capacities[l], share, s, y, j, powers);
+    while l < links.len() {
+        let s = flows[TOTAL][l];
+        let y = flows[LOAD][l];
+        let time = moved_time(links[l], share, s, y, j, powers);
         loaded += y * time;
         spent += s * time;
         l += 1;
@@ -164,19 +156,9 @@ fn sums_at(
 }
 
 // Time of a link at flow S + j·Y and share W + j.
-fn moved_time(
-    free: u16,
-    rise: u16,
-    capacity: u16,
-    share: u32,
-    s: u64,
-    y: u64,
-    j: u32,
-    powers: &[u64; 257],
-) -> u64
-    requires { ⌜ LinkFits free rise capacity × (1 ≤ share) × (share + j ≤ 1024) × (s ≤ share * 65535) × (y ≤ 65535) ⌝ }
-    requires { ⌜ now powers ≡ fourthPowers ⌝ }
-    ensures { λ r. ⌜ (r ≡ stepTime free rise (step capacity (share + j) (s + j * y))) × (r ≤ mostTime) ⌝ }
+fn moved_time(link: [u16; 5], share: u32, s: u64, y: u64, j: u32, powers: &[u64; 257]) -> u64
+    requires { ⌜ LinkFits link × (1 ≤ share) × (share + j ≤ 1024) × (s ≤ share * 65535) × (y ≤ 65535) × (now powers ≡ fourthPowers) ⌝ }
+    ensures { λ r. ⌜ (r ≡ rowTime link (step (getD link 4 0) (share + j) (s + j * y))) × (r ≤ mostTime) ⌝ }
 {
-    link_time(free, rise, capacity, share + j, s + j as u64 * y, powers)
+    link_time(link, share + j, s + j as u64 * y, powers)
 }

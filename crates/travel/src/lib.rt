@@ -1,6 +1,6 @@
-// Totals of a table, times and cost of links, and the sums behind the gap and the choice of j. Fields
-// and totals of up to 512 links stand in arrays, of which the first m count. Nothing here knows of
-// paths or of the study's bytes.
+// Totals of a table, times and cost of links, and the sums behind the gap and the choice of j. Links are
+// rows; numbers by link stand in arrays of 512, of which the first m count. Nothing here knows of paths
+// or of the study's bytes.
 mod balance;
 mod choice;
 mod costs;
@@ -13,5 +13,8 @@ pub use costs::cost;
 pub use costs::product;
 pub use steps::fourth_powers;
 pub use steps::times;
+pub use table::LOAD;
+pub use table::TOTAL;
 pub use table::totals;
 pub use table::totals_fit;
+pub use table::write_totals;

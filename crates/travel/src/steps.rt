@@ -1,9 +1,13 @@
 // Steps and times of links.
 ghost use Prim.Native.Nat.{_≤_};
 ghost use mathlib.Core.Path.{_≡_};
-ghost use Rattle.theory.specs.Flows.{step, stepTime};
-ghost use Rattle.travel.specs.Links.{padded, fourthPowers, listTime};
+ghost use lib.ListN.{length, getD};
+ghost use Rattle.theory.specs.Flows.{step};
+ghost use Rattle.travel.specs.Links.{padded, fourthPowers, rowTime, listTime};
 ghost use Rattle.travel.specs.Ranges.{LinkFits, LinksFit, ShareFits, Within, Clear, TimesFit, mostFlow, mostTime};
+use theory::CAPACITY;
+use theory::FREE_TIME;
+use theory::RISE;
 
 // Step r: the smaller of 256 and floor(64·S / (c·W)).
 pub fn step_of(capacity: u16, share: u32, flow: u64) -> u64
@@ -25,57 +29,46 @@ pub fn fourth_powers() -> [u64; 257]
     let mut powers = [0u64; 257];
     let mut r: usize = 0;
     while r < 257 {
-        let square = r as u64 * r as u64;
-        powers[r] = square * square;
+        let square = r as u32 * r as u32;
+        powers[r] = square as u64 * square as u64;
         r += 1;
     }
     powers
 }
 
 // Time at a step: a + floor(b·r⁴ / 2²⁴).
-pub fn time_at(free: u16, rise: u16, step: u64, powers: &[u64; 257]) -> u64
-    requires { ⌜ (free ≤ 16383) × (rise ≤ 16383) × (step ≤ 256) ⌝ }
-    requires { ⌜ now powers ≡ fourthPowers ⌝ }
-    ensures { λ r. ⌜ (r ≡ stepTime free rise step) × (r ≤ mostTime) ⌝ }
+pub fn time_at(link: [u16; 5], step: u64, powers: &[u64; 257]) -> u64
+    requires { ⌜ LinkFits link × (step ≤ 256) × (now powers ≡ fourthPowers) ⌝ }
+    ensures { λ r. ⌜ (r ≡ rowTime link step) × (r ≤ mostTime) ⌝ }
 {
-    free as u64 + rise as u64 * powers[step as usize] / 16777216
+    link[FREE_TIME] as u64 + link[RISE] as u64 * powers[step as usize] / 16777216
 }
 
 // Time of a link with a flow, at a share.
-pub fn link_time(
-    free: u16,
-    rise: u16,
-    capacity: u16,
-    share: u32,
-    flow: u64,
-    powers: &[u64; 257],
-) -> u64
-    requires { ⌜ LinkFits free rise capacity × ShareFits share × (flow ≤ mostFlow) ⌝ }
-    requires { ⌜ now powers ≡ fourthPowers ⌝ }
-    ensures { λ r. ⌜ (r ≡ stepTime free rise (step capacity share flow)) × (r ≤ mostTime) ⌝ }
+pub fn link_time(link: [u16; 5], share: u32, flow: u64, powers: &[u64; 257]) -> u64
+    requires { ⌜ LinkFits link × ShareFits share × (flow ≤ mostFlow) × (now powers ≡ fourthPowers) ⌝ }
+    ensures { λ r. ⌜ (r ≡ rowTime link (step (getD link 4 0) share flow)) × (r ≤ mostTime) ⌝ }
 {
-    time_at(free, rise, step_of(capacity, share, flow), powers)
+    time_at(link, step_of(link[CAPACITY], share, flow), powers)
 }
 
-// Writes the times of m links with the flows of an array, at a share, in place of the first m numbers
-// of an array whose other numbers are 0.
+// Writes the times of the links with the flows of an array, at a share, in place of the first numbers of
+// an array whose other numbers are 0.
 pub fn times(
-    free: &[u16; 512],
-    rises: &[u16; 512],
-    capacities: &[u16; 512],
-    totals: &[u64; 512],
-    m: usize,
+    links: &[[u16; 5]],
+    flows: &[u64; 512],
     share: u32,
     powers: &[u64; 257],
     times: &mut [u32; 512],
 )
-    requires { ⌜ LinksFit m (now free) (now rises) (now capacities) × ShareFits share × Within m mostFlow (now totals) ⌝ }
-    requires { ⌜ (now powers ≡ fourthPowers) × Clear m (now times) ⌝ }
-    ensures { λ _. ⌜ (now (times .exit) ≡ padded m (listTime (now (free .entry)) (now (rises .entry)) (now (capacities .entry)) share (now (totals .entry)))) × TimesFit m (now (times .exit)) ⌝ }
+    requires { ⌜ LinksFit (now links) × ShareFits share × Within (length (now links)) mostFlow (now flows) ⌝ }
+    requires { ⌜ (now powers ≡ fourthPowers) × Clear (length (now links)) (now times) ⌝ }
+    ensures { λ _. ⌜ now (times .exit) ≡ padded (length (now (links .entry))) (listTime (now (links .entry)) share (now (flows .entry))) ⌝ }
+    ensures { λ _. ⌜ TimesFit (length (now (links .entry))) (now (times .exit)) ⌝ }
 {
     let mut l = 0;
-    while l < m {
-        let time = link_time(free[l], rises[l], capacities[l], share, totals[l], powers);
+    while l < links.len() {
+        let time = link_time(links[l], share, flows[l], powers);
         times[l] = time as u32;
         l += 1;
     }

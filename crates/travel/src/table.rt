@@ -1,10 +1,15 @@
 // S: each link's total over the destinations, and question 15 of the totals.
 ghost use Prim.Native.Nat.{_*_, _≤_};
 ghost use mathlib.Core.Path.{_≡_};
-ghost use lib.ListN.{length};
+ghost use lib.ListN.{length, replicate};
 ghost use Rattle.theory.specs.Flows.{linkTotal};
 ghost use Rattle.travel.specs.Links.{padded, listFits};
 ghost use Rattle.travel.specs.Ranges.{Within, RowAdded, mostTotal};
+
+// Two totals of each link that belong together: S of a table and Y of its loading.
+pub const TOTAL: usize = 0;
+
+pub const LOAD: usize = 1;
 
 // The totals of a table of p rows, each of m flows.
 pub fn totals(table: &[u32], p: usize, m: usize) -> [u64; 512]
@@ -12,13 +17,21 @@ pub fn totals(table: &[u32], p: usize, m: usize) -> [u64; 512]
     ensures { λ r. ⌜ (r ≡ padded m (linkTotal p m (now (table .entry)))) × Within 512 mostTotal r ⌝ }
 {
     let mut sums = [0u64; 512];
+    write_totals(table, p, m, &mut sums);
+    sums
+}
+
+// Writes the same into an array of zeros.
+pub fn write_totals(table: &[u32], p: usize, m: usize, sums: &mut [u64; 512])
+    requires { ⌜ (p ≤ 32) × (m ≤ 512) × (p * m ≤ length (now table)) × (now sums ≡ replicate 512 0) ⌝ }
+    ensures { λ _. ⌜ (now (sums .exit) ≡ padded m (linkTotal p m (now (table .entry)))) × Within 512 mostTotal (now (sums .exit)) ⌝ }
+{
     let mut k = 0;
     while k < p {
         let start = k * m;
-        add_row(&table[start..], m, &mut sums);
+        add_row(&table[start..], m, sums);
         k += 1;
     }
-    sums
 }
 
 // Adds a row of m flows to the sums. A sum is of 31 rows at most before.

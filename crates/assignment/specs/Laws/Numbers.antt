@@ -6,10 +6,11 @@ use mathlib.Core.List.{List}
 use lib.ListN.{length}
 use lib.Dec.{eqb}
 use borrow.Author.Tests.{ne-eqb, le-leb, lt-leb}
-use Rattle.study.specs.Questions.{firstNo, refusal}
+use Rattle.study.specs.Questions.{Question, firstNo, refusal}
+use Rattle.study.specs.Sections.{nodes}
 use Rattle.study.specs.Laws.{after-opening}
 use Rattle.theory.specs.Moves.{tableSize}
-use Rattle.calls.specs.Study.{networkOf}
+use Rattle.calls.specs.Study.{linkRows, destinationNodes, tripEntries, networkOf}
 use Rattle.calls.specs.Questions.{studyQuestions, shareQuestions, checkQuestions, tableHolds, budgetFits}
 use Rattle.calls.specs.Calls.{checkNumber, startNumber, runNumber, tableNumber}
 use Rattle.calls.specs.Laws.Questions.{start-number, run-number, table-number}
@@ -22,13 +23,16 @@ when-zero : (a b number : ℕ) → number ≡ 0 → cond (eqb number 0) a b ≡ 
 when-zero a b number e = rw e
 
 module _ (file : List ℕ) where
+  abbrev asked : List Question
+  asked = studyQuestions (nodes file) (linkRows file) (destinationNodes file) (tripEntries file)
+
   pub check-opening : (refusal file ≡ 0 → ⊥) → checkNumber file ≡ refusal file
   unfolding checkNumber checkQuestions
-  check-opening p = after-opening file (studyQuestions file) ∙ when-not (firstNo (studyQuestions file)) (refusal file) (refusal file) p
+  check-opening p = after-opening file asked ∙ when-not (firstNo asked) (refusal file) (refusal file) p
 
-  pub check-study : refusal file ≡ 0 → checkNumber file ≡ firstNo (studyQuestions file)
+  pub check-study : refusal file ≡ 0 → checkNumber file ≡ firstNo asked
   unfolding checkNumber checkQuestions
-  check-study e = after-opening file (studyQuestions file) ∙ when-zero (firstNo (studyQuestions file)) (refusal file) (refusal file) e
+  check-study e = after-opening file asked ∙ when-zero (firstNo asked) (refusal file) (refusal file) e
 
   module _ (table : List ℕ) where
     -- Start: as check, and then question 12.
@@ -52,7 +56,7 @@ module _ (file : List ℕ) where
 
     -- Pass and audit: as start, and then questions 14 to 16.
     pub table-started : (share : ℕ) → (startNumber file table ≡ 0 → ⊥) → tableNumber file table share ≡ startNumber file table
-    table-started share p = table-number file table share ∙ when-not (firstNo (shareQuestions file table share)) (startNumber file table) (startNumber file table) p
+    table-started share p = table-number file table share ∙ when-not (firstNo (shareQuestions (networkOf file) table share)) (startNumber file table) (startNumber file table) p
 
-    pub table-shared : (share : ℕ) → startNumber file table ≡ 0 → tableNumber file table share ≡ firstNo (shareQuestions file table share)
-    table-shared share e = table-number file table share ∙ when-zero (firstNo (shareQuestions file table share)) (startNumber file table) (startNumber file table) e
+    pub table-shared : (share : ℕ) → startNumber file table ≡ 0 → tableNumber file table share ≡ firstNo (shareQuestions (networkOf file) table share)
+    table-shared share e = table-number file table share ∙ when-zero (firstNo (shareQuestions (networkOf file) table share)) (startNumber file table) (startNumber file table) e

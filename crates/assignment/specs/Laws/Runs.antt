@@ -1,6 +1,7 @@
 -- The turns of a run, and what it answers where it ends.
 use Prim.Native.Nat.{ℕ, pred, _+_, _*_, _≤_, _<_}
 use native.Mathlib.Numerals.{add-one}
+use native.Mathlib.Nat.{mul-le-mul}
 use native.Mathlib.Omega.{arith}
 use mathlib.Core.Path.{_≡_, refl, sym, _∙_, ap, subst}
 use mathlib.Core.Bool.{Bool, true, false, not, cond, true≢false}
@@ -9,10 +10,11 @@ use mathlib.Core.Logic.{_⊎_, inl, inr, ⊎-elim}
 use mathlib.Core.Option.{Option, none, some}
 use lib.ListN.{length, getD, drop}
 use lib.Seq.{drop-at}
-use lib.Dec.{eqb}
+use lib.Dec.{eqb, leb}
 use borrow.Author.Tests.{eqb-true, eqb-false}
-use Rattle.theory.specs.Network.{Network}
-use Rattle.theory.specs.Flows.{linkTotal}
+use Rattle.theory.specs.Finite.{sum}
+use Rattle.theory.specs.Network.{Network, totalTrips}
+use Rattle.theory.specs.Study.{network}
 use Rattle.theory.specs.Cost.{cost, gap}
 use Rattle.theory.specs.Moves.{Shared, tableSize, started, move, moves, afterMoves, reaches, stops, judged, lastJudged}
 use Rattle.theory.specs.Laws.Finite.{below-suc}
@@ -23,21 +25,19 @@ use Rattle.calls.specs.Calls.{overwritten, startNumber, runNumber, runAnswer, r
 use Rattle.calls.specs.declared.RunAnswer.{RunAnswer}
 use Rattle.calls.specs.Laws.Questions.{Passed, check-passed, start-both, run-both}
 use Rattle.calls.specs.Laws.Calls.{run-accepted, run-written}
-use Rattle.calls.specs.Laws.Networks.{budget-range, holds-length, length-holds}
+use Rattle.calls.specs.Laws.Networks.{budget-range, holds-length, length-holds, few-trips}
 use Rattle.calls.specs.Laws.Tables.{run-length, run-passes, overwritten-front, overwritten-length, overwritten-passes}
-use Rattle.travel.specs.Links.{padded, listCost}
-use Rattle.travel.specs.Ranges.{LinksFit, ShareFits, Within, mostFlow}
-use Rattle.judging.specs.Study.{networkIn, Judgeable, moveOf, stepOf, shareAfterStep, tableAfterStep}
-use Rattle.judging.specs.Laws.Study.{links-fit}
-use Rattle.judging.specs.Laws.Judged.{share-fits, holds, totals-within, cost-is}
-use Rattle.judging.specs.declared.Decoded.{Decoded}
+use Rattle.network.specs.Laws.Questions.{total-of}
+use Rattle.judging.specs.Study.{Study, studyOf, Ready, Judgeable, moveOf, stepOf, shareAfterStep, tableAfterStep}
+use Rattle.judging.specs.Judged.{Turned}
+use Rattle.judging.specs.declared.Standing.{Standing}
+use Rattle.judging.specs.declared.Turn.{Turn}
 use Rattle.judging.specs.declared.Step.{Step}
 use Rattle.judging.specs.declared.Step.the-variants as step
-use Rattle.judging.specs.Study.{ReadyOf, JudgeableOf}
-use Rattle.assignment.specs.Decoded.{decodedOf}
 use Rattle.assignment.specs.Answers.{endingOf, endedAnswer}
-use Rattle.assignment.specs.Runs.{Running, Begun, Ran}
-use Rattle.assignment.specs.Laws.Decoding.{network-decoded, network-of, ready-of, judgeable}
+use Rattle.assignment.specs.Parts.{PartsOf, studyIn}
+use Rattle.assignment.specs.Runs.{Running, Begun}
+use Rattle.assignment.specs.Laws.Parts.{study-is, network-is, parts-sized, ready, judgeable}
 
 -- What the definitions read of a table that stands in the first numbers of a lent one.
 module _ (file before : List ℕ) (study : Passed file) (i : ℕ) where
@@ -59,19 +59,22 @@ module _ (file before : List ℕ) (study : Passed file) (i : ℕ) where
   pub cost-lent : cost g (x .share) lent ≡ cost g (x .share) (x .table)
   cost-lent = cost-same g lent (x .table) front (x .share)
 
-  move-lent : moveOf (decodedOf file) lent (x .share) ≡ move g x
-  move-lent = rw (network-decoded file) (move-same g lent (x .table) front (x .share))
+  move-lent : moveOf (networkOf file) lent (x .share) ≡ move g x
+  move-lent = move-same g lent (x .table) front (x .share)
 
-  reaches-lent : (excess : ℕ) → reaches (networkIn (decodedOf file)) excess (record { table = lent; share = x .share }) ≡ reaches g excess x
+  -- The run's test of its gap, by excess × T.
+  reaches-lent : (excess limit : ℕ) → limit ≡ excess * totalTrips g → leb (gap g (x .share) lent) (limit * x .share) ≡ reaches g excess x
   unfolding reaches
-  reaches-lent excess = rw (network-decoded file, gap-lent)
+  reaches-lent excess limit e =
+      let same : limit * x .share ≡ excess * x .share * totalTrips g = omega (arith, ap (λ t. t * x .share) e) in
+      rw (gap-lent, same)
 
   -- A turn goes on from the lent table as from the run's own.
-  pub step-lent : (excess : ℕ) (last : Bool)
-      → stepOf (decodedOf file) lent (x .share) excess last
+  pub step-lent : (excess limit : ℕ) → limit ≡ excess * totalTrips g → (last : Bool)
+      → stepOf g lent (x .share) limit last
       ≡ cond (reaches g excess x) step.Reached (cond (moves (move g x)) (cond last step.Spent step.Moved) step.Finest)
   unfolding stepOf
-  step-lent excess last = rw (reaches-lent excess, move-lent)
+  step-lent excess limit e last = rw (reaches-lent excess limit e, move-lent)
 
 -- A table written over one of the same size leaves what was there before both.
 overwritten-twice : (new old before : List ℕ) → length new ≡ length old → overwritten new (overwritten old before) ≡ overwritten new before
@@ -129,27 +132,28 @@ module _ (file before : List ℕ) (budget excess : ℕ) (accepted : runNumber fi
   pub run-study : Passed file
   run-study = check-passed file (start-both file before run-starts .0)
 
-  module _ (i : ℕ) (table : List ℕ) (share : ℕ) (running : Running file before budget excess i table share) where
+  module _ (limit : ℕ) (limit-is : limit ≡ excess * totalTrips (networkOf file)) (i : ℕ) (table : List ℕ) (share : ℕ)
+      (running : Running file before budget excess i table share) where
     -- Its table can be judged,
-    pub running-judgeable : Judgeable (decodedOf file) table share
+    pub running-judgeable : Judgeable (studyIn file) table share
     running-judgeable =
         let y = afterMoves (networkOf file) i in
         let size = run-length file run-study i in
         let long = holds-length (networkOf file) before (start-both file before run-starts .1) in
         let same = overwritten-length (y .table) before (omega arith) in
         rw (running .table-is, running .share-is)
-        (judgeable file (overwritten (y .table) before) (y .share)
+        (judgeable file (overwritten (y .table) before) (y .share) run-study
         (length-holds (networkOf file) (overwritten (y .table) before) (omega arith))
         (overwritten-passes file run-study (y .table) before (y .share) size (run-passes file run-study i)))
 
-    turn-tested : (last : Bool) → Tested (reaches (networkOf file) excess (afterMoves (networkOf file) i)) (moves (move (networkOf file) (afterMoves (networkOf file) i))) last (stepOf (decodedOf file) table share excess last)
+    turn-tested : (last : Bool) → Tested (reaches (networkOf file) excess (afterMoves (networkOf file) i)) (moves (move (networkOf file) (afterMoves (networkOf file) i))) last (stepOf (networkOf file) table share limit last)
     turn-tested last =
-        rw (running .table-is, running .share-is, step-lent file before run-study i excess last)
+        rw (running .table-is, running .share-is, step-lent file before run-study i excess limit limit-is last)
         (tested (reaches (networkOf file) excess (afterMoves (networkOf file) i)) (moves (move (networkOf file) (afterMoves (networkOf file) i))) last)
 
     -- and where a turn moves it, the run goes on with the table that it leaves.
-    pub running-on : stepOf (decodedOf file) table share excess (eqb (i + 1) budget) ≡ step.Moved
-        → Running file before budget excess (i + 1) (tableAfter table (moveOf (decodedOf file) table share)) (shareAfter share (moveOf (decodedOf file) table share))
+    pub running-on : stepOf (networkOf file) table share limit (eqb (i + 1) budget) ≡ step.Moved
+        → Running file before budget excess (i + 1) (tableAfter table (moveOf (networkOf file) table share)) (shareAfter share (moveOf (networkOf file) table share))
     running-on e = go (move h y) refl (subst (Tested (reaches h excess y) (moves (move h y)) (eqb (i + 1) budget)) e (turn-tested (eqb (i + 1) budget)))
       where
         h : Network
@@ -158,7 +162,7 @@ module _ (file before : List ℕ) (budget excess : ℕ) (accepted : runNumber fi
         y : Shared
         y = afterMoves h i
 
-        next-is : moveOf (decodedOf file) table share ≡ move h y
+        next-is : moveOf (networkOf file) table share ≡ move h y
         next-is = rw (running .table-is, running .share-is) (move-lent file before run-study i)
 
         on : (z : Shared) → move h y ≡ some z → reaches h excess y ≡ false → eqb (i + 1) budget ≡ false
@@ -176,12 +180,12 @@ module _ (file before : List ℕ) (budget excess : ℕ) (accepted : runNumber fi
             }
 
         go : (o : Option Shared) → move h y ≡ o → Tested (reaches h excess y) (moves (move h y)) (eqb (i + 1) budget) step.Moved
-            → Running file before budget excess (i + 1) (tableAfter table (moveOf (decodedOf file) table share)) (shareAfter share (moveOf (decodedOf file) table share))
+            → Running file before budget excess (i + 1) (tableAfter table (moveOf (networkOf file) table share)) (shareAfter share (moveOf (networkOf file) table share))
         go none m (at-moved r t more) = absurd (true≢false (sym t ∙ ap moves m))
         go (some z) m (at-moved r t more) = rw (next-is, m) (on z m r more)
 
     -- Where it does not, the run has ended at this table.
-    pub running-ends : (last : Step) → stepOf (decodedOf file) table share excess (eqb (i + 1) budget) ≡ last → (last ≡ step.Moved → ⊥) → Ended file before budget excess i last
+    pub running-ends : (last : Step) → stepOf (networkOf file) table share limit (eqb (i + 1) budget) ≡ last → (last ≡ step.Moved → ⊥) → Ended file before budget excess i last
     unfolding endingAt lastJudged
     running-ends last e stays = go last (subst (Tested (reaches h excess y) (moves (move h y)) (eqb (i + 1) budget)) e (turn-tested (eqb (i + 1) budget))) stays
       where
@@ -240,67 +244,95 @@ step-stays step.Finest table next stays = refl
 step-stays step.Spent table next stays = refl
 step-stays step.Moved table next stays = absurd (stays refl)
 
--- What the totals and the cost of a table ask, and that the cost is the definition's.
-module _ {d : Decoded} {table : List ℕ} {share : ℕ} (known : JudgeableOf d table share) where
-  pub totals-ask : (d .destinations ≤ 32) × (d .links ≤ 512) × (d .destinations * d .links ≤ length table)
-  totals-ask = let study = known .0 .0 in (study .few-destinations, study .few-links, holds study (known .1))
+-- What a turn's step, share and table afterwards are.
+module _ (file before : List ℕ) (budget excess : ℕ) (accepted : runNumber file before budget ≡ 0) (limit : ℕ)
+    (limit-is : limit ≡ excess * totalTrips (networkOf file)) (i : ℕ) (table : List ℕ) (share : ℕ)
+    (running : Running file before budget excess i table share) (last : Step) (after : List ℕ)
+    (taken : last ≡ stepOf (networkOf file) table share limit (eqb (i + 1) budget))
+    (left : after ≡ tableAfterStep last table (moveOf (networkOf file) table share)) where
+  pub turn-moves : (share′ : ℕ) → share′ ≡ shareAfterStep last share (moveOf (networkOf file) table share) → last ≡ step.Moved
+      → Running file before budget excess (i + 1) after share′
+  turn-moves share′ e moved =
+      let on = running-on file before budget excess accepted limit limit-is i table share running (sym taken ∙ moved) in
+      rw (left, e, moved) on
 
-  module _ {totals : List ℕ} (totals-are : totals ≡ padded (d .links) (linkTotal (d .destinations) (d .links) table)) where
-    pub cost-asks :
-        LinksFit (d .links) (d .«free_times») (d .rises) (d .capacities) × ShareFits share × Within (d .links) mostFlow totals
-    cost-asks =
-        let study = known .0 .0 in
-        (links-fit study, share-fits study (known .1), totals-within study (known .1) totals-are)
+  module _ (stays : last ≡ step.Moved → ⊥) where
+    pub turn-same : after ≡ table
+    turn-same = left ∙ step-stays last table (moveOf (networkOf file) table share) stays
 
-    pub cost-of :
-        listCost (d .links) (d .«free_times») (d .rises) (d .capacities) share totals ≡ cost (networkIn d) share table
-    cost-of = cost-is (known .0 .0) (known .1) totals-are
+    end : Ended file before budget excess i last
+    end = running-ends file before budget excess accepted limit limit-is i table share running last (sym taken) stays
 
--- The turns of an accepted run, over the decoded file.
-pub begun-ready : (file before : List ℕ) (budget : ℕ) (d : Decoded) (start : List ℕ) → Begun file before budget d start → ReadyOf d
-begun-ready file before budget d start begun = rw (begun .decoded) (ready-of file (run-study file before budget 0 (begun .accepted)))
+    pub turn-answers : (gap′ cost′ : ℕ) (answer : RunAnswer) → gap′ ≡ gap (networkOf file) share table
+        → cost′ ≡ cost (networkOf file) share after → answer ≡ endedAnswer last (i + 1) share gap′ cost′
+        → answer ≡ runAnswer file before budget excess
+    turn-answers gap′ cost′ answer judged-gap judged-cost e =
+        e
+        ∙ rw (judged-gap, judged-cost, turn-same)
+        (sym (ended-answer file before budget excess accepted limit limit-is i table share running last end))
 
-module _ (file before : List ℕ) (budget excess : ℕ) (d : Decoded) (start : List ℕ) (begun : Begun file before budget d start) where
-  pub begun-running : Running file before budget excess 0 start 1
-  begun-running = rw (begun .started) (run-begins file before budget excess (begun .accepted))
+    pub turn-leaves : after ≡ runTable file before budget excess
+    turn-leaves = turn-same ∙ sym (ended-table file before budget excess accepted limit limit-is i table share running last end)
 
-  module _ (i : ℕ) (table : List ℕ) (share : ℕ) (running : Running file before budget excess i table share) where
-    pub turn-judgeable : JudgeableOf d table share
+-- The turns begin with what the start left.
+pub begun-running : (file before : List ℕ) (budget excess : ℕ) {table : List ℕ} → Begun file before budget table → Running file before budget excess 0 table 1
+begun-running file before budget excess begun = rw (begun .started) (run-begins file before budget excess (begun .accepted))
+
+-- The parts of the file of an accepted run.
+module _ {file : List ℕ} {n : ℕ} {linkList : List (List ℕ)} {nodeList entries : List ℕ} (parts : PartsOf file 0 n linkList nodeList entries)
+    (before : List ℕ) (budget excess : ℕ) (accepted : runNumber file before budget ≡ 0) where
+  abbrev d : Study
+  d = studyOf n linkList nodeList entries
+
+  pub run-ready : Ready d
+  run-ready = rw (study-is parts) (ready file (run-study file before budget excess accepted))
+
+  -- The limit is excess × T, and fits.
+  module _ {total : ℕ} (total-is : total ≡ sum (length entries) (λ i. getD entries i 0)) where
+    trips-are : total ≡ totalTrips (networkOf file)
+    trips-are = total-is ∙ total-of (parts-sized parts) ∙ ap totalTrips (network-is parts)
+
+    pub limit-is : excess * total ≡ excess * totalTrips (networkOf file)
+    limit-is = ap (λ t. excess * t) trips-are
+
+    pub limit-fits : excess ≤ 65535 → excess * total ≤ 65535 * 65535
+    limit-fits h =
+        let few = few-trips file (run-study file before budget excess accepted .described) in
+        mul-le-mul {n₁ = excess} {m₁ = total} {n₂ = 65535} {m₂ = 65535} h (omega (arith, trips-are))
+
+  -- The table of a run under way can be judged,
+  module _ (limit i : ℕ) (table : List ℕ) (share : ℕ) (limit-was : limit ≡ excess * totalTrips (networkOf file))
+      (running : Running file before budget excess i table share) where
+    pub turn-judgeable : Judgeable d table share
     turn-judgeable =
-        let known = running-judgeable file before budget excess (begun .accepted) i table share running in
-        (begun-ready file before budget d start begun, rw (begun .decoded) known)
+        rw (study-is parts) (running-judgeable file before budget excess accepted limit limit-was i table share running)
 
-    -- What a turn's step, share and table afterwards are.
-    module _ (last : Step) (after : List ℕ) (taken : last ≡ stepOf d table share excess (eqb (i + 1) budget))
-        (left : after ≡ tableAfterStep last table (moveOf d table share)) where
-      step-is : stepOf (decodedOf file) table share excess (eqb (i + 1) budget) ≡ last
-      step-is = ap (λ x. stepOf x table share excess (eqb (i + 1) budget)) (sym (begun .decoded)) ∙ sym taken
+    -- and a turn goes by the network of the parts, which is the file's.
+    module _ {at : Standing} {r : Turn} {after : List ℕ} (share-was : at .share ≡ share) (limit-at : at .limit ≡ limit)
+        (last-is : at .last ≡ eqb (i + 1) budget) (turned : Turned (network n linkList nodeList entries) table at r after) where
+      taken : r .step ≡ stepOf (networkOf file) table share limit (eqb (i + 1) budget)
+      taken = rw (← network-is parts, ← share-was, ← limit-at, ← last-is) (turned .step-is)
 
-      pub turn-moves : (share′ : ℕ) → share′ ≡ shareAfterStep last share (moveOf d table share) → last ≡ step.Moved
-          → Running file before budget excess (i + 1) after share′
-      turn-moves share′ e moved =
-          let on = running-on file before budget excess (begun .accepted) i table share running (step-is ∙ moved) in
-          rw (left, e, moved, begun .decoded) on
+      left : after ≡ tableAfterStep (r .step) table (moveOf (networkOf file) table share)
+      left = rw (← network-is parts, ← share-was) (turned .table-is)
 
-      module _ (stays : last ≡ step.Moved → ⊥) where
-        same : after ≡ table
-        same = left ∙ step-stays last table (moveOf d table share) stays
+      pub turn-runs : r .step ≡ step.Moved → Running file before budget excess (i + 1) after (r .share)
+      turn-runs moved =
+          turn-moves file before budget excess accepted limit limit-was i table share running (r .step) after taken left (r .share)
+          (rw (← network-is parts, ← share-was) (turned .share-is)) moved
 
-        end : Ended file before budget excess i last
-        end = running-ends file before budget excess (begun .accepted) i table share running last step-is stays
+      module _ (stays : r .step ≡ step.Moved → ⊥) where
+        pub still-judgeable : Judgeable d after share
+        still-judgeable =
+            rw (turn-same file before budget excess accepted limit limit-was i table share running (r .step) after taken left stays) turn-judgeable
 
-        pub turn-left : JudgeableOf d after share
-        turn-left = rw same turn-judgeable
-
-        pub turn-ends : (gap′ cost′ : ℕ) (answer : RunAnswer) → gap′ ≡ gap (networkIn d) share table
-            → cost′ ≡ cost (networkIn d) share after
-            → answer ≡ endedAnswer last (i + 1) share gap′ cost′
-            → Ran file before budget excess answer after
-        turn-ends gap′ cost′ answer judged-gap judged-cost e =
-            record {
-              answers =
-                  e
-                  ∙ rw (judged-gap, judged-cost, same, network-of file d (begun .decoded))
-                  (sym (ended-answer file before budget excess (begun .accepted) i table share running last end));
-              leaves = same ∙ sym (ended-table file before budget excess (begun .accepted) i table share running last end);
-            }
+        pub turn-ends : {cost′ : ℕ} {answer : RunAnswer} → cost′ ≡ cost (network n linkList nodeList entries) share after →
+            answer ≡ endedAnswer (r .step) (i + 1) share (r .gap) cost′ →
+            (answer ≡ runAnswer file before budget excess) × (after ≡ runTable file before budget excess)
+        turn-ends {cost′} {answer} cost-is e = (
+          turn-answers file before budget excess accepted limit limit-was i table share running (r .step) after taken left stays (r .gap) cost′ answer
+              (rw (← network-is parts, ← share-was) (turned .gap-is))
+              (rw (← network-is parts) cost-is)
+              e,
+          turn-leaves file before budget excess accepted limit limit-was i table share running (r .step) after taken left stays,
+        )

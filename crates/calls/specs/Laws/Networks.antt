@@ -8,16 +8,15 @@ use mathlib.Core.List.{List}
 use lib.ListN.{length, getD}
 use lib.Dec.{leb, ltb, eqb}
 use borrow.Author.Tests.{ltb-true, leb-true, le-leb, eqb-true, eqb-false, not-true}
-use Rattle.study.specs.Fields.{freeTime, rise, capacity}
-use Rattle.study.specs.Sections.{links}
 use Rattle.study.specs.Questions.{within}
 use Rattle.study.specs.Laws.{within-true}
 use Rattle.theory.specs.Finite.{all}
 use Rattle.theory.specs.Network.{Network, Sound, totalTrips}
 use Rattle.theory.specs.Moves.{tableSize}
+use Rattle.theory.specs.Study.{freeTime, rise, capacity, network}
 use Rattle.theory.specs.Laws.Finite.{all-elim, and-left, and-right, both}
 use Rattle.theory.specs.Laws.Times.{stepTime-least, stepTime-mono}
-use Rattle.calls.specs.Study.{linkFields, destinationNodes, tripEntries, networkFrom, networkOf}
+use Rattle.calls.specs.Study.{linkRows, networkOf}
 use Rattle.calls.specs.Questions.{endsFit, timesFit, destinationsFit, noTripsWithin, totalFits, tableHolds, budgetFits, shareFits}
 use Rattle.calls.specs.Laws.Questions.{Described}
 
@@ -82,9 +81,9 @@ ends-of n t h e =
     }
 
 module _ (file : List ℕ) (h : Described file) where
-  pub fields-fit : (l : ℕ) → l < links file → FieldsFit (getD (linkFields freeTime file) l 0) (getD (linkFields rise file) l 0) (getD (linkFields capacity file) l 0)
+  pub fields-fit : (l : ℕ) → l < length (linkRows file) → FieldsFit (freeTime (linkRows file) l) (rise (linkRows file) l) (capacity (linkRows file) l)
   unfolding timesFit
-  fields-fit l p = fields-of _ _ _ (all-elim (links file) _ (h .fields) l p)
+  fields-fit l p = fields-of _ _ _ (all-elim (length (linkRows file)) _ (h .fields) l p)
 
   pub ends-fit : (l : ℕ) → l < networkOf file .links → EndsFit (networkOf file .nodes) (networkOf file .tail l) (networkOf file .head l)
   unfolding endsFit
@@ -114,13 +113,13 @@ module _ (file : List ℕ) (h : Described file) where
 
   -- So the laws of the theory hold of the network.
   pub sound : Sound (networkOf file)
-  unfolding networkOf networkFrom
+  unfolding networkOf network
   sound =
       record {
         tail-node = λ l p. ends-fit l p .tail-node;
         head-node = λ l p. ends-fit l p .head-node;
         some-capacity = λ l p. fields-fit l p .capacity-least;
-        some-time = λ l r p. le-trans (fields-fit l p .free-least) (stepTime-least (getD (linkFields freeTime file) l 0) (getD (linkFields rise file) l 0) r);
-        rising = λ l r p. stepTime-mono (getD (linkFields freeTime file) l 0) (getD (linkFields rise file) l 0) {q = r} {r = suc r} (omega arith);
+        some-time = λ l r p. le-trans (fields-fit l p .free-least) (stepTime-least (freeTime (linkRows file) l) (rise (linkRows file) l) r);
+        rising = λ l r p. stepTime-mono (freeTime (linkRows file) l) (rise (linkRows file) l) {q = r} {r = suc r} (omega arith);
         destination-node = destination-node;
       }

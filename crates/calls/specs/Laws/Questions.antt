@@ -4,12 +4,11 @@ use mathlib.Core.Path.{_≡_, refl}
 use mathlib.Core.Bool.{Bool, true, cond}
 use mathlib.Core.List.{List, [], _∷_, _++_}
 use lib.Dec.{eqb}
-use Rattle.study.specs.Fields.{freeTime, rise, capacity}
-use Rattle.study.specs.Sections.{links}
+use Rattle.study.specs.Sections.{nodes}
 use Rattle.study.specs.Questions.{Question, firstNo, opening, refusal}
 use Rattle.study.specs.Laws.{numbered, numbered-append, firstNo-append, firstNo-both, all-yes, no-refusal, AllYes, opening-both, after-opening, opening-numbered}
 use Rattle.theory.specs.Flows.{totalsFit, conserves}
-use Rattle.calls.specs.Study.{linkFields, networkOf}
+use Rattle.calls.specs.Study.{linkRows, destinationNodes, tripEntries, networkOf}
 use Rattle.calls.specs.Questions.{endsFit, timesFit, destinationsFit, noTripsWithin, totalFits, tripsReach, tableHolds, budgetFits, shareFits, outputHolds}
 use Rattle.calls.specs.Questions.{ask, studyQuestions, shareQuestions, checkQuestions, packQuestions, startQuestions, runQuestions, tableQuestions}
 use Rattle.calls.specs.Calls.{checkNumber, packNumber, startNumber, runNumber, tableNumber}
@@ -18,7 +17,7 @@ use Rattle.calls.specs.Calls.{checkNumber, packNumber, startNumber, runN
 pub record Described (file : List ℕ) : Type 0 where
   pub opened : refusal file ≡ 0
   pub ends : endsFit (networkOf file) ≡ true
-  pub fields : timesFit (linkFields freeTime file) (linkFields rise file) (linkFields capacity file) (links file) ≡ true
+  pub fields : timesFit (linkRows file) ≡ true
   pub ascending : destinationsFit (networkOf file) ≡ true
   pub none-within : noTripsWithin (networkOf file) ≡ true
   pub few : totalFits (networkOf file) ≡ true
@@ -34,9 +33,13 @@ pub record SharePassed (file table : List ℕ) (share : ℕ) : Type 0 where
   pub totals-fit : totalsFit (networkOf file) share table ≡ true
   pub conserving : conserves (networkOf file) share table ≡ true
 
+-- Questions 6 to 11 of a file.
+abbrev questionsOf : List ℕ → List Question
+questionsOf file = studyQuestions (nodes file) (linkRows file) (destinationNodes file) (tripEntries file)
+
 check-numbered : (file : List ℕ) → numbered (checkQuestions file) ≡ true
 unfolding checkQuestions studyQuestions
-check-numbered file = numbered-append (opening file) (studyQuestions file) (opening-numbered file) refl
+check-numbered file = numbered-append (opening file) (questionsOf file) (opening-numbered file) refl
 
 start-numbered : (file table : List ℕ) → numbered (startQuestions file table) ≡ true
 unfolding startQuestions
@@ -45,10 +48,10 @@ start-numbered file table =
 
 -- Check's number is 0 exactly where the study passes questions 1 to 11.
 pub check-passed : (file : List ℕ) → checkNumber file ≡ 0 → Passed file
-unfolding checkNumber checkQuestions studyQuestions
+unfolding checkNumber checkQuestions studyQuestions networkOf
 check-passed file e =
-    let parts = opening-both file (studyQuestions file) e in
-    let yes′ = all-yes (studyQuestions file) refl (parts .1) in
+    let parts = opening-both file (questionsOf file) e in
+    let yes′ = all-yes (questionsOf file) refl (parts .1) in
     record {
       described =
           record {
@@ -64,9 +67,9 @@ check-passed file e =
 
 -- Of a study that passes questions 1 to 10, check's number is 0 or 11, by question 11 alone.
 pub described-check : (file : List ℕ) → Described file → checkNumber file ≡ cond (tripsReach (networkOf file)) 0 11
-unfolding checkNumber checkQuestions studyQuestions
+unfolding checkNumber checkQuestions studyQuestions networkOf
 described-check file h =
-    rw (after-opening file (studyQuestions file), h .opened)
+    rw (after-opening file (questionsOf file), h .opened)
     (rw (h .ends, h .fields, h .ascending, h .none-within, h .few))
 
 pub passed-check : (file : List ℕ) → Passed file → checkNumber file ≡ 0
@@ -85,9 +88,9 @@ pub run-number : (file table : List ℕ) (budget : ℕ) → runNumber file table
 unfolding runNumber runQuestions startNumber
 run-number file table budget = firstNo-append (startQuestions file table) (ask 13 (budgetFits budget) ∷ []) (start-numbered file table)
 
-pub table-number : (file table : List ℕ) (share : ℕ) → tableNumber file table share ≡ cond (eqb (startNumber file table) 0) (firstNo (shareQuestions file table share)) (startNumber file table)
+pub table-number : (file table : List ℕ) (share : ℕ) → tableNumber file table share ≡ cond (eqb (startNumber file table) 0) (firstNo (shareQuestions (networkOf file) table share)) (startNumber file table)
 unfolding tableNumber tableQuestions startNumber
-table-number file table share = firstNo-append (startQuestions file table) (shareQuestions file table share) (start-numbered file table)
+table-number file table share = firstNo-append (startQuestions file table) (shareQuestions (networkOf file) table share) (start-numbered file table)
 
 -- A start, a run, a pass and an audit are accepted exactly where their questions are answered yes.
 pub start-both : (file table : List ℕ) → startNumber file table ≡ 0 → (checkNumber file ≡ 0) × (tableHolds (networkOf file) table ≡ true)
@@ -108,13 +111,13 @@ run-both file table budget e =
 pub table-both : (file table : List ℕ) (share : ℕ) → tableNumber file table share ≡ 0 → (startNumber file table ≡ 0) × SharePassed file table share
 unfolding tableNumber tableQuestions startNumber shareQuestions
 table-both file table share e =
-    let parts = firstNo-both (startQuestions file table) (shareQuestions file table share) (start-numbered file table) e in
-    let yes′ = all-yes (shareQuestions file table share) refl (parts .1) in
+    let parts = firstNo-both (startQuestions file table) (shareQuestions (networkOf file) table share) (start-numbered file table) e in
+    let yes′ = all-yes (shareQuestions (networkOf file) table share) refl (parts .1) in
     (parts .0, record { share-fits = yes′ .0; totals-fit = yes′ .1 .0; conserving = yes′ .1 .1 .0 })
 
-share-yes : (file table : List ℕ) (share : ℕ) → SharePassed file table share → firstNo (shareQuestions file table share) ≡ 0
+share-yes : (file table : List ℕ) (share : ℕ) → SharePassed file table share → firstNo (shareQuestions (networkOf file) table share) ≡ 0
 unfolding shareQuestions
-share-yes file table share h = no-refusal (shareQuestions file table share) (h .share-fits, (h .totals-fit, (h .conserving, tt)))
+share-yes file table share h = no-refusal (shareQuestions (networkOf file) table share) (h .share-fits, (h .totals-fit, (h .conserving, tt)))
 
 pub both-table : (file table : List ℕ) (share : ℕ) → startNumber file table ≡ 0 → SharePassed file table share → tableNumber file table share ≡ 0
 both-table file table share s h = rw (table-number file table share, s) (share-yes file table share h)

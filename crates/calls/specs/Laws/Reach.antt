@@ -15,7 +15,8 @@ use Rattle.theory.specs.Laws.Finite.{all-elim, all-intro, getD-tabulate}
 use Rattle.theory.specs.Laws.Conserving.{or-false}
 use Rattle.theory.specs.Laws.Routings.{Timed, AllServed, served-at-times}
 use Rattle.theory.specs.Flows.{conserves, Carries}
-use Rattle.calls.specs.Study.{networkFrom, networkOf}
+use Rattle.theory.specs.Study.{network}
+use Rattle.calls.specs.Study.{networkOf}
 use Rattle.calls.specs.Questions.{hasPath, tripsReach}
 use Rattle.calls.specs.Laws.Questions.{Passed}
 use Rattle.calls.specs.Laws.Networks.{sound}
@@ -42,7 +43,7 @@ served-reach g served =
 
 -- Every link may be used, so a table that conserves carries.
 pub all-permitted : (file : List ℕ) (share : ℕ) (table : List ℕ) → conserves (networkOf file) share table ≡ true → Carries (networkOf file) share table
-unfolding networkOf networkFrom
+unfolding networkOf network
 all-permitted file share table e = record { conserving = e; permitted = λ k l p q barred. absurd (true≢false barred) }
 
 module _ (file : List ℕ) (h : Passed file) where

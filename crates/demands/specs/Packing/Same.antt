@@ -6,8 +6,8 @@ use Rattle.study.specs.Questions.{refusal}
 use Rattle.study.specs.Sections.{nodes, links, destinations, linkPart, destinationPart, tripPart}
 use Rattle.study.specs.Fields.{destination, trips}
 use Rattle.study.specs.Laws.{after-opening}
-use Rattle.calls.specs.Study.{linkFields, destinationNodes, tripEntries, networkOf}
-use Rattle.calls.specs.Questions.{packedSize, outputHolds, studyQuestions, shareQuestions, checkQuestions}
+use Rattle.calls.specs.Study.{linkRows, destinationNodes, tripEntries, networkOf}
+use Rattle.calls.specs.Questions.{packedSize, outputHolds, checkQuestions}
 use Rattle.calls.specs.Pack.{packed}
 use Rattle.calls.specs.Laws.Questions.{pack-number, start-number, table-number, run-number}
 use Rattle.calls.specs.Calls.{checkNumber, packNumber, packOutput, startNumber, startTable, tableNumber, auditAnswer, passAnswer, passTable, runNumber, runAnswer, runTable}
@@ -33,14 +33,21 @@ module _ {a b : List ℕ} (same : SameStudy a b) where
   pub same-trips : (k node : ℕ) → trips (tripPart a) (nodes a) k node ≡ trips (tripPart b) (nodes b) k node
   same-trips k node = rw (same .same-trip-part, same .same-nodes)
 
-  pub same-link-fields : (field : List ℕ → ℕ → ℕ) → linkFields field a ≡ linkFields field b
-  unfolding linkFields
-  same-link-fields field = rw (same .same-links, same .same-link-part)
+  pub same-rows : linkRows a ≡ linkRows b
+  unfolding linkRows
+  same-rows = rw (same .same-links, same .same-link-part)
+
+  pub same-destination-nodes : destinationNodes a ≡ destinationNodes b
+  unfolding destinationNodes
+  same-destination-nodes = rw (same .same-destinations, same .same-destination-part)
+
+  pub same-entries : tripEntries a ≡ tripEntries b
+  unfolding tripEntries
+  same-entries = rw (same .same-destinations, same .same-nodes, same .same-trip-part)
 
   pub same-network : networkOf a ≡ networkOf b
-  unfolding networkOf linkFields destinationNodes tripEntries
-  same-network =
-      rw (same .same-nodes, same .same-links, same .same-destinations, same .same-link-part, same .same-destination-part, same .same-trip-part)
+  unfolding networkOf
+  same-network = rw (same .same-nodes, same-rows, same-destination-nodes, same-entries)
 
   pub same-packed : packed a ≡ packed b
   unfolding packed
@@ -53,8 +60,8 @@ module _ {a b : List ℕ} (same : SameStudy a b) where
 
   -- Every call answers the same, and leaves the same in lent memory.
   pub same-check : checkNumber a ≡ checkNumber b
-  unfolding checkNumber checkQuestions studyQuestions
-  same-check = rw (after-opening a, after-opening b, same .same-refusal, same-network, same .same-links) (simp same-link-fields)
+  unfolding checkNumber checkQuestions
+  same-check = rw (after-opening a, after-opening b, same .same-refusal, same .same-nodes, same-rows, same-destination-nodes, same-entries)
 
   pub same-pack-number : (output : List ℕ) → packNumber a output ≡ packNumber b output
   unfolding outputHolds
@@ -72,7 +79,6 @@ module _ {a b : List ℕ} (same : SameStudy a b) where
   same-start-table table = rw (same-start-number, same-network)
 
   same-table-number : (table : List ℕ) (share : ℕ) → tableNumber a table share ≡ tableNumber b table share
-  unfolding shareQuestions
   same-table-number table share = rw (table-number a, table-number b, same-start-number, same-network)
 
   pub same-audit : (table : List ℕ) (share : ℕ) → auditAnswer a table share ≡ auditAnswer b table share

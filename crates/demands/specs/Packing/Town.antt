@@ -9,8 +9,9 @@ use Rattle.study.specs.Sections.{nodes, links, destinations, part}
 use Rattle.study.specs.Fields.{tail, head, freeTime, rise, capacity, destination, trips}
 use Rattle.theory.specs.Finite.{sum, all, tabulate, rows}
 use Rattle.theory.specs.Network.{totalTrips}
+use Rattle.theory.specs.Study.{network}
 use Rattle.theory.specs.Routes.{leastOf, fromHead, round, rounds, distances}
-use Rattle.calls.specs.Study.{linkFields, destinationNodes, tripEntries, networkFrom, networkOf}
+use Rattle.calls.specs.Study.{linkRow, linkRows, destinationNodes, tripEntries, networkOf}
 use Rattle.calls.specs.Questions.{endsFit, timesFit, destinationsFit, noTripsWithin, totalFits, hasPath, tripsReach, packedSize, outputHolds, studyQuestions, checkQuestions, packQuestions}
 use Rattle.calls.specs.Pack.{bytes16, bytes32, packedHeader, packed}
 use Rattle.calls.specs.Calls.{overwritten, packNumber, packOutput}
@@ -41,7 +42,7 @@ pub record TownPacks : Type 0 where
   pub gapped-output : packOutput gappedTown gappedTown ≡ town ++ (7 ∷ 7 ∷ 2 ∷ 0 ∷ 0 ∷ 0 ∷ 7 ∷ [])
 
 pub town-packs : TownPacks
-unfolding town gappedTown u16 u32 version nodeField linkField destinationField offset size lengthFits versionKnown countsFit sectionsInOrder sizesFit opening refusal nodes links destinations part tail head freeTime rise capacity destination trips sum all tabulate rows totalTrips leastOf fromHead round rounds distances linkFields destinationNodes tripEntries networkFrom networkOf endsFit timesFit destinationsFit noTripsWithin totalFits hasPath tripsReach packedSize outputHolds studyQuestions checkQuestions packQuestions bytes16 bytes32 packedHeader packed overwritten packNumber packOutput
+unfolding town gappedTown u16 u32 version nodeField linkField destinationField offset size lengthFits versionKnown countsFit sectionsInOrder sizesFit opening refusal nodes links destinations part tail head freeTime rise capacity destination trips sum all tabulate rows totalTrips leastOf fromHead round rounds distances linkRow linkRows destinationNodes tripEntries network networkOf endsFit timesFit destinationsFit noTripsWithin totalFits hasPath tripsReach packedSize outputHolds studyQuestions checkQuestions packQuestions bytes16 bytes32 packedHeader packed overwritten packNumber packOutput
 town-packs =
     record {
       town-accepted = refl;

@@ -4,20 +4,22 @@ use native.Mathlib.Nat.{mul-div-mul-left}
 use native.Mathlib.Omega.{arith}
 use mathlib.Core.Path.{_≡_, sym, _∙_, ap, ap₂}
 use mathlib.Core.Bool.{true}
-use mathlib.Core.List.{List}
+use mathlib.Core.List.{List, []}
 use lib.ListN.{getD}
-use borrow.Author.Tests.{leb-true}
-use Rattle.theory.specs.Flows.{linkTotal, step, stepTime}
-use Rattle.calls.specs.Calls.{shareAfter, tableAfter}
-use Rattle.travel.specs.Links.{padded, listTime}
-use Rattle.travel.specs.Laws.Padded.{getD-padded, padded-cong}
-use Rattle.judging.specs.declared.Decoded.{Decoded}
-use Rattle.judging.specs.Study.{Ready}
+use borrow.Author.Tests.{leb-true, le-ltb}
+use Rattle.theory.specs.Flows.{step, stepTime}
+use Rattle.theory.specs.Study.{freeTime, rise, capacity}
+use Rattle.calls.specs.Calls.{shareAfter}
+use Rattle.travel.specs.Links.{padded, listTime, totalOf}
+use Rattle.travel.specs.Laws.Padded.{padded-cong}
+use Rattle.judging.specs.Study.{Study, linkCount, destinationCount, Ready}
 use Rattle.judging.specs.Loading.{volumeRows, front}
-use Rattle.judging.specs.Moves.{canMove, moveAlong}
-use Rattle.judging.specs.Judged.{Known, KnownOf}
+use Rattle.judging.specs.Moves.{canMove, moveAlong, totalAfter}
+use Rattle.judging.specs.Judged.{Known}
+use Rattle.judging.specs.Laws.Front.{front-at}
 use Rattle.judging.specs.Laws.Moves.{can-double, doubles}
-use Rattle.judging.specs.Laws.Totals.{total-doubled}
+use Rattle.judging.specs.Laws.Totals.{movedTo}
+use Rattle.judging.specs.Laws.Judged.{TwoRows, totals-set}
 
 -- 64·2S / (c·2W) is 64·S / (c·W).
 step-doubled : (capacity share flow : ℕ) → step capacity share flow ≡ step capacity (2 * share) (2 * flow)
@@ -28,53 +30,53 @@ step-doubled capacity share flow =
     let below : capacity * (2 * share) ≡ 2 * (capacity * share) = omega arith in
     ap (min 256) (sym (ap₂ (λ a b. a / b) above below ∙ same))
 
-module _ {d : Decoded} (ready : Ready d) (table : List ℕ) {share : ℕ} {totals times : List ℕ} {nexts volumes : List (List ℕ)} {loads : List ℕ}
-    (totals-are : totals ≡ padded (d .links) (linkTotal (d .destinations) (d .links) table))
-    (known : Known d totals share times nexts volumes loads) where
-  abbrev double : List ℕ
-  double = front (d .destinations * d .links) (λ i. 2 * getD table i 0) table
+module _ {d : Study} (ready : Ready d) {share : ℕ} {times : List ℕ} {nexts volumes flows : List (List ℕ)}
+    (known : Known d share times nexts volumes flows) where
+  -- Totals that are moved without a j are doubled,
+  module _ {j : ℕ} (none : j ≤ 0) {flows′ : List (List ℕ)} (flows-are : flows′ ≡ movedTo (linkCount d) j flows) where
+    rows : TwoRows flows′ (front (linkCount d) (totalAfter j flows) (getD flows 0 [])) (getD flows 1 [])
+    rows = totals-set flows _ (known .flows-long) flows-are
 
-  abbrev totals′ : List ℕ
-  totals′ = padded (d .links) (linkTotal (d .destinations) (d .links) double)
+    flow-doubled : (l : ℕ) → l < linkCount d → totalOf flows′ l ≡ 2 * totalOf flows l
+    unfolding totalAfter
+    flow-doubled l h =
+        ap (λ xs. getD xs l 0) (rows .totals-are)
+        ∙ front-at (linkCount d) (totalAfter j flows) (getD flows 0 []) l h
+        ∙ rw (le-ltb 0 j none)
 
-  flow-doubled : (l : ℕ) → l < d .links → getD totals′ l 0 ≡ 2 * getD totals l 0
-  flow-doubled l h =
-      getD-padded (d .links) _ l h
-      ∙ total-doubled (d .destinations) (d .links) table l h
-      ∙ ap (λ x. 2 * x) (sym (ap (λ xs. getD xs l 0) totals-are ∙ getD-padded (d .links) _ l h))
+    times-kept :
+        padded (linkCount d) (listTime (d .links) share (getD flows 0 []))
+        ≡ padded (linkCount d) (listTime (d .links) (2 * share) (getD flows′ 0 []))
+    unfolding listTime
+    times-kept =
+        padded-cong (linkCount d) _ _ (ready .few-links) (λ l h.
+        ap (stepTime (freeTime (d .links) l) (rise (d .links) l))
+        (step-doubled (capacity (d .links) l) share (totalOf flows l)
+        ∙ ap (step (capacity (d .links) l) (2 * share)) (sym (flow-doubled l h))))
 
-  times-kept :
-      padded (d .links) (listTime (d .«free_times») (d .rises) (d .capacities) share totals)
-      ≡ padded (d .links) (listTime (d .«free_times») (d .rises) (d .capacities) (2 * share) totals′)
-  unfolding listTime
-  times-kept =
-      padded-cong (d .links) _ _ (ready .few-links) (λ l h.
-      ap (stepTime (getD (d .«free_times») l 0) (getD (d .rises) l 0))
-      (step-doubled (getD (d .capacities) l 0) share (getD totals l 0)
-      ∙ ap (step (getD (d .capacities) l 0) (2 * share)) (sym (flow-doubled l h))))
+    known-doubled : Known d (2 * share) times nexts volumes flows′
+    known-doubled =
+        record {
+          times-are = known .times-are ∙ times-kept;
+          times-fit = known .times-fit;
+          nexts-are = known .nexts-are;
+          volumes-long = known .volumes-long;
+          volumes-are = known .volumes-are;
+          flows-long = rows .long;
+          loads-are = rows .loads-are ∙ known .loads-are;
+        }
 
-  known-doubled : KnownOf d double (2 * share) times nexts volumes loads
-  known-doubled =
-      record {
-        times-are = known .times-are ∙ times-kept;
-        times-fit = known .times-fit;
-        nexts-are = known .nexts-are;
-        volumes-long = known .volumes-long;
-        volumes-are = known .volumes-are;
-        loads-are = known .loads-are;
-      }
-
-  -- A move that chose no j is a doubling.
+  -- and the share too.
   abbrev y : List ℕ
-  y = volumeRows (d .nodes) (d .links) (d .destinations) nexts volumes
+  y = volumeRows (d .nodes) (linkCount d) (destinationCount d) nexts volumes
 
   pub known-moved :
-      {j : ℕ} → canMove share j ≡ true → j ≡ 0 → {share′ : ℕ} {table′ : List ℕ} →
-      share′ ≡ shareAfter share (moveAlong (d .destinations * d .links) share j y table) →
-      table′ ≡ tableAfter table (moveAlong (d .destinations * d .links) share j y table) →
-      KnownOf d table′ share′ times nexts volumes loads
-  known-moved {j} can none share-is table-is =
+      (table : List ℕ) {j : ℕ} → canMove share j ≡ true → j ≡ 0 → {share′ : ℕ} {flows′ : List (List ℕ)} →
+      share′ ≡ shareAfter share (moveAlong (destinationCount d * linkCount d) share j y table) →
+      flows′ ≡ movedTo (linkCount d) j flows →
+      Known d share′ times nexts volumes flows′
+  known-moved table {j} can none share-is flows-are =
       let few : j ≤ 0 = omega arith in
       let fits = leb-true (2 * share) 1024 (can-double share j few ∙ can) in
-      let is = doubles (d .destinations * d .links) share j y table few fits in
-      rw (share-is ∙ sym (is .0), table-is ∙ sym (is .1)) known-doubled
+      let is = doubles (destinationCount d * linkCount d) share j y table few fits in
+      rw (share-is ∙ sym (is .0)) (known-doubled few flows-are)

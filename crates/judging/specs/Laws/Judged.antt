@@ -3,10 +3,11 @@ use Prim.Native.Nat.{ℕ, _+_, _*_, _-_, _≤_, _<_, min}
 use native.Mathlib.Nat.{le-trans, mul-le-mul-left, mul-le-mul-right}
 use native.Mathlib.Omega.{arith}
 use mathlib.Core.Path.{_≡_, refl, sym, _∙_, ap, ap₂}
-use mathlib.Core.Bool.{true}
-use mathlib.Core.List.{List}
+use mathlib.Core.Bool.{true, false}
+use mathlib.Core.List.{List, []}
 use mathlib.Core.Logic.{⊎-elim}
-use lib.ListN.{length, getD, replicate, List·getD-eq-default}
+use lib.ListN.{length, getD, set, replicate, length-set, List·getD-eq-default}
+use lib.Seq.{getD-set-same, getD-set-other}
 use lib.Dec.{leb}
 use Rattle.theory.specs.Flows.{linkTotal, total, step, stepTime, times, Carries}
 use Rattle.theory.specs.Routes.{loading}
@@ -22,63 +23,107 @@ use Rattle.theory.specs.Laws.Bound.{gap-exact}
 use Rattle.theory.specs.Laws.Choice.{chosen-le}
 use Rattle.theory.specs.Laws.Moves.{chosenOf}
 use Rattle.theory.specs.Laws.Local.{moveBy, move-by}
-use Rattle.calls.specs.Study.{networkFrom}
+use Rattle.theory.specs.Study.{freeTime, rise, capacity, network}
 use Rattle.calls.specs.Calls.{tableAfter}
-use Rattle.travel.specs.Links.{padded, roads, listTime, listCost, listProduct}
+use Rattle.travel.specs.Links.{padded, roads, listTime, listCost, listProduct, totalOf, loadOf}
 use Rattle.travel.specs.Ranges.{Within, ShareFits, TimesFit, MoveFits, mostFlow}
 use Rattle.travel.specs.Laws.Padded.{length-padded, getD-padded, getD-padded-rest, padded-clear, zeros-clear}
-use Rattle.routes.specs.Table.{leastOver}
-use Rattle.judging.specs.declared.Decoded.{Decoded}
-use Rattle.judging.specs.Study.{networkIn, Ready, Judgeable, moveOf}
-use Rattle.judging.specs.Loading.{loadingAlong, volumeRows, front}
-use Rattle.judging.specs.Moves.{canMove, moveAlong, totalAfter, TotalsMovable, Movable}
-use Rattle.judging.specs.Judged.{Lent, Known, KnownOf, GapFits}
+use Rattle.search.specs.Groups.{leastOver}
+use Rattle.judging.specs.declared.Step.{Step}
+use Rattle.judging.specs.Study.{Study, linkCount, destinationCount, networkIn, Ready, Judgeable, moveOf}
+use Rattle.judging.specs.Loading.{loadingAlong, volumeRows}
+use Rattle.judging.specs.Moves.{canMove, moveAlong, TotalsMovable, Movable}
+use Rattle.judging.specs.Judged.{Lent, TotalsOf, Known, JudgedAt, GapFits, Left, turnOf}
 use Rattle.judging.specs.Laws.Study.{holds-rows, links-fit}
 use Rattle.judging.specs.Laws.Tables.{number-most}
 use Rattle.judging.specs.Laws.Moves.{moves-by}
-use Rattle.judging.specs.Laws.Totals.{moved-totals}
+use Rattle.judging.specs.Laws.Totals.{movedTo, moved-totals}
 use Rattle.judging.specs.Laws.Routes.{TimesIn, timed, served, loading-is, load-most, next-links}
 use Rattle.judging.specs.Laws.Least.{least-over}
 
 -- The choice of j goes by the flows of the links, their capacities and their times.
 chosen-roads :
-    (d : Decoded) (share : ℕ) (s y s′ y′ : ℕ → ℕ) → ((l : ℕ) → l < d .links → s l ≡ s′ l) → ((l : ℕ) → l < d .links → y l ≡ y′ l) →
-    chosen (roads (d .links) (d .«free_times») (d .rises) (d .capacities)) share s y ≡ chosen (networkIn d) share s′ y′
-unfolding chosen qualifies movedTimes roads networkIn networkFrom
+    (d : Study) (share : ℕ) (s y s′ y′ : ℕ → ℕ) → ((l : ℕ) → l < linkCount d → s l ≡ s′ l) → ((l : ℕ) → l < linkCount d → y l ≡ y′ l) →
+    chosen (roads (d .links)) share s y ≡ chosen (networkIn d) share s′ y′
+unfolding chosen qualifies movedTimes network
 chosen-roads d share s y s′ y′ same-s same-y =
     largest-cong (min 64 (1024 - share)) _ _ (λ j.
     ap₂ (λ a b. leb (share * a) b)
-    (sum-cong (d .links) _ _ (λ l h. ap₂ (λ u v. v * time j l (u + j * v)) (same-s l h) (same-y l h)))
-    (sum-cong (d .links) _ _ (λ l h. ap₂ (λ u v. u * time j l (u + j * v)) (same-s l h) (same-y l h))))
+    (sum-cong (linkCount d) _ _ (λ l h. ap₂ (λ u v. v * time j l (u + j * v)) (same-s l h) (same-y l h)))
+    (sum-cong (linkCount d) _ _ (λ l h. ap₂ (λ u v. u * time j l (u + j * v)) (same-s l h) (same-y l h))))
   where
     time : ℕ → ℕ → ℕ → ℕ
-    time j l flow = stepTime (getD (d .«free_times») l 0) (getD (d .rises) l 0) (step (getD (d .capacities) l 0) (share + j) flow)
+    time j l flow = stepTime (freeTime (d .links) l) (rise (d .links) l) (step (capacity (d .links) l) (share + j) flow)
 
 -- Arrays that hold what judging computes can be lent for judging.
 pub known-lent :
-    {d : Decoded} {share : ℕ} {totals times : List ℕ} {nexts volumes : List (List ℕ)} {loads : List ℕ} →
-    Ready d → Known d totals share times nexts volumes loads → Lent (d .links) times nexts volumes loads
+    {d : Study} {share : ℕ} {times : List ℕ} {nexts volumes flows : List (List ℕ)} →
+    Ready d → Known d share times nexts volumes flows → Lent (linkCount d) times nexts volumes flows
 known-lent {d} ready known =
     record {
-      times-clear = rw (known .times-are) (padded-clear (d .links) _ (ready .few-links));
+      times-clear = rw (known .times-are) (padded-clear (linkCount d) _ (ready .few-links));
       nexts-long = known .nexts-are .size;
       volumes-long = known .volumes-long;
-      loads-clear = rw (known .loads-are) (padded-clear (d .links) _ (ready .few-links));
+      flows-long = known .flows-long;
+      loads-clear = rw (known .loads-are) (padded-clear (linkCount d) _ (ready .few-links));
     }
 
 -- So can new ones.
-pub zeros-lent : (m : ℕ) {nexts volumes : List (List ℕ)} → length nexts ≡ 32 → length volumes ≡ 32 → Lent m (replicate 512 0) nexts volumes (replicate 512 0)
-zeros-lent m nexts-long volumes-long =
-    record { times-clear = zeros-clear m; nexts-long = nexts-long; volumes-long = volumes-long; loads-clear = zeros-clear m }
+pub zeros-lent :
+    (m : ℕ) {nexts volumes flows : List (List ℕ)} → length nexts ≡ 32 → length volumes ≡ 32 → length flows ≡ 2 → getD flows 1 [] ≡ replicate 512 0 →
+    Lent m (replicate 512 0) nexts volumes flows
+zeros-lent m nexts-long volumes-long flows-long none =
+    record {
+      times-clear = zeros-clear m;
+      nexts-long = nexts-long;
+      volumes-long = volumes-long;
+      flows-long = flows-long;
+      loads-clear = rw none (zeros-clear m);
+    }
 
--- What is known of a table's totals is known where they stand in an array.
-pub known-at :
-    {d : Decoded} (table : List ℕ) {share : ℕ} {totals times : List ℕ} {nexts volumes : List (List ℕ)} {loads : List ℕ} →
-    totals ≡ padded (d .links) (linkTotal (d .destinations) (d .links) table) → KnownOf d table share times nexts volumes loads →
-    Known d totals share times nexts volumes loads
-known-at table e known = rw e known
+-- Two rows of flows. Where one is written, the other stays.
+pub record TwoRows (flows : List (List ℕ)) (totals loads : List ℕ) : Type 0 where
+  pub long : length flows ≡ 2
+  pub totals-are : getD flows 0 [] ≡ totals
+  pub loads-are : getD flows 1 [] ≡ loads
 
-module _ {d : Decoded} {table : List ℕ} {share : ℕ} (ready : Ready d) (judgeable : Judgeable d table share) where
+module _ (flows : List (List ℕ)) (row : List ℕ) {flows′ : List (List ℕ)} (long : length flows ≡ 2) where
+  pub totals-set : flows′ ≡ set flows 0 row → TwoRows flows′ row (getD flows 1 [])
+  totals-set e =
+      rw e
+      (record {
+        long = length-set flows 0 row ∙ long;
+        totals-are = getD-set-same flows 0 row [] (omega arith);
+        loads-are = getD-set-other flows 0 1 row [] (λ s. omega arith);
+      })
+
+  pub loads-set : flows′ ≡ set flows 1 row → TwoRows flows′ (getD flows 0 []) row
+  loads-set e =
+      rw e
+      (record {
+        long = length-set flows 1 row ∙ long;
+        totals-are = getD-set-other flows 1 0 row [] (λ s. omega arith);
+        loads-are = getD-set-same flows 1 row [] (omega arith);
+      })
+
+-- Arrays in which the totals S are written anew can still be lent.
+pub totals-lent :
+    {m : ℕ} (row : List ℕ) {times : List ℕ} {nexts volumes flows flows′ : List (List ℕ)} → Lent m times nexts volumes flows →
+    flows′ ≡ set flows 0 row → Lent m times nexts volumes flows′
+totals-lent row {flows} lent e =
+    let rows = totals-set flows row (lent .flows-long) e in
+    record {
+      times-clear = lent .times-clear;
+      nexts-long = lent .nexts-long;
+      volumes-long = lent .volumes-long;
+      flows-long = rows .long;
+      loads-clear = rw (rows .loads-are) (lent .loads-clear);
+    }
+
+module _ {d : Study} {table : List ℕ} {share : ℕ} (judgeable : Judgeable d table share) where
+  abbrev ready : Ready d
+  ready = judgeable .ready
+
   -- The times of the table, in link order.
   abbrev exact : List ℕ
   exact = times (networkIn d) share table
@@ -86,63 +131,63 @@ module _ {d : Decoded} {table : List ℕ} {share : ℕ} (ready : Ready d) (judge
   pub share-fits : ShareFits share
   share-fits = record { some-share = judgeable .some-share; share-fits = judgeable .share-most }
 
-  pub holds : d .destinations * d .links ≤ length table
+  pub holds : destinationCount d * linkCount d ≤ length table
   holds = holds-rows d table (judgeable .holds)
 
   -- Every link may be used, so a conserving table carries the trips.
   carries : Carries (networkIn d) share table
-  unfolding networkIn networkFrom
+  unfolding network
   carries = record { conserving = judgeable .conserving; permitted = λ k l h b barred. true-false refl barred }
 
-  total-most : (l : ℕ) → l < d .links → linkTotal (d .destinations) (d .links) table l ≤ share * 65535
-  unfolding networkIn networkFrom
+  total-most : (l : ℕ) → l < linkCount d → linkTotal (destinationCount d) (linkCount d) table l ≤ share * 65535
+  unfolding network
   total-most l h =
       le-trans (totalsFit-all (networkIn d) share table (judgeable .totals-fit) l h) (mul-le-mul-left share (ready .few-trips))
 
   -- The totals S stand in an array.
-  module _ {totals : List ℕ} (totals-are : totals ≡ padded (d .links) (linkTotal (d .destinations) (d .links) table)) where
-    total-at : (l : ℕ) → l < d .links → getD totals l 0 ≡ linkTotal (d .destinations) (d .links) table l
-    total-at l h = ap (λ xs. getD xs l 0) totals-are ∙ getD-padded (d .links) _ l h
+  module _ {totals : List ℕ} (totals-are : totals ≡ padded (linkCount d) (linkTotal (destinationCount d) (linkCount d) table)) where
+    total-at : (l : ℕ) → l < linkCount d → getD totals l 0 ≡ linkTotal (destinationCount d) (linkCount d) table l
+    total-at l h = ap (λ xs. getD xs l 0) totals-are ∙ getD-padded (linkCount d) _ l h
 
-    flows-within : Within (d .links) (share * 65535) totals
+    flows-within : Within (linkCount d) (share * 65535) totals
     flows-within l h = omega (arith, total-at l h, total-most l h)
 
-    pub totals-within : Within (d .links) mostFlow totals
+    pub totals-within : Within (linkCount d) mostFlow totals
     totals-within l h = omega (arith, flows-within l h, mul-le-mul-right 65535 (judgeable .share-most))
 
-    pub cost-is : listCost (d .links) (d .«free_times») (d .rises) (d .capacities) share totals ≡ cost (networkIn d) share table
-    unfolding listCost cost networkIn networkFrom
+    pub cost-is : listCost (d .links) share totals ≡ cost (networkIn d) share table
+    unfolding listCost cost network
     cost-is =
-        sum-cong (d .links) _ _ (λ l h.
-        ap (linkCost (stepTime (getD (d .«free_times») l 0) (getD (d .rises) l 0)) (getD (d .capacities) l 0) share) (total-at l h))
+        sum-cong (linkCount d) _ _ (λ l h.
+        ap (linkCost (stepTime (freeTime (d .links) l) (rise (d .links) l)) (capacity (d .links) l) share) (total-at l h))
 
     -- The times at them stand in an array.
     module _ {times′ : List ℕ}
-        (times-are : times′ ≡ padded (d .links) (listTime (d .«free_times») (d .rises) (d .capacities) share totals))
-        (fit : TimesFit (d .links) times′) where
-      time-at : (l : ℕ) → l < d .links → getD times′ l 0 ≡ getD exact l 0
-      unfolding listTime networkIn networkFrom
+        (times-are : times′ ≡ padded (linkCount d) (listTime (d .links) share totals))
+        (fit : TimesFit (linkCount d) times′) where
+      time-at : (l : ℕ) → l < linkCount d → getD times′ l 0 ≡ getD exact l 0
+      unfolding listTime network
       time-at l h =
           ap (λ xs. getD xs l 0) times-are
-          ∙ getD-padded (d .links) _ l h
+          ∙ getD-padded (linkCount d) _ l h
           ∙ ap
-          (λ flow. stepTime (getD (d .«free_times») l 0) (getD (d .rises) l 0) (step (getD (d .capacities) l 0) share flow))
+          (λ flow. stepTime (freeTime (d .links) l) (rise (d .links) l) (step (capacity (d .links) l) share flow))
           (total-at l h)
           ∙ sym (times-at (networkIn d) share table l h)
 
-      time-past : (l : ℕ) → d .links ≤ l → getD times′ l 0 ≡ getD exact l 0
-      unfolding networkIn networkFrom
+      time-past : (l : ℕ) → linkCount d ≤ l → getD times′ l 0 ≡ getD exact l 0
+      unfolding network
       time-past l h =
           ap (λ xs. getD xs l 0) times-are
-          ∙ getD-padded-rest (d .links) _ l h
+          ∙ getD-padded-rest (linkCount d) _ l h
           ∙ sym (List·getD-eq-default exact 0 (omega (arith, length-times (networkIn d) share table)))
 
       times-in : TimesIn d times′ exact
-      times-in = record { fit = fit; same = λ l. ⊎-elim (time-at l) (time-past l) (order l (d .links)) }
+      times-in = record { fit = fit; same = λ l. ⊎-elim (time-at l) (time-past l) (order l (linkCount d)) }
 
-      spent-is : listProduct (d .links) times′ totals ≡ spentTimes (networkIn d) exact table
-      unfolding listProduct spentTimes networkIn networkFrom
-      spent-is = sum-cong (d .links) _ _ (λ l h. ap₂ (λ a b. a * b) (time-at l h) (total-at l h))
+      spent-is : listProduct (linkCount d) times′ totals ≡ spentTimes (networkIn d) exact table
+      unfolding listProduct spentTimes network
+      spent-is = sum-cong (linkCount d) _ _ (λ l h. ap₂ (λ a b. a * b) (time-at l h) (total-at l h))
 
       least-spent : share * leastTimes (networkIn d) exact ≤ spentTimes (networkIn d) exact table
       least-spent =
@@ -153,21 +198,30 @@ module _ {d : Decoded} {table : List ℕ} {share : ℕ} (ready : Ready d) (judge
 
       -- The sum of D(j,s) × distance, as searches find it: W times that is at most the sum of t·S, and their difference is the gap.
       abbrev least′ : ℕ
-      least′ = leastOver (d .nodes) (d .links) (d .destinations) (d .tails) (d .heads) times′ (d .«destination_nodes») (d .trips)
+      least′ = leastOver (d .nodes) (d .links) (d .destinations) (d .trips) times′
 
-      pub least-fits : share * least′ ≤ listProduct (d .links) times′ totals
+      pub least-fits : share * least′ ≤ listProduct (linkCount d) times′ totals
       least-fits = rw (spent-is, least-over ready times-in) least-spent
 
-      pub defined-gap : listProduct (d .links) times′ totals - share * least′ ≡ gap (networkIn d) share table
+      pub defined-gap : listProduct (linkCount d) times′ totals - share * least′ ≡ gap (networkIn d) share table
       unfolding gap
       defined-gap = ap₂ (λ a b. a - share * b) spent-is (least-over ready times-in)
 
   -- All that is computed of the table stands in arrays.
-  module _ {totals times′ : List ℕ} {nexts volumes : List (List ℕ)} {loads : List ℕ}
-      (totals-are : totals ≡ padded (d .links) (linkTotal (d .destinations) (d .links) table))
-      (c : Known d totals share times′ nexts volumes loads) where
+  module _ {times′ : List ℕ} {nexts volumes flows₀ flows : List (List ℕ)} (judged : JudgedAt d share flows₀ times′ nexts volumes flows)
+      (totals-were : TotalsOf d table flows₀) where
+    abbrev c : Known d share times′ nexts volumes flows
+    c = judged .known
+
+    pub totals-are : TotalsOf d table flows
+    totals-are = judged .totals-kept ∙ totals-were
+
+    -- A turn that moves nothing leaves them so.
+    pub left-still : {step : Step} {share′ gap′ : ℕ} → Left d (turnOf step share′ gap′ false) table times′ nexts volumes flows
+    left-still = record { lent = known-lent ready c; totals-are = totals-are; known = λ e. true-false e refl }
+
     abbrev y : List ℕ
-    y = loadingAlong (d .nodes) (d .links) (d .destinations) (d .heads) (d .trips) nexts
+    y = loadingAlong (d .nodes) (d .links) (destinationCount d) (d .trips) nexts
 
     t : TimesIn d times′ exact
     t = times-in totals-are (c .times-are) (c .times-fit)
@@ -175,29 +229,29 @@ module _ {d : Decoded} {table : List ℕ} {share : ℕ} (ready : Ready d) (judge
     y-is : y ≡ loading (networkIn d) exact
     y-is = loading-is ready t (c .nexts-are)
 
-    load-at : (l : ℕ) → l < d .links → getD loads l 0 ≡ linkTotal (d .destinations) (d .links) y l
-    load-at l h = ap (λ xs. getD xs l 0) (c .loads-are) ∙ getD-padded (d .links) _ l h
+    load-at : (l : ℕ) → l < linkCount d → loadOf flows l ≡ linkTotal (destinationCount d) (linkCount d) y l
+    load-at l h = ap (λ xs. getD xs l 0) (c .loads-are) ∙ getD-padded (linkCount d) _ l h
 
-    load-is : (l : ℕ) → l < d .links → getD loads l 0 ≡ total (networkIn d) (loading (networkIn d) exact) l
-    unfolding networkIn networkFrom
-    load-is l h = load-at l h ∙ ap (λ loading. linkTotal (d .destinations) (d .links) loading l) y-is
+    load-is : (l : ℕ) → l < linkCount d → loadOf flows l ≡ total (networkIn d) (loading (networkIn d) exact) l
+    unfolding network
+    load-is l h = load-at l h ∙ ap (λ loading. linkTotal (destinationCount d) (linkCount d) loading l) y-is
 
-    loads-within : Within (d .links) 65535 loads
+    loads-within : Within (linkCount d) 65535 (getD flows 1 [])
     loads-within l h = omega (arith, load-at l h, load-most ready t (c .nexts-are) l h)
 
-    least-is : listProduct (d .links) times′ loads ≡ leastTimes (networkIn d) exact
-    unfolding listProduct spentTimes networkIn networkFrom
+    least-is : listProduct (linkCount d) times′ (getD flows 1 []) ≡ leastTimes (networkIn d) exact
+    unfolding listProduct spentTimes network
     least-is =
-        sum-cong (d .links) _ _ (λ l h. ap₂ (λ a b. a * b) (t .same l) (load-is l h))
+        sum-cong (linkCount d) _ _ (λ l h. ap₂ (λ a b. a * b) (t .same l) (load-is l h))
         ∙ loading-spends (networkIn d) (ready .sound) exact (timed ready t) (served ready t)
 
     -- The gap: it is the sum of t·S, less W times the sum of t·Y,
-    pub gap-is : listProduct (d .links) times′ totals - share * listProduct (d .links) times′ loads ≡ gap (networkIn d) share table
+    pub gap-is : listProduct (linkCount d) times′ (getD flows 0 []) - share * listProduct (linkCount d) times′ (getD flows 1 []) ≡ gap (networkIn d) share table
     unfolding gap
     gap-is = ap₂ (λ a b. a - share * b) (spent-is totals-are (c .times-are) (c .times-fit)) least-is
 
     -- of which neither is too large.
-    pub gap-fits : GapFits (d .links) times′ totals loads share
+    pub gap-fits : GapFits (linkCount d) times′ flows share
     gap-fits =
         record {
           few-links = ready .few-links;
@@ -210,64 +264,65 @@ module _ {d : Decoded} {table : List ℕ} {share : ℕ} (ready : Ready d) (judge
         }
 
     -- The choice of j,
-    pub move-fits : MoveFits (d .links) (d .«free_times») (d .rises) (d .capacities) totals loads share
+    pub move-fits : MoveFits (d .links) flows share
     move-fits =
-        record { links = links-fit ready; shared = share-fits; flows = flows-within totals-are; loaded = loads-within }
+        record { links-fit = links-fit ready; shared = share-fits; totals-fit = flows-within totals-are; loads-fit = loads-within }
 
     abbrev Chosen : ℕ → Type 0
     Chosen j =
-        j ≡ chosen (roads (d .links) (d .«free_times») (d .rises) (d .capacities)) share (λ l. getD totals l 0) (λ l. getD loads l 0)
+        j ≡ chosen (roads (d .links)) share (totalOf flows) (loadOf flows)
 
     step-is : {j : ℕ} → Chosen j → j ≡ chosenOf (networkIn d) (record { table = table; share = share })
-    unfolding networkIn networkFrom
+    unfolding network
     step-is e = e ∙ chosen-roads d share _ _ _ _ (total-at totals-are) load-is
 
     module _ {j : ℕ} (j-is : Chosen j) where
       -- and the move.
-      pub movable : length (d .trips) ≡ 4096 → Movable (d .nodes) (d .links) (d .destinations) nexts volumes share j table
-      movable long =
+      pub movable : Movable (d .nodes) (linkCount d) (destinationCount d) nexts volumes share j table
+      movable =
           let most = chosen-le (networkIn d) share (total (networkIn d) table) (total (networkIn d) (loading (networkIn d) exact)) in
           let chose = step-is j-is in
           record {
             few-nodes = ready .few-nodes;
             few-links = ready .few-links;
             few-destinations = ready .few-destinations;
-            next-link = next-links ready t (c .nexts-are) long;
+            next-link = next-links ready t (c .nexts-are);
             small-share = omega (arith, judgeable .share-most);
             holds = holds;
-            flows = number-most (d .destinations) (d .links) table (share * 65535) total-most;
-            loads = λ i h. rw (c .volumes-are) (number-most (d .destinations) (d .links) y 65535 (load-most ready t (c .nexts-are)) i h);
+            flows = number-most (destinationCount d) (linkCount d) table (share * 65535) total-most;
+            loads = λ i h. rw (c .volumes-are) (number-most (destinationCount d) (linkCount d) y 65535 (load-most ready t (c .nexts-are)) i h);
           }
 
       -- Its totals move with it,
-      pub totals-movable : TotalsMovable (d .links) j totals loads
+      pub totals-movable : TotalsMovable (linkCount d) j flows
       totals-movable =
           let most = chosen-le (networkIn d) share (total (networkIn d) table) (total (networkIn d) (loading (networkIn d) exact)) in
           let chose = step-is j-is in
           record {
             few-links = ready .few-links;
-            size = ap length totals-are ∙ length-padded (d .links) _ (ready .few-links);
+            size = ap length totals-are ∙ length-padded (linkCount d) _ (ready .few-links);
             small-step = omega arith;
             totals-fit = totals-within totals-are;
             loads-fit = λ l h. omega (arith, loads-within l h);
           }
 
       pub totals-moved :
-          canMove share j ≡ true → {totals′ table′ : List ℕ} → totals′ ≡ front (d .links) (totalAfter j totals loads) totals →
-          table′ ≡ tableAfter table (moveAlong (d .destinations * d .links) share j (volumeRows (d .nodes) (d .links) (d .destinations) nexts volumes) table) →
-          totals′ ≡ padded (d .links) (linkTotal (d .destinations) (d .links) table′)
+          canMove share j ≡ true → {flows′ : List (List ℕ)} {table′ : List ℕ} →
+          flows′ ≡ movedTo (linkCount d) j flows →
+          table′ ≡ tableAfter table (moveAlong (destinationCount d * linkCount d) share j (volumeRows (d .nodes) (linkCount d) (destinationCount d) nexts volumes) table) →
+          TotalsOf d table′ flows′
       totals-moved can e f =
-          moved-totals (d .destinations) (d .links) share j _ table (ready .few-links) can totals-are
-          (c .loads-are ∙ ap (λ y. padded (d .links) (linkTotal (d .destinations) (d .links) y)) (sym (c .volumes-are))) e f
+          moved-totals (destinationCount d) (linkCount d) share j _ table (ready .few-links) can flows (c .flows-long) totals-are
+          (c .loads-are ∙ ap (λ y. padded (linkCount d) (linkTotal (destinationCount d) (linkCount d) y)) (sym (c .volumes-are))) e f
 
       pub move-is :
-          moveAlong (d .destinations * d .links) share j (volumeRows (d .nodes) (d .links) (d .destinations) nexts volumes) table
-          ≡ moveOf d table share
-      unfolding added doubled networkIn networkFrom
+          moveAlong (destinationCount d * linkCount d) share j (volumeRows (d .nodes) (linkCount d) (destinationCount d) nexts volumes) table
+          ≡ moveOf (networkIn d) table share
+      unfolding added doubled network
       move-is =
           ap₂ (λ j y. moveBy share j (added (networkIn d) table j y) (doubled (networkIn d) table)) (step-is j-is) (c .volumes-are ∙ y-is)
           ∙ sym (move-by (networkIn d) (record { table = table; share = share }))
 
       -- There is a move exactly where the code says so.
-      pub moves-is : canMove share j ≡ moves (moveOf d table share)
+      pub moves-is : canMove share j ≡ moves (moveOf (networkIn d) table share)
       moves-is = sym (moves-by share j _ _) ∙ ap moves move-is

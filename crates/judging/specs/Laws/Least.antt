@@ -12,12 +12,11 @@ use Rattle.theory.specs.Cost.{leastTimes}
 use Rattle.theory.specs.Laws.Cases.{on-equal, on-option, true-false}
 use Rattle.theory.specs.Laws.Finite.{sum-cong}
 use Rattle.theory.specs.Laws.Routings.{Served}
-use Rattle.calls.specs.Study.{networkFrom}
-use Rattle.routes.specs.Search.{routingFrom, mark, marks}
-use Rattle.routes.specs.Table.{leastOver}
-use Rattle.routes.specs.Laws.Found.{marks-at}
-use Rattle.judging.specs.declared.Decoded.{Decoded}
-use Rattle.judging.specs.Study.{networkIn, Ready}
+use Rattle.theory.specs.Study.{network}
+use Rattle.search.specs.Search.{routingFrom, mark, marks}
+use Rattle.search.specs.Groups.{leastOver}
+use Rattle.search.specs.Laws.Found.{marks-at}
+use Rattle.judging.specs.Study.{Study, destinationCount, networkIn, Ready}
 use Rattle.judging.specs.Laws.Routes.{TimesIn, times-own, served}
 
 -- A node with trips has a distance, which is its mark.
@@ -59,12 +58,12 @@ least-at g t u same =
 
 -- The sum of trips × mark is that of D(j,s) × distance.
 pub least-over :
-    {d : Decoded} → Ready d → {times exact : List ℕ} → TimesIn d times exact →
-    leastOver (d .nodes) (d .links) (d .destinations) (d .tails) (d .heads) times (d .«destination_nodes») (d .trips)
+    {d : Study} → Ready d → {times exact : List ℕ} → TimesIn d times exact →
+    leastOver (d .nodes) (d .links) (d .destinations) (d .trips) times
     ≡ leastTimes (networkIn d) exact
-unfolding leastOver leastTimes routingFrom networkIn networkFrom
+unfolding leastOver leastTimes routingFrom network
 least-over {d} ready {times} {exact} t =
-    sum-cong (d .destinations) _ _ (λ k h.
+    sum-cong (destinationCount d) _ _ (λ k h.
     sum-cong (d .nodes) _ _ (λ j b.
     mark-spent (routing (networkIn d) times k) (ready .few-nodes) (networkIn d .trips k) (served ready (times-own (t .fit)) k h) j b))
     ∙ least-at (networkIn d) times exact (t .same)

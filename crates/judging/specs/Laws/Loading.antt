@@ -17,7 +17,8 @@ use Rattle.theory.specs.Laws.Finite.{order, sum-cong, sum-more, length-tabulate
 use Rattle.travel.specs.Links.{padded}
 use Rattle.travel.specs.Laws.Padded.{length-padded, getD-padded, getD-padded-rest, padded-is, padded-cong}
 use Rattle.travel.specs.Laws.Totals.{linkTotal-more}
-use Rattle.routes.specs.Along.{walkAlong, flowAlong, volumeOver, scattered, Sendable, Scatterable}
+use Rattle.loading.specs.Along.{walkAlong, flowAlong, volumeOver, scattered, Sendable, Scatterable}
+use Rattle.loading.specs.Laws.Scattered.{volume-most}
 use Rattle.judging.specs.Loading.{rowAlong, loadingAlong, volumeRows, front, addedRows, AllFollowable, Addable}
 use Rattle.judging.specs.Laws.Front.{front-at, front-past, length-front, front-is, front-none}
 use Rattle.judging.specs.Laws.Parts.{part, replaced, row-within, part-at, length-part, length-replaced, replaced-before, replaced-within, replaced-past}
@@ -29,24 +30,27 @@ scattered-front :
 unfolding scattered front
 scattered-front n m next volumes weight row = refl
 
-module _ (n m p : ℕ) (heads trips : List ℕ) (nexts : List (List ℕ)) where
+module _ (n : ℕ) (links : List (List ℕ)) (p : ℕ) (trips : List ℕ) (nexts : List (List ℕ)) where
   -- The loading has a number for each destination and link,
-  pub length-along : length (loadingAlong n m p heads trips nexts) ≡ p * m
+  pub length-along : length (loadingAlong n links p trips nexts) ≡ p * length links
   unfolding loadingAlong
-  length-along = length-rows p m _ (λ k h. length-tabulate m (rowAlong n heads trips nexts k))
+  length-along = length-rows p (length links) _ (λ k h. length-tabulate (length links) (rowAlong n links trips nexts k))
 
   -- what the destination's trips send over the link.
-  pub entry-along : (k l : ℕ) → k < p → l < m → getD (loadingAlong n m p heads trips nexts) (k * m + l) 0 ≡ rowAlong n heads trips nexts k l
+  pub entry-along : (k l : ℕ) → k < p → l < length links →
+      getD (loadingAlong n links p trips nexts) (k * length links + l) 0 ≡ rowAlong n links trips nexts k l
   unfolding loadingAlong
   entry-along k l h b =
-      getD-rows p m (λ k. tabulate m (rowAlong n heads trips nexts k)) (λ k h. length-tabulate m (rowAlong n heads trips nexts k)) 0 k l h b
-      ∙ getD-tabulate m (rowAlong n heads trips nexts k) 0 l b
+      getD-rows p (length links) (λ k. tabulate (length links) (rowAlong n links trips nexts k))
+      (λ k h. length-tabulate (length links) (rowAlong n links trips nexts k)) 0 k l h b
+      ∙ getD-tabulate (length links) (rowAlong n links trips nexts k) 0 l b
 
   -- The destination's trips are a part of all.
-  pub flow-part : (k l : ℕ) → flowAlong n heads (getD nexts k []) (λ j. getD (part trips (k * n) n) j 0) n l ≡ rowAlong n heads trips nexts k l
+  flow-part : (k l : ℕ) →
+      flowAlong n links (getD nexts k []) (λ j. getD (part trips (k * n) n) j 0) n l ≡ rowAlong n links trips nexts k l
   unfolding flowAlong rowAlong
   flow-part k l =
-      sum-cong n _ _ (λ j h. ap (λ x. x * occurrences l (walkAlong heads (getD nexts k []) n j)) (part-at trips (k * n) n j h))
+      sum-cong n _ _ (λ j h. ap (λ x. x * occurrences l (walkAlong links (getD nexts k []) n j)) (part-at trips (k * n) n j h))
 
 -- The loading that volumes give has the same places.
 module _ (n m p : ℕ) (nexts volumes : List (List ℕ)) where
@@ -60,19 +64,20 @@ module _ (n m p : ℕ) (nexts volumes : List (List ℕ)) where
       getD-rows p m (λ k. tabulate m (over k)) (λ k h. length-tabulate m (over k)) 0 k l h b ∙ getD-tabulate m (over k) 0 l b
 
 -- Volumes of which the first k rows give the loading of their destinations.
-pub record LoadedRows (n m k : ℕ) (heads trips : List ℕ) (nexts volumes : List (List ℕ)) : Type 0 where
+pub record LoadedRows (n : ℕ) (links : List (List ℕ)) (k : ℕ) (trips : List ℕ) (nexts volumes : List (List ℕ)) : Type 0 where
   pub size : length volumes ≡ 32
-  pub over : (i l : ℕ) → i < k → l < m → volumeOver n (getD nexts i []) (getD volumes i []) l ≡ rowAlong n heads trips nexts i l
+  pub over : (i l : ℕ) → i < k → l < length links → volumeOver n (getD nexts i []) (getD volumes i []) l ≡ rowAlong n links trips nexts i l
 
 -- There are none at first,
-pub loaded-none : {n m : ℕ} {heads trips : List ℕ} {nexts volumes : List (List ℕ)} → length volumes ≡ 32 → LoadedRows n m 0 heads trips nexts volumes
+pub loaded-none : {n : ℕ} {links : List (List ℕ)} {trips : List ℕ} {nexts volumes : List (List ℕ)} → length volumes ≡ 32 →
+    LoadedRows n links 0 trips nexts volumes
 loaded-none long = record { size = long; over = λ i l h b. absurd (omega arith) }
 
 -- then one more,
 pub loaded-more :
-    {n m k : ℕ} {heads trips : List ℕ} {nexts volumes : List (List ℕ)} → LoadedRows n m k heads trips nexts volumes → k < 32 →
-    (row : List ℕ) → ((l : ℕ) → l < m → volumeOver n (getD nexts k []) row l ≡ rowAlong n heads trips nexts k l) →
-    LoadedRows n m (k + 1) heads trips nexts (set volumes k row)
+    {n : ℕ} {links : List (List ℕ)} {k : ℕ} {trips : List ℕ} {nexts volumes : List (List ℕ)} → LoadedRows n links k trips nexts volumes →
+    k < 32 → (row : List ℕ) → ((l : ℕ) → l < length links → volumeOver n (getD nexts k []) row l ≡ rowAlong n links trips nexts k l) →
+    LoadedRows n links (k + 1) trips nexts (set volumes k row)
 loaded-more {n} {k} {nexts} {volumes} w h row gives =
     record {
       size = length-set volumes k row ∙ w .size;
@@ -89,14 +94,18 @@ loaded-more {n} {k} {nexts} {volumes} w h row gives =
 
 -- and in the end all.
 pub loaded-all :
-    {n m p : ℕ} {heads trips : List ℕ} {nexts volumes : List (List ℕ)} → LoadedRows n m p heads trips nexts volumes →
-    volumeRows n m p nexts volumes ≡ loadingAlong n m p heads trips nexts
+    {n : ℕ} {links : List (List ℕ)} {p : ℕ} {trips : List ℕ} {nexts volumes : List (List ℕ)} → LoadedRows n links p trips nexts volumes →
+    volumeRows n (length links) p nexts volumes ≡ loadingAlong n links p trips nexts
 unfolding volumeRows loadingAlong
-loaded-all {m} {p} w = rows-cong p _ _ (λ k h. tabulate-cong m _ _ (λ l b. w .over k l h b))
+loaded-all {links} {p} w = rows-cong p _ _ (λ k h. tabulate-cong (length links) _ _ (λ l b. w .over k l h b))
 
-module _ {n m p : ℕ} {heads trips : List ℕ} {nexts : List (List ℕ)} (w : AllFollowable n m p heads trips nexts) {k : ℕ} (h : k < p) where
+module _ {n : ℕ} {links : List (List ℕ)} {p : ℕ} {trips : List ℕ} {nexts : List (List ℕ)} (w : AllFollowable n links p trips nexts)
+    {k : ℕ} (h : k < p) where
+  abbrev m : ℕ
+  m = length links
+
   abbrev y : List ℕ
-  y = loadingAlong n m p heads trips nexts
+  y = loadingAlong n links p trips nexts
 
   abbrev next : List ℕ
   next = getD nexts k []
@@ -108,26 +117,30 @@ module _ {n m p : ℕ} {heads trips : List ℕ} {nexts : List (List ℕ)} (w : A
   pub trips-within : k * n + n ≤ length trips
   trips-within = omega (arith, row-within n h, w .has-trips)
 
-  -- and can be sent along its next links.
-  pub row-sendable : Sendable n m heads next (part trips (k * n) n)
-  row-sendable =
-      record { followable = w .followable k h; has-trips = omega (arith, length-part trips (k * n) n trips-within) }
-
-  total-so-far : (l : ℕ) → l < m → linkTotal k m y l + rowAlong n heads trips nexts k l ≤ 65535
+  total-so-far : (l : ℕ) → l < m → linkTotal k m y l + rowAlong n links trips nexts k l ≤ 65535
   unfolding linkTotal
   total-so-far l b =
       let more = linkTotal-more m y l k in
       let all = sum-more (k + 1) p (λ k. getD y (k * m + l) 0) (omega arith) in
-      omega (arith, entry-along n m p heads trips nexts k l h b, w .small-totals l b)
+      omega (arith, entry-along n links p trips nexts k l h b, w .small-totals l b)
+
+  -- and can be sent along its next links: what they send over a link is at most the total of the link.
+  pub row-sendable : Sendable n links next (part trips (k * n) n)
+  row-sendable =
+      record {
+        followable = w .followable k h;
+        has-trips = length-part trips (k * n) n trips-within;
+        small = volume-most (w .followable k h) sent 65535 (λ l b. omega (arith, flow-part n links p trips nexts k l, total-so-far l b));
+      }
 
   -- Volumes by which its trips go over the links give its row of the loading.
   pub row-over :
-      (row : List ℕ) → ((l : ℕ) → l < m → volumeOver n next row l ≡ flowAlong n heads next sent n l) →
-      (l : ℕ) → l < m → volumeOver n next row l ≡ rowAlong n heads trips nexts k l
-  row-over row flows l b = flows l b ∙ flow-part n m p heads trips nexts k l
+      (row : List ℕ) → ((l : ℕ) → l < m → volumeOver n next row l ≡ flowAlong n links next sent n l) →
+      (l : ℕ) → l < m → volumeOver n next row l ≡ rowAlong n links trips nexts k l
+  row-over row flows l b = flows l b ∙ flow-part n links p trips nexts k l
 
   -- Such volumes, with the totals of the destinations before it,
-  module _ (row : List ℕ) (gives : (l : ℕ) → l < m → volumeOver n next row l ≡ rowAlong n heads trips nexts k l)
+  module _ (row : List ℕ) (gives : (l : ℕ) → l < m → volumeOver n next row l ≡ rowAlong n links trips nexts k l)
       {sums : List ℕ} (e : sums ≡ padded m (linkTotal k m y)) where
     sums-long : length sums ≡ 512
     sums-long = ap length e ∙ length-padded m (linkTotal k m y) (w .few-links)
@@ -152,7 +165,7 @@ module _ {n m p : ℕ} {heads trips : List ℕ} {nexts : List (List ℕ)} (w : A
         padded-is m (linkTotal (k + 1) m y) sums′ (w .few-links) (ap length is-front ∙ length-front m _ sums (omega (arith, sums-long, w .few-links)) ∙ sums-long)
         (λ l b.
         let now-there = ap (λ xs. getD xs l 0) is-front ∙ front-at m _ sums l b in
-        omega (arith, so-far l b, linkTotal-more m y l k, entry-along n m p heads trips nexts k l h b, gives l b))
+        omega (arith, so-far l b, linkTotal-more m y l k, entry-along n links p trips nexts k l h b, gives l b))
         (λ l b. ap (λ xs. getD xs l 0) is-front ∙ front-past m _ sums l b ∙ ap (λ xs. getD xs l 0) e ∙ getD-padded-rest m (linkTotal k m y) l b)
       where
         is-front : sums′ ≡ front m (λ l. getD sums l 0 + 1 * volumeOver n next row l) sums

@@ -13,34 +13,33 @@ use Rattle.theory.specs.Routes.{Routing, routing, walk, loadingRow, loading}
 use Rattle.theory.specs.Laws.Finite.{order, sum-zero, length-tabulate, getD-tabulate, rows-cong}
 use Rattle.theory.specs.Laws.Routings.{Timed, AllServed, served-at-times}
 use Rattle.theory.specs.Laws.Loading.{loaded, length-row, loading-total, row-loaded}
-use Rattle.calls.specs.Study.{networkFrom}
+use Rattle.theory.specs.Study.{noLink, network}
 use Rattle.calls.specs.Laws.Reach.{unit-timed}
 use Rattle.travel.specs.Ranges.{TimesFit}
-use Rattle.routes.specs.Search.{noLink, routingFrom, linkMarks}
-use Rattle.routes.specs.Given.{Searchable, AllSearchable}
-use Rattle.routes.specs.Along.{linkOf, walkAlong, flowAlong, Followable}
-use Rattle.routes.specs.Table.{noLinks, Nexts}
-use Rattle.routes.specs.Laws.Padded.{getD-default}
-use Rattle.routes.specs.Laws.Table.{searchable-to}
-use Rattle.routes.specs.Laws.Loaded.{followable, flow-along}
-use Rattle.judging.specs.declared.Decoded.{Decoded}
-use Rattle.judging.specs.Study.{networkIn, Ready}
+use Rattle.search.specs.Search.{routingFrom}
+use Rattle.search.specs.Given.{Searchable, AllSearchable}
+use Rattle.loading.specs.Along.{linkOf, walkAlong, flowAlong, Followable}
+use Rattle.routes.specs.Table.{linkMarks, noLinks, Nexts}
+use Rattle.theory.specs.Laws.Padded.{getD-default}
+use Rattle.search.specs.Laws.Groups.{searchable-to}
+use Rattle.judging.specs.Laws.Loaded.{followable, flow-along}
+use Rattle.judging.specs.Study.{Study, linkCount, destinationCount, networkIn, Ready}
 use Rattle.judging.specs.Loading.{rowAlong, loadingAlong, AllFollowable}
-use Rattle.judging.specs.Laws.Study.{searchable, trips-fit}
+use Rattle.judging.specs.Laws.Study.{searchable}
 
 -- One destination: what its trips send along the next links over a link is the loading there.
 flow-is :
-    {n m : ℕ} {tails heads times : List ℕ} {s : ℕ} → Searchable n m tails heads times s → {next : List ℕ} →
-    next ≡ linkMarks (routingFrom n m tails heads times s) → (trips : ℕ → ℕ) (l : ℕ) → l < m →
-    flowAlong n heads next trips n l ≡ getD (loadingRow (routingFrom n m tails heads times s) trips) l 0
+    {n : ℕ} {links : List (List ℕ)} {times : List ℕ} {s : ℕ} → Searchable n links times s → {next : List ℕ} →
+    next ≡ linkMarks (routingFrom n links times s) → (trips : ℕ → ℕ) (l : ℕ) → l < length links →
+    flowAlong n links next trips n l ≡ getD (loadingRow (routingFrom n links times s) trips) l 0
 unfolding routingFrom
-flow-is {n} {m} {tails} {heads} {times} {s} w e trips l h =
-    flow-along w e trips l ∙ sym (row-loaded (routingFrom n m tails heads times s) trips l h)
+flow-is {n} {links} {times} {s} w e trips l h =
+    flow-along w e trips l ∙ sym (row-loaded (routingFrom n links times s) trips l h)
 
 -- Where nobody goes there is no loading, along any next links,
-none-along : (n : ℕ) (heads next : List ℕ) (trips : ℕ → ℕ) (l : ℕ) → ((j : ℕ) → j < n → trips j ≡ 0) → flowAlong n heads next trips n l ≡ 0
+none-along : (n : ℕ) (links : List (List ℕ)) (next : List ℕ) (trips : ℕ → ℕ) (l : ℕ) → ((j : ℕ) → j < n → trips j ≡ 0) → flowAlong n links next trips n l ≡ 0
 unfolding flowAlong
-none-along n heads next trips l none = sum-zero n _ (λ j h. rw (none j h) (omega arith))
+none-along n links next trips l none = sum-zero n _ (λ j h. rw (none j h) (omega arith))
 
 -- nor by the definition.
 none-loaded : (q : Routing) (trips : ℕ → ℕ) (l : ℕ) → l < q .links → ((j : ℕ) → j < q .nodes → trips j ≡ 0) → getD (loadingRow q trips) l 0 ≡ 0
@@ -59,25 +58,25 @@ length-no-links : length noLinks ≡ 128
 unfolding noLinks
 length-no-links = length-replicate {A = ℕ} 128 noLink
 
-no-walk : (heads : List ℕ) (most j : ℕ) → walkAlong heads noLinks most j ≡ []
+no-walk : (links : List (List ℕ)) (most j : ℕ) → walkAlong links noLinks most j ≡ []
 unfolding walkAlong walk linkOf
-no-walk heads zero j = refl
-no-walk heads (suc most) j = rw (List·getD-map linkOf noLinks j noLink, no-link j, walk)
+no-walk links zero j = refl
+no-walk links (suc most) j = rw (List·getD-map linkOf noLinks j noLink, no-link j, walk)
 
 followable-none :
-    {n m p : ℕ} {tails heads times destinations : List ℕ} → AllSearchable n m p tails heads times destinations → {k : ℕ} → k < p →
-    {row : List ℕ} → row ≡ noLinks → Followable n m heads row
-followable-none {heads} g {k} h e =
+    {n : ℕ} {links : List (List ℕ)} {destinations times : List ℕ} → AllSearchable n links destinations times → {k : ℕ} →
+    k < length destinations → {row : List ℕ} → row ≡ noLinks → Followable n links row
+followable-none {links} g {k} h e =
     let some-node = g .destination-node k h in
     rw e
     (record {
-      few-nodes = g .few-nodes;
-      few-links = g .few-links;
+      few-nodes = g .roads .few-nodes;
+      few-links = g .roads .few-links;
       size = length-no-links;
-      head-node = g .head-node;
+      head-node = g .roads .head-node;
       next-link = λ j b some-link.
-          absurd (some-link (getD-default noLinks j 0 noLink (omega (arith, g .few-nodes, length-no-links)) ∙ no-link j));
-      ends = λ j b. rw (no-walk heads) (omega arith);
+          absurd (some-link (getD-default noLinks j 0 noLink (omega (arith, g .roads .few-nodes, length-no-links)) ∙ no-link j));
+      ends = λ j b. rw (no-walk links) (omega arith);
     })
 
 -- A loading goes by the times of the links, number by number.
@@ -101,77 +100,76 @@ loading-at g t u same =
     (fun-ext same)
 
 -- Times that fit stand in an array, which are those of a list: the array goes on past it with 0.
-pub record TimesIn (d : Decoded) (times exact : List ℕ) : Type 0 where
-  pub fit : TimesFit (d .links) times
+pub record TimesIn (d : Study) (times exact : List ℕ) : Type 0 where
+  pub fit : TimesFit (linkCount d) times
   pub same : (l : ℕ) → getD times l 0 ≡ getD exact l 0
 
 -- They are those of the array itself.
-pub times-own : {d : Decoded} {times : List ℕ} → TimesFit (d .links) times → TimesIn d times times
+pub times-own : {d : Study} {times : List ℕ} → TimesFit (linkCount d) times → TimesIn d times times
 times-own fit = record { fit = fit; same = λ l. refl }
 
-module _ {d : Decoded} (ready : Ready d) {times exact : List ℕ} (t : TimesIn d times exact) where
+module _ {d : Study} (ready : Ready d) {times exact : List ℕ} (t : TimesIn d times exact) where
   pub timed : Timed (networkIn d) exact
-  unfolding networkIn networkFrom
+  unfolding network
   timed l h = omega (arith, t .fit .some-time l h, t .same l)
 
   pub served : AllServed (networkIn d) exact
-  unfolding networkIn networkFrom
-  served = served-at-times (networkIn d) (ready .sound) (replicate (d .links) 1) exact (unit-timed (networkIn d)) timed (ready .served)
+  unfolding network
+  served = served-at-times (networkIn d) (ready .sound) (replicate (linkCount d) 1) exact (unit-timed (networkIn d)) timed (ready .served)
 
   module _ {nexts : List (List ℕ)}
-      (found : Nexts (d .nodes) (d .links) (d .destinations) (d .tails) (d .heads) times (d .«destination_nodes») (d .trips) nexts) where
-    row-is : (k l : ℕ) → k < d .destinations → l < d .links →
-        rowAlong (d .nodes) (d .heads) (d .trips) nexts k l
+      (found : Nexts (d .nodes) (d .links) (d .destinations) (d .trips) times nexts) where
+    row-is : (k l : ℕ) → k < destinationCount d → l < linkCount d →
+        rowAlong (d .nodes) (d .links) (d .trips) nexts k l
         ≡ getD (loadingRow (routing (networkIn d) times k) (networkIn d .trips k)) l 0
-    unfolding rowAlong networkIn networkFrom routingFrom
+    unfolding rowAlong network routingFrom
     row-is k l h b =
         ⊎-elim
-        (λ e. flow-is (searchable-to (searchable ready (t .fit)) h refl) e (λ j. getD (d .trips) (k * d .nodes + j) 0) l b)
+        (λ e. flow-is (searchable-to (searchable ready (t .fit)) k h) e (λ j. getD (d .trips) (k * d .nodes + j) 0) l b)
         (λ none.
-        none-along (d .nodes) (d .heads) (getD nexts k []) (λ j. getD (d .trips) (k * d .nodes + j) 0) l (none .1)
+        none-along (d .nodes) (d .links) (getD nexts k []) (λ j. getD (d .trips) (k * d .nodes + j) 0) l (none .1)
         ∙ sym (none-loaded (routing (networkIn d) times k) (networkIn d .trips k) l b (none .1)))
         (found .row k h)
 
     -- The loading along these next links is the definition's,
-    pub loading-is : loadingAlong (d .nodes) (d .links) (d .destinations) (d .heads) (d .trips) nexts ≡ loading (networkIn d) exact
-    unfolding loadingAlong loading networkIn networkFrom
+    pub loading-is : loadingAlong (d .nodes) (d .links) (destinationCount d) (d .trips) nexts ≡ loading (networkIn d) exact
+    unfolding loadingAlong loading network
     loading-is =
-        rows-cong (d .destinations) _ _ (λ k h.
+        rows-cong (destinationCount d) _ _ (λ k h.
         let row = loadingRow (routing (networkIn d) times k) (networkIn d .trips k) in
-        let along = rowAlong (d .nodes) (d .heads) (d .trips) nexts k in
-        ext-getD 0 (tabulate (d .links) along) row
-        (length-tabulate (d .links) along ∙ sym (length-row (routing (networkIn d) times k) (networkIn d .trips k)))
+        let along = rowAlong (d .nodes) (d .links) (d .trips) nexts k in
+        ext-getD 0 (tabulate (linkCount d) along) row
+        (length-tabulate (linkCount d) along ∙ sym (length-row (routing (networkIn d) times k) (networkIn d .trips k)))
         (λ l b.
-        let inside : l < d .links = omega (arith, length-tabulate (d .links) along) in
-        getD-tabulate (d .links) along 0 l inside ∙ row-is k l h inside))
+        let inside : l < linkCount d = omega (arith, length-tabulate (linkCount d) along) in
+        getD-tabulate (linkCount d) along 0 l inside ∙ row-is k l h inside))
         ∙ loading-at (networkIn d) times exact (t .same)
 
     -- with totals of at most T,
-    pub load-most : (l : ℕ) → l < d .links →
-        linkTotal (d .destinations) (d .links) (loadingAlong (d .nodes) (d .links) (d .destinations) (d .heads) (d .trips) nexts) l ≤ 65535
-    unfolding networkIn networkFrom
+    pub load-most : (l : ℕ) → l < linkCount d →
+        linkTotal (destinationCount d) (linkCount d) (loadingAlong (d .nodes) (d .links) (destinationCount d) (d .trips) nexts) l ≤ 65535
+    unfolding network
     load-most l h =
-        let e = ap (λ y. linkTotal (d .destinations) (d .links) y l) loading-is in
+        let e = ap (λ y. linkTotal (destinationCount d) (linkCount d) y l) loading-is in
         omega (arith, loading-total (networkIn d) (ready .sound) exact timed served l h, ready .few-trips)
 
     -- and can be followed.
-    pub followable-all : length (d .trips) ≡ 4096 →
-        AllFollowable (d .nodes) (d .links) (d .destinations) (d .heads) (d .trips) nexts
-    followable-all long =
+    pub followable-all : AllFollowable (d .nodes) (d .links) (destinationCount d) (d .trips) nexts
+    followable-all =
         record {
           few-nodes = ready .few-nodes;
           few-links = ready .few-links;
           few-destinations = ready .few-destinations;
-          has-trips = omega (arith, trips-fit ready);
+          has-trips = ready .trips-long;
           followable = λ k h.
               ⊎-elim
-              (λ e. followable (searchable-to (searchable ready (t .fit)) h refl) e)
+              (λ e. followable (searchable-to (searchable ready (t .fit)) k h) e)
               (λ none. followable-none (searchable ready (t .fit)) h (none .0))
               (found .row k h);
           small-totals = load-most;
         }
 
     -- A next link of a node is a link.
-    pub next-links : length (d .trips) ≡ 4096 → (k j : ℕ) → k < d .destinations → j < d .nodes → (getD (getD nexts k []) j 0 ≡ noLink → ⊥) →
-        getD (getD nexts k []) j 0 < d .links
-    next-links long k j h = followable-all long .followable k h .next-link j
+    pub next-links : (k j : ℕ) → k < destinationCount d → j < d .nodes → (getD (getD nexts k []) j 0 ≡ noLink → ⊥) →
+        getD (getD nexts k []) j 0 < linkCount d
+    next-links k j h = followable-all .followable k h .next-link j

@@ -3,41 +3,33 @@ use Prim.Native.Nat.{ℕ, _*_, _≤_, _<_}
 use native.Mathlib.Nat.{zero-div}
 use native.Mathlib.Omega.{arith}
 use mathlib.Core.Path.{_≡_, sym, _∙_, ap}
-use mathlib.Core.List.{List, _++_}
+use mathlib.Core.List.{List, [], _++_}
 use mathlib.Core.Logic.{⊎-elim}
-use lib.ListN.{length, getD, drop, replicate, length-replicate, getD-replicate, List·getD-eq-default}
+use lib.ListN.{length, getD, drop, replicate, List·getD-eq-default}
 use lib.Seq.{ext-getD}
 use Rattle.theory.specs.Finite.{tabulate}
 use Rattle.theory.specs.Flows.{step, stepTime}
-use Rattle.theory.specs.Moves.{tableSize, started}
+use Rattle.theory.specs.Moves.{started}
 use Rattle.theory.specs.Laws.Finite.{order, length-tabulate, getD-tabulate}
-use Rattle.calls.specs.Study.{networkFrom}
+use Rattle.theory.specs.Study.{freeTime, rise, capacity, network}
 use Rattle.calls.specs.Calls.{overwritten}
 use Rattle.travel.specs.Links.{listTime}
 use Rattle.travel.specs.Ranges.{Within, mostFlow}
-use Rattle.travel.specs.Laws.Padded.{getD-padded, getD-padded-rest}
-use Rattle.judging.specs.declared.Decoded.{Decoded}
-use Rattle.judging.specs.Study.{networkIn, Ready}
+use Rattle.travel.specs.Laws.Padded.{getD-padded, getD-padded-rest, zeros-clear}
+use Rattle.judging.specs.Study.{Study, linkCount, destinationCount, networkIn, Ready}
 use Rattle.judging.specs.Loading.{loadingAlong, volumeRows, front, addedRows, Addable}
 use Rattle.judging.specs.Judged.{Known}
 use Rattle.judging.specs.Laws.Front.{front-at, front-past, length-front, front-is}
 use Rattle.judging.specs.Laws.Loading.{length-along}
 use Rattle.judging.specs.Laws.Tables.{number-most}
-use Rattle.judging.specs.Laws.Study.{holds-rows}
 use Rattle.judging.specs.Laws.Routes.{TimesIn, loading-is, load-most, next-links}
 
 -- No flow on any link.
-unfoldable pub noFlows : List ℕ
-noFlows = replicate 512 0
+no-flow : (l : ℕ) → getD {A = ℕ} (replicate 512 0) l 0 ≡ 0
+no-flow l = zeros-clear 0 .rest l (omega arith)
 
-no-flow : (l : ℕ) → getD noFlows l 0 ≡ 0
-unfolding noFlows
-no-flow l =
-    ⊎-elim (λ h. getD-replicate {A = ℕ} 512 l 0 0 h) (λ h. List·getD-eq-default {A = ℕ} (replicate 512 0) 0 {n = l} (omega (arith, length-replicate {A = ℕ} 512 0)))
-    (order l 512)
-
-pub no-flows-within : (m : ℕ) → Within m mostFlow noFlows
-no-flows-within m l h = omega (arith, no-flow l)
+pub no-flows-within : {m : ℕ} {flows : List ℕ} → flows ≡ replicate 512 0 → Within m mostFlow flows
+no-flows-within e l h = rw e (omega (arith, no-flow l))
 
 -- Without flow the step is 0.
 step-none : (capacity : ℕ) → step capacity 1 0 ≡ 0
@@ -53,13 +45,13 @@ overwritten-is new old =
     (ext-getD 0 new (tabulate (length new) (λ i. getD new i 0)) (sym same)
     (λ i h. sym (getD-tabulate (length new) (λ i. getD new i 0) 0 i h)))
 
-module _ {d : Decoded} (ready : Ready d) {times : List ℕ} {nexts volumes : List (List ℕ)} {loads : List ℕ}
-    (known : Known d noFlows 1 times nexts volumes loads) where
+module _ {d : Study} (ready : Ready d) {times : List ℕ} {nexts volumes flows : List (List ℕ)} (known : Known d 1 times nexts volumes flows)
+    (none : getD flows 0 [] ≡ replicate 512 0) where
   abbrev emptyTimes : List ℕ
-  emptyTimes = tabulate (d .links) (λ l. networkIn d .height l 0)
+  emptyTimes = tabulate (linkCount d) (λ l. networkIn d .height l 0)
 
   times-in : TimesIn d times emptyTimes
-  unfolding listTime networkIn networkFrom
+  unfolding listTime network
   times-in =
       record {
         fit = known .times-fit;
@@ -67,27 +59,24 @@ module _ {d : Decoded} (ready : Ready d) {times : List ℕ} {nexts volumes : Lis
             ⊎-elim
             (λ h.
             ap (λ xs. getD xs l 0) (known .times-are)
-            ∙ getD-padded (d .links) _ l h
-            ∙ ap (λ flow. stepTime (getD (d .«free_times») l 0) (getD (d .rises) l 0) (step (getD (d .capacities) l 0) 1 flow)) (no-flow l)
-            ∙ ap (λ r. stepTime (getD (d .«free_times») l 0) (getD (d .rises) l 0) r) (step-none (getD (d .capacities) l 0))
-            ∙ sym (getD-tabulate (d .links) (λ l. stepTime (getD (d .«free_times») l 0) (getD (d .rises) l 0) 0) 0 l h))
+            ∙ getD-padded (linkCount d) _ l h
+            ∙ ap (λ flow. stepTime (freeTime (d .links) l) (rise (d .links) l) (step (capacity (d .links) l) 1 flow)) (ap (λ xs. getD xs l 0) none ∙ no-flow l)
+            ∙ ap (λ r. stepTime (freeTime (d .links) l) (rise (d .links) l) r) (step-none (capacity (d .links) l))
+            ∙ sym (getD-tabulate (linkCount d) (λ l. stepTime (freeTime (d .links) l) (rise (d .links) l) 0) 0 l h))
             (λ h.
             ap (λ xs. getD xs l 0) (known .times-are)
-            ∙ getD-padded-rest (d .links) _ l h
-            ∙ sym (List·getD-eq-default emptyTimes 0 (omega (arith, length-tabulate (d .links) (λ l. networkIn d .height l 0)))))
-            (order l (d .links));
+            ∙ getD-padded-rest (linkCount d) _ l h
+            ∙ sym (List·getD-eq-default emptyTimes 0 (omega (arith, length-tabulate (linkCount d) (λ l. networkIn d .height l 0)))))
+            (order l (linkCount d));
       }
 
-  module _ (table : List ℕ) {emptied : List ℕ} (holds : tableSize (networkIn d) ≤ length table)
-      (emptied-is : emptied ≡ front (d .destinations * d .links) (λ i. 0) table) where
+  module _ (table : List ℕ) {emptied : List ℕ} (within : destinationCount d * linkCount d ≤ length table)
+      (emptied-is : emptied ≡ front (destinationCount d * linkCount d) (λ i. 0) table) where
     abbrev y : List ℕ
-    y = loadingAlong (d .nodes) (d .links) (d .destinations) (d .heads) (d .trips) nexts
+    y = loadingAlong (d .nodes) (d .links) (destinationCount d) (d .trips) nexts
 
     abbrev size : ℕ
-    size = d .destinations * d .links
-
-    within : size ≤ length table
-    within = holds-rows d table holds
+    size = destinationCount d * linkCount d
 
     long : length emptied ≡ length table
     long = ap length emptied-is ∙ length-front size (λ i. 0) table within
@@ -96,32 +85,32 @@ module _ {d : Decoded} (ready : Ready d) {times : List ℕ} {nexts volumes : Lis
     empty-at i h = ap (λ xs. getD xs i 0) emptied-is ∙ front-at size (λ i. 0) table i h
 
     -- The loading can be added to the emptied table,
-    pub start-addable : length (d .trips) ≡ 4096 → Addable (d .nodes) (d .links) (d .destinations) nexts volumes 1 emptied
-    start-addable trips-long =
+    pub start-addable : Addable (d .nodes) (linkCount d) (destinationCount d) nexts volumes 1 emptied
+    start-addable =
         record {
           few-nodes = ready .few-nodes;
           few-links = ready .few-links;
           few-destinations = ready .few-destinations;
-          next-link = next-links ready times-in (known .nexts-are) trips-long;
+          next-link = next-links ready times-in (known .nexts-are);
           holds = omega (arith, long, within);
           fits = λ i h.
               rw (known .volumes-are)
               (omega (
                 arith,
                 empty-at i h,
-                number-most (d .destinations) (d .links) y 65535 (load-most ready times-in (known .nexts-are)) i h,
+                number-most (destinationCount d) (linkCount d) y 65535 (load-most ready times-in (known .nexts-are)) i h,
               ));
         }
 
     -- and stands there in place of what the table held.
-    pub start-is : {after : List ℕ} → after ≡ addedRows size 1 (volumeRows (d .nodes) (d .links) (d .destinations) nexts volumes) emptied → after ≡ overwritten (started (networkIn d) .table) table
-    unfolding started addedRows networkIn networkFrom
+    pub start-is : {after : List ℕ} → after ≡ addedRows size 1 (volumeRows (d .nodes) (linkCount d) (destinationCount d) nexts volumes) emptied → after ≡ overwritten (started (networkIn d) .table) table
+    unfolding started addedRows network
     start-is e =
         e
         ∙ ap (λ y. addedRows size 1 y emptied) (known .volumes-are)
         ∙ front-is size (λ i. getD y i 0) table within _ (length-front size _ emptied (omega (arith, long, within)) ∙ long)
         (λ i h. front-at size _ emptied i h ∙ omega (arith, empty-at i h))
         (λ i h. front-past size _ emptied i h ∙ ap (λ xs. getD xs i 0) emptied-is ∙ front-past size (λ i. 0) table i h)
-        ∙ ap (λ n. front n (λ i. getD y i 0) table) (sym (length-along (d .nodes) (d .links) (d .destinations) (d .heads) (d .trips) nexts))
+        ∙ ap (λ n. front n (λ i. getD y i 0) table) (sym (length-along (d .nodes) (d .links) (destinationCount d) (d .trips) nexts))
         ∙ sym (overwritten-is y table)
         ∙ ap (λ new. overwritten new table) (loading-is ready times-in (known .nexts-are))

@@ -1,45 +1,51 @@
--- Arrays that hold a list and 0 past its end: how a loop fills one, and what is read from one.
-use Prim.Native.Nat.{ℕ, zero, suc, _+_, _*_, _-_, _≤_, _<_}
+-- Arrays that hold a list in their first places: how a loop fills one, and what the sections of a file fill them with.
+use Prim.Native.Nat.{ℕ, _+_, _*_, _≤_, _<_}
+use native.Mathlib.Nat.{mul-le-mul}
 use native.Mathlib.Numerals.{add-one}
 use native.Mathlib.Omega.{arith}
 use mathlib.Core.List.{List, [], _∷_, _++_, append-assoc}
-use mathlib.Core.Logic.{⊎-elim}
-use mathlib.Core.Path.{_≡_, refl, sym, _∙_, ap, ap₂}
-use lib.ListN.{length, getD, set, replicate, length-append, length-replicate, getD-replicate, List·getD-append, List·getD-eq-default}
-use lib.Seq.{set-append-seam, getD-append-add}
+use mathlib.Core.Path.{_≡_, refl, sym, _∙_}
+use lib.ListN.{length, take, set, length-append, length-set}
+use lib.Seq.{length-take-le, take-suc-set}
+use Rattle.study.specs.Fields.{destination, trips}
+use Rattle.study.specs.Laws.{accepted, nodes-refused, links-refused, destinations-refused, has-link, has-destination, has-trips}
+use Rattle.study.specs.Questions.{refusal}
+use Rattle.study.specs.Sections.{nodes, links, destinations, linkPart, destinationPart, tripPart}
 use Rattle.theory.specs.Finite.{tabulate, rows}
-use Rattle.theory.specs.Laws.Finite.{order, length-tabulate, tabulate-suc, length-rows}
-use Rattle.study.specs.Fields.{trips}
-use Rattle.network.specs.Decoded.{padded, entriesIn}
+use Rattle.theory.specs.Laws.Cases.{on-equal}
+use Rattle.theory.specs.Laws.Finite.{length-tabulate, tabulate-suc, length-rows}
+use Rattle.calls.specs.Study.{linkRow, linkRows, destinationNodes, tripEntries}
+use Rattle.network.specs.declared.decoding.Opening.{Opening}
+use Rattle.network.specs.Decoded.{Holds, linkRowsIn, nodesIn, entriesIn, HasLinks, HasDestinations, HasRow, HasRows, Sized, Decoded, Counts}
 
--- An array of 0 holds the list of no entries.
-pub padded-none : (size : ℕ) → replicate size 0 ≡ padded size []
-unfolding padded
-padded-none size = let e : size - 0 ≡ size = omega arith in rw e
+module _ {A : Type 0} (size : ℕ) where
+  -- Every array holds the list of no entries.
+  pub holds-none : {array : List A} → length array ≡ size → Holds size [] array
+  holds-none long = record { long = long; front = refl }
 
--- The array of a list, whose next place is set, holds the list with one entry more.
-pub padded-more : (size : ℕ) (list : List ℕ) (x : ℕ) → length list < size → set (padded size list) (length list) x ≡ padded size (list ++ (x ∷ []))
-unfolding padded
-padded-more size list x h = go (size - length list) refl
-  where
-    go : (room : ℕ) → size - length list ≡ room → set (list ++ replicate room 0) (length list) x ≡ (list ++ (x ∷ [])) ++ replicate (size - length (list ++ (x ∷ []))) 0
-    go zero e = absurd (omega arith)
-    go (suc room) e =
-        let left : size - length (list ++ (x ∷ [])) ≡ room = omega (arith, length-append list (x ∷ [])) in
-        rw (left, set-append-seam list 0 (replicate room 0) x, append-assoc)
+  -- An array whose next place is set holds one entry more.
+  holds-more : (list : List A) (x : A) {array : List A} → Holds size list array → length list < size → Holds size (list ++ (x ∷ [])) (set array (length list) x)
+  holds-more list x {array} held h =
+      let more : length (list ++ (x ∷ [])) ≡ length list + 1 = length-append list (x ∷ []) in
+      record {
+        long = length-set array (length list) x ∙ held .long;
+        front = rw (more, add-one, take-suc-set array (length list) x (omega (arith, held .long)), held .front);
+      }
 
--- So it is where the list ends in entries by index, after others in front:
-pub padded-after : (size : ℕ) (front : List ℕ) (f : ℕ → ℕ) (i at : ℕ) {array : List ℕ} {x : ℕ} → at ≡ length front + i → at < size → array ≡ padded size (front ++ tabulate i f) → x ≡ f i → set array at x ≡ padded size (front ++ tabulate (i + 1) f)
-padded-after size front f i at place h held read =
-    let end : at ≡ length (front ++ tabulate i f) = omega (arith, length-append front (tabulate i f), length-tabulate i f) in
-    ap₂ (λ array x. set array at x) held read
-    ∙ ap (λ j. set (padded size (front ++ tabulate i f)) j (f i)) end
-    ∙ padded-more size (front ++ tabulate i f) (f i) (omega arith)
-    ∙ ap (padded size) (append-assoc front (tabulate i f) (f i ∷ []) ∙ ap (λ entries. front ++ entries) (sym (tabulate-suc i f)))
+  -- So it is where the list ends in entries by index, after others in front:
+  pub holds-after : (front : List A) (f : ℕ → A) (i at : ℕ) {array : List A} {x : A} → at ≡ length front + i → at < size → Holds size (front ++ tabulate i f) array → x ≡ f i → Holds size (front ++ tabulate (i + 1) f) (set array at x)
+  holds-after front f i at place h held read =
+      let end : at ≡ length (front ++ tabulate i f) = omega (arith, length-append front (tabulate i f), length-tabulate i f) in
+      rw (end, read, tabulate-suc i f, ← append-assoc front (tabulate i f) (f i ∷ []))
+      (holds-more (front ++ tabulate i f) (f i) held (omega arith))
 
--- or after none.
-pub padded-next : (size : ℕ) (f : ℕ → ℕ) (i : ℕ) {array : List ℕ} {x : ℕ} → i < size → array ≡ padded size (tabulate i f) → x ≡ f i → set array i x ≡ padded size (tabulate (i + 1) f)
-padded-next size f i h held read = padded-after size [] f i i (omega arith) h held read
+  -- or after none.
+  pub holds-next : (f : ℕ → A) (i : ℕ) {array : List A} {x : A} → i < size → Holds size (tabulate i f) array → x ≡ f i → Holds size (tabulate (i + 1) f) (set array i x)
+  holds-next f i h held read = holds-after [] f i i (omega arith) h held read
+
+  -- The list is read off again by its length.
+  held-front : (n : ℕ) {list array : List A} → Holds size list array → length list ≡ n → take n array ≡ list
+  held-front n held e = rw e at (held .front)
 
 -- The rows of trips before destination k have n entries each,
 pub entries-length : (tripBytes : List ℕ) (n k : ℕ) → length (entriesIn tripBytes n k) ≡ k * n
@@ -51,15 +57,121 @@ pub entries-next : (tripBytes : List ℕ) (n k : ℕ) → entriesIn tripBytes n 
 unfolding entriesIn rows
 entries-next tripBytes n k = rw add-one
 
--- What stands in the array is what stands in the list.
-pub getD-padded : (size : ℕ) (list : List ℕ) (i : ℕ) → getD (padded size list) i 0 ≡ getD list i 0
-unfolding padded
-getD-padded size list i = ⊎-elim (List·getD-append list (replicate (size - length list) 0) 0 i) past (order i (length list))
-  where
-    zeros : (room j : ℕ) → _≡_ {A = ℕ} (getD (replicate room 0) j 0) 0
-    zeros room j = ⊎-elim (getD-replicate room j 0 0) (λ h. List·getD-eq-default (replicate room 0) 0 (rw length-replicate h)) (order j room)
+-- The entries of p rows of n fit into an array of 4096.
+pub entries-fit : {n p : ℕ} → n ≤ 128 → p ≤ 32 → p * n ≤ 4096
+entries-fit {n} {p} hn hp = mul-le-mul {n₁ = p} {m₁ = n} {n₂ = 32} {m₂ = 128} hp hn
 
-    past : length list ≤ i → getD (list ++ replicate (size - length list) 0) i 0 ≡ getD list i 0
-    past h =
-        let at : i ≡ length list + (i - length list) = omega arith in
-        rw (List·getD-eq-default list 0 h) (ap (λ j. getD (list ++ replicate (size - length list) 0) j 0) at ∙ getD-append-add list (replicate (size - length list) 0) (i - length list) 0 ∙ zeros (size - length list) (i - length list))
+-- The counts of a file are within bounds: of a refused one they are 0.
+pub counts : (file : List ℕ) {n m p : ℕ} → n ≡ nodes file → m ≡ links file → p ≡ destinations file → Counts file n m p
+counts file n-is m-is p-is =
+    on-equal (refusal file) 0
+    (λ e. let bounds = accepted file e in
+    record {
+      nodes-are = n-is;
+      links-are = m-is;
+      destinations-are = p-is;
+      nodes-most = rw n-is (bounds .nodes-most);
+      links-most = rw m-is (bounds .links-most);
+      destinations-most = rw p-is (bounds .destinations-most);
+    })
+    (λ refused.
+    let no-nodes = nodes-refused file refused in
+    let no-links = links-refused file refused in
+    let no-destinations = destinations-refused file refused in
+    record {
+      nodes-are = n-is;
+      links-are = m-is;
+      destinations-are = p-is;
+      nodes-most = omega arith;
+      links-most = omega arith;
+      destinations-most = omega arith;
+    })
+
+-- A file has as many rows, destinations and entries as it counts,
+module _ (file : List ℕ) where
+  pub links-length : length (linkRows file) ≡ links file
+  unfolding linkRows
+  links-length = length-tabulate (links file) (linkRow (linkPart file))
+
+  pub destinations-length : length (destinationNodes file) ≡ destinations file
+  unfolding destinationNodes
+  destinations-length = length-tabulate (destinations file) (destination (destinationPart file))
+
+  pub trips-length : length (tripEntries file) ≡ destinations file * nodes file
+  unfolding tripEntries entriesIn
+  trips-length = entries-length (tripPart file) (nodes file) (destinations file)
+
+  -- which are within bounds.
+  pub sized : Sized (nodes file) (linkRows file) (destinationNodes file) (tripEntries file)
+  sized =
+      let known = counts file refl refl refl in
+      record {
+        few-nodes = known .nodes-most;
+        few-links = rw links-length (known .links-most);
+        few-destinations = rw destinations-length (known .destinations-most);
+        entries-long = rw destinations-length trips-length;
+      }
+
+-- The sections of a file are there to decode.
+module _ {file : List ℕ} {n m p : ℕ} (known : Counts file n m p) {bytes : List ℕ} where
+  pub links-there : bytes ≡ linkPart file → HasLinks bytes m
+  unfolding HasLinks
+  links-there bytes-are = rw (bytes-are, known .links-are) (has-link file)
+
+  pub destinations-there : bytes ≡ destinationPart file → HasDestinations bytes p
+  unfolding HasDestinations
+  destinations-there bytes-are = rw (bytes-are, known .destinations-are) (has-destination file)
+
+  pub trips-there : bytes ≡ tripPart file → HasRows bytes n p
+  unfolding HasRows HasRow
+  trips-there bytes-are = rw (bytes-are, known .nodes-are, known .destinations-are) (λ k hk j hj. has-trips file k j hk hj)
+
+-- Decoded, they are the file decoded.
+pub decoded :
+    (file : List ℕ) (opening : Opening) {linkBytes destinationBytes tripBytes : List ℕ} {linkArray : List (List ℕ)} {nodeArray entryArray : List ℕ} →
+    opening .refusal ≡ refusal file → Counts file (opening .nodes) (opening .links) (opening .destinations) →
+    linkBytes ≡ linkPart file → destinationBytes ≡ destinationPart file → tripBytes ≡ tripPart file →
+    Holds 512 (linkRowsIn linkBytes (opening .links)) linkArray →
+    Holds 32 (nodesIn destinationBytes (opening .destinations)) nodeArray →
+    Holds 4096 (entriesIn tripBytes (opening .nodes) (opening .destinations)) entryArray →
+    Decoded file opening linkArray nodeArray entryArray
+unfolding linkRows destinationNodes tripEntries linkRowsIn nodesIn entriesIn
+decoded file opening {linkBytes} {destinationBytes} {tripBytes} {linkArray} {nodeArray} {entryArray} refusal-is known l-are d-are t-are l-held d-held t-held =
+    record {
+      refusal-is = refusal-is;
+      nodes-are = known .nodes-are;
+      links-are = known .links-are;
+      destinations-are = known .destinations-are;
+      links-long = l-held .long;
+      nodes-long = d-held .long;
+      entries-long = t-held .long;
+      links-held = held-front 512 (opening .links) l-held (length-tabulate (opening .links) (linkRow linkBytes)) ∙ rw (l-are, known .links-are);
+      nodes-held = held-front 32 (opening .destinations) d-held (length-tabulate (opening .destinations) (destination destinationBytes)) ∙ rw (d-are, known .destinations-are);
+      entries-held = held-front 4096 (opening .destinations * opening .nodes) t-held (entries-length tripBytes (opening .nodes) (opening .destinations)) ∙ rw (t-are, known .nodes-are, known .destinations-are);
+    }
+
+-- What decoding leaves is lent on in parts: the places are there, each part has its count, and together they are a study of allowed size.
+module _ {file : List ℕ} {opening : Opening} {linkArray : List (List ℕ)} {nodeArray entryArray : List ℕ} (d : Decoded file opening linkArray nodeArray entryArray) where
+  pub decoded-counts : Counts file (opening .nodes) (opening .links) (opening .destinations)
+  decoded-counts = counts file (d .nodes-are) (d .links-are) (d .destinations-are)
+
+  pub links-within : opening .links ≤ length linkArray
+  links-within = omega (arith, d .links-long, decoded-counts .links-most)
+
+  pub destinations-within : opening .destinations ≤ length nodeArray
+  destinations-within = omega (arith, d .nodes-long, decoded-counts .destinations-most)
+
+  pub trips-within : opening .destinations * opening .nodes ≤ length entryArray
+  trips-within = omega (arith, d .entries-long, entries-fit (decoded-counts .nodes-most) (decoded-counts .destinations-most))
+
+  pub links-counted : opening .links ≡ length (take (opening .links) linkArray)
+  links-counted = sym (length-take-le (opening .links) linkArray links-within)
+
+  pub destinations-counted : opening .destinations ≡ length (take (opening .destinations) nodeArray)
+  destinations-counted = sym (length-take-le (opening .destinations) nodeArray destinations-within)
+
+  pub trips-counted : opening .destinations * opening .nodes ≡ length (take (opening .destinations * opening .nodes) entryArray)
+  trips-counted = sym (length-take-le (opening .destinations * opening .nodes) entryArray trips-within)
+
+  pub decoded-sized : Sized (opening .nodes) (take (opening .links) linkArray) (take (opening .destinations) nodeArray) (take (opening .destinations * opening .nodes) entryArray)
+  decoded-sized = rw (d .entries-held, d .nodes-held, d .links-held, d .nodes-are) (sized file)

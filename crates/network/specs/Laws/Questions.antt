@@ -1,21 +1,24 @@
--- Tests put one by one, totals over blocks, and what an answered question says of the decoded fields.
+-- Tests put one by one, totals over blocks, and what the questions say of a study in rows.
 use Prim.Native.Nat.{ℕ, zero, suc, _+_, _*_, _≤_, _<_}
-use native.Mathlib.Nat.{mul-le-mul}
 use native.Mathlib.Omega.{arith}
 use mathlib.Core.Bool.{Bool, true, false, _&&_, not}
-use mathlib.Core.List.{List}
-use mathlib.Core.Path.{_≡_, refl, sym, _∙_}
-use lib.Arith.{digits-lt}
+use mathlib.Core.List.{List, []}
+use mathlib.Core.Path.{_≡_, refl, sym, _∙_, ap}
 use lib.Dec.{ltb, leb, eqb}
-use lib.ListN.{getD}
-use borrow.Author.Tests.{ltb-true}
-use Rattle.study.specs.Questions.{within}
+use lib.ListN.{length, getD}
+use borrow.Author.Tests.{ltb-true, eq-eqb, ne-eqb}
+use Rattle.study.specs.Laws.{after-opening}
+use Rattle.study.specs.Questions.{within, firstNo, refusal}
+use Rattle.study.specs.Sections.{nodes}
 use Rattle.theory.specs.Finite.{sum, all}
 use Rattle.theory.specs.Laws.Finite.{all-suc, all-elim, all-refuted, and-left, and-right}
 use Rattle.theory.specs.Network.{totalTrips}
-use Rattle.calls.specs.Study.{networkFrom}
-use Rattle.calls.specs.Questions.{endsFit, timesFit, destinationsFit, noTripsWithin}
-use Rattle.network.specs.Networks.{roads, demand, allNodes, allAscending}
+use Rattle.theory.specs.Study.{tail, head, freeTime, rise, capacity, network}
+use Rattle.calls.specs.Study.{linkRows, destinationNodes, tripEntries}
+use Rattle.calls.specs.Questions.{endsFit, timesFit, destinationsFit, noTripsWithin, totalFits, studyQuestions, checkQuestions}
+use Rattle.calls.specs.Calls.{checkNumber}
+use Rattle.network.specs.Decoded.{Sized}
+use Rattle.network.specs.Destinations.{allNodes, allAscending}
 
 -- A test put to 0, 1, .. in turn: it held below i and holds at i,
 pub all-more : (i : ℕ) (test : ℕ → Bool) → all i test ≡ true → test i ≡ true → all (i + 1) test ≡ true
@@ -37,70 +40,92 @@ sum-append a (suc b) f =
     let e : a + suc b ≡ suc (a + b) = omega arith in
     rw e (let before = sum-append a b f in omega arith)
 
-pub sum-blocks : (p n : ℕ) (f : ℕ → ℕ) → sum p (λ k. sum n (λ j. f (k * n + j))) ≡ sum (p * n) f
+sum-blocks : (p n : ℕ) (f : ℕ → ℕ) → sum p (λ k. sum n (λ j. f (k * n + j))) ≡ sum (p * n) f
 unfolding sum
 sum-blocks zero n f = let e : 0 * n ≡ 0 = omega arith in rw e refl
 sum-blocks (suc p) n f =
     let e : suc p * n ≡ p * n + n = omega arith in
     rw (e, sum-append (p * n) n f, sum-blocks p n f)
 
-pub total-entries : (n p : ℕ) (destinations trips : List ℕ) → totalTrips (demand n p destinations trips) ≡ sum (p * n) (λ i. getD trips i 0)
-unfolding totalTrips networkFrom
-total-entries n p destinations trips = sum-blocks p n (λ i. getD trips i 0)
+pub total-of : {n : ℕ} {rows : List (List ℕ)} {nodeList entries : List ℕ} → Sized n rows nodeList entries → sum (length entries) (λ i. getD entries i 0) ≡ totalTrips (network n rows nodeList entries)
+unfolding totalTrips network
+total-of {n} {rows} {nodeList} {entries} sized = rw (sized .entries-long) (sym (sum-blocks (length nodeList) n (λ i. getD entries i 0)))
 
--- The entries of p rows of n fit into the array of trips.
-pub entries-fit : {n p : ℕ} → n ≤ 128 → p ≤ 32 → p * n ≤ 4096
-entries-fit {n} {p} hn hp = mul-le-mul {n₁ = p} {m₁ = n} {n₂ = 32} {m₂ = 128} hp hn
+-- Questions 6, 8 and 9 are put to a study without the parts that they do not read,
+module _ (n : ℕ) (rows : List (List ℕ)) (nodeList entries : List ℕ) where
+  pub ends-answer : endsFit (network n rows [] []) ≡ endsFit (network n rows nodeList entries)
+  unfolding endsFit network
+  ends-answer = refl
 
-pub place-fits : {n p k j : ℕ} → n ≤ 128 → p ≤ 32 → k < p → j < n → k * n + j < 4096
-place-fits {n} {p} {k} {j} hn hp hk hj = omega (arith, entries-fit {n = n} {p = p} hn hp, digits-lt {q = k} {m = p} {r = j} {c = n} hk hj)
+  pub destinations-answer : destinationsFit (network n [] nodeList []) ≡ destinationsFit (network n rows nodeList entries)
+  unfolding destinationsFit network
+  destinations-answer = refl
+
+  pub within-answer : noTripsWithin (network n [] nodeList entries) ≡ noTripsWithin (network n rows nodeList entries)
+  unfolding noTripsWithin network
+  within-answer = refl
+
+  -- and question 10 to the sum of the entries.
+  pub total-answer : Sized n rows nodeList entries → leb (sum (length entries) (λ i. getD entries i 0)) 65535 ≡ totalFits (network n rows nodeList entries)
+  unfolding totalFits
+  total-answer sized = ap (λ total. leb total 65535) (total-of sized)
 
 -- Question 8 has two halves, and passed it says that every destination is a node.
-pub destinations-halves : (n p : ℕ) (destinations trips : List ℕ) → destinationsFit (demand n p destinations trips) ≡ (allNodes n p destinations && allAscending p destinations)
-unfolding destinationsFit networkFrom allNodes allAscending
-destinations-halves n p destinations trips = refl
+pub destinations-halves : (n : ℕ) (nodeList : List ℕ) → destinationsFit (network n [] nodeList []) ≡ (allNodes n nodeList && allAscending nodeList)
+unfolding destinationsFit network allNodes allAscending
+destinations-halves n nodeList = refl
 
-pub destination-below : (n p : ℕ) (destinations trips : List ℕ) → destinationsFit (demand n p destinations trips) ≡ true → (k : ℕ) → k < p → getD destinations k 0 < n
+pub destination-below : (n : ℕ) (nodeList : List ℕ) → destinationsFit (network n [] nodeList []) ≡ true → (k : ℕ) → k < length nodeList → getD nodeList k 0 < n
 unfolding allNodes
-destination-below n p destinations trips fit k h =
-    ltb-true _ _ (all-elim p (λ i. ltb (getD destinations i 0) n) (and-left (allNodes n p destinations) (allAscending p destinations) (sym (destinations-halves n p destinations trips) ∙ fit)) k h)
+destination-below n nodeList fit k h =
+    ltb-true _ _ (all-elim (length nodeList) (λ i. ltb (getD nodeList i 0) n) (and-left (allNodes n nodeList) (allAscending nodeList) (sym (destinations-halves n nodeList) ∙ fit)) k h)
 
 -- Question 7 is a test of each link.
-unfoldable pub timesTest : List ℕ → List ℕ → List ℕ → ℕ → Bool
-timesTest freeTimes rises capacities l = within 1 16383 (getD freeTimes l 0) && within 0 16383 (getD rises l 0) && leb 1 (getD capacities l 0)
+unfoldable pub timesTest : List (List ℕ) → ℕ → Bool
+timesTest rows l = within 1 16383 (freeTime rows l) && within 0 16383 (rise rows l) && leb 1 (capacity rows l)
 
-pub times-all : (freeTimes rises capacities : List ℕ) (m : ℕ) → timesFit freeTimes rises capacities m ≡ all m (timesTest freeTimes rises capacities)
+pub times-all : (rows : List (List ℕ)) → timesFit rows ≡ all (length rows) (timesTest rows)
 unfolding timesFit timesTest
-times-all freeTimes rises capacities m = refl
+times-all rows = refl
 
 -- Question 9 is a test of each destination.
 unfoldable pub withinTest : ℕ → List ℕ → List ℕ → ℕ → Bool
-withinTest n destinations trips k = eqb (getD trips (k * n + getD destinations k 0) 0) 0
+withinTest n nodeList entries k = eqb (getD entries (k * n + getD nodeList k 0) 0) 0
 
-pub within-all : (n p : ℕ) (destinations trips : List ℕ) → noTripsWithin (demand n p destinations trips) ≡ all p (withinTest n destinations trips)
-unfolding noTripsWithin networkFrom withinTest
-within-all n p destinations trips = refl
+pub within-all : (n : ℕ) (nodeList entries : List ℕ) → noTripsWithin (network n [] nodeList entries) ≡ all (length nodeList) (withinTest n nodeList entries)
+unfolding noTripsWithin network withinTest
+within-all n nodeList entries = refl
 
 -- Question 6, passed, says that every link's ends are nodes.
-pub record Ends (n m : ℕ) (tails heads : List ℕ) : Type 0 where
-  pub tail-node : (l : ℕ) → l < m → getD tails l 0 < n
-  pub head-node : (l : ℕ) → l < m → getD heads l 0 < n
+pub record Ends (n : ℕ) (rows : List (List ℕ)) : Type 0 where
+  pub tail-node : (l : ℕ) → l < length rows → tail rows l < n
+  pub head-node : (l : ℕ) → l < length rows → head rows l < n
 
 -- The test of one link.
-unfoldable pub endsTest : ℕ → List ℕ → List ℕ → ℕ → Bool
-endsTest n tails heads l = ltb (getD tails l 0) n && ltb (getD heads l 0) n && not (eqb (getD tails l 0) (getD heads l 0))
+unfoldable pub endsTest : ℕ → List (List ℕ) → ℕ → Bool
+endsTest n rows l = ltb (tail rows l) n && ltb (head rows l) n && not (eqb (tail rows l) (head rows l))
 
-pub ends-all : (n m : ℕ) (tails heads : List ℕ) → endsFit (roads n m tails heads) ≡ all m (endsTest n tails heads)
-unfolding endsFit networkFrom endsTest
-ends-all n m tails heads = refl
+pub ends-all : (n : ℕ) (rows : List (List ℕ)) → endsFit (network n rows [] []) ≡ all (length rows) (endsTest n rows)
+unfolding endsFit network endsTest
+ends-all n rows = refl
 
-pub ends-below : (n m : ℕ) (tails heads : List ℕ) → endsFit (roads n m tails heads) ≡ true → Ends n m tails heads
+pub ends-below : (n : ℕ) (rows : List (List ℕ)) → endsFit (network n rows [] []) ≡ true → Ends n rows
 unfolding endsTest
-ends-below n m tails heads fit =
+ends-below n rows fit =
     record {
-      tail-node = λ l h. ltb-true _ _ (and-left (ltb (getD tails l 0) n) (ltb (getD heads l 0) n) (nodes l h));
-      head-node = λ l h. ltb-true _ _ (and-right (ltb (getD tails l 0) n) (ltb (getD heads l 0) n) (nodes l h));
+      tail-node = λ l h. ltb-true _ _ (and-left (ltb (tail rows l) n) (ltb (head rows l) n) (below l h));
+      head-node = λ l h. ltb-true _ _ (and-right (ltb (tail rows l) n) (ltb (head rows l) n) (below l h));
     }
   where
-    nodes : (l : ℕ) → l < m → (ltb (getD tails l 0) n && ltb (getD heads l 0) n) ≡ true
-    nodes l h = and-left (ltb (getD tails l 0) n && ltb (getD heads l 0) n) (not (eqb (getD tails l 0) (getD heads l 0))) (all-elim m (endsTest n tails heads) (sym (ends-all n m tails heads) ∙ fit) l h)
+    below : (l : ℕ) → l < length rows → (ltb (tail rows l) n && ltb (head rows l) n) ≡ true
+    below l h = and-left (ltb (tail rows l) n && ltb (head rows l) n) (not (eqb (tail rows l) (head rows l))) (all-elim (length rows) (endsTest n rows) (sym (ends-all n rows) ∙ fit) l h)
+
+-- Check's number: that of questions 1 to 5 where one of these refuses the file, and else that of 6 to 11.
+module _ (file : List ℕ) where
+  pub check-refused : (refusal file ≡ 0 → ⊥) → checkNumber file ≡ refusal file
+  unfolding checkNumber checkQuestions
+  check-refused refused = after-opening file (studyQuestions (nodes file) (linkRows file) (destinationNodes file) (tripEntries file)) ∙ rw (ne-eqb (refusal file) 0 refused)
+
+  pub check-opened : refusal file ≡ 0 → checkNumber file ≡ firstNo (studyQuestions (nodes file) (linkRows file) (destinationNodes file) (tripEntries file))
+  unfolding checkNumber checkQuestions
+  check-opened e = after-opening file (studyQuestions (nodes file) (linkRows file) (destinationNodes file) (tripEntries file)) ∙ rw (eq-eqb (refusal file) 0 e)

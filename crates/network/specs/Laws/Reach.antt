@@ -1,6 +1,6 @@
 -- What a sweep leaves, link by link, and what the marks say once a sweep gives no node a mark.
 use Prim.Native.Nat.{ℕ, _+_, _-_, _*_, _/_, _^_, _≤_, _<_}
-use native.Mathlib.Nat.{zero-add}
+use native.Mathlib.Nat.{zero-add, mul-le-mul-right}
 use native.Mathlib.Omega.{arith}
 use mathlib.Core.Bool.{Bool, true, false, _||_, _&&_, cond, and-comm, or-true, or-false}
 use mathlib.Core.List.{List, [], _∷_}
@@ -8,19 +8,18 @@ use mathlib.Core.Logic.{_⊎_, inl, inr, ⊎-elim}
 use mathlib.Core.Path.{_≡_, refl, sym, _∙_, ap}
 use lib.Bits.{bitAnd, bitOr, or-lt}
 use lib.Dec.{eqb}
-use lib.ListN.{getD, length, set, replicate, length-set, getD-replicate, length-replicate, List·getD-eq-default}
+use lib.ListN.{getD, length, take, drop, set, replicate, length-take, length-drop, length-set, getD-replicate, length-replicate, List·getD-eq-default}
 use lib.Pow.{pow-lt}
-use lib.Seq.{getD-set-same, getD-set-other}
+use lib.Seq.{getD-take, getD-drop, getD-set-same, getD-set-other}
 use borrow.Author.Tests.{eq-eqb, ne-eqb, eqb-true}
 use Rattle.theory.specs.Finite.{all}
 use Rattle.theory.specs.Laws.Cases.{on-equal, true-false}
 use Rattle.theory.specs.Laws.Finite.{order, below-suc, sum-add, sum-mono, sum-pick, all-cong, all-suc, and-left, and-right, getD-tabulate, tabulate-cong}
 use Rattle.theory.specs.Laws.Paths.{WellFormed}
+use Rattle.theory.specs.Study.{tail, head, network}
 use Rattle.theory.specs.Laws.Reach.{Reaches, marked-has-distance}
 use Rattle.calls.specs.Questions.{hasPath, tripsReach}
-use Rattle.calls.specs.Study.{networkFrom}
-use Rattle.network.specs.Networks.{toward, served}
-use Rattle.network.specs.Reach.{bit, marked, Whole, noMarks, Marks, Started, Stranded, markedTest, allMarked, room, toDestination, PathTo, LinkSwept, Swept, Searched, Found}
+use Rattle.network.specs.Reach.{bit, marked, Whole, noMarks, Marks, Started, Stranded, markedTest, allMarked, room, toDestination, PathTo, LinkSwept, Swept, Searched, Found, toward}
 use Rattle.theory.specs.Laws.Bits.{or-grows}
 use Rattle.network.specs.Laws.Bits.{bit-or, bit-one, bit-zero, read-bit}
 use Rattle.network.specs.Laws.Questions.{Ends}
@@ -129,8 +128,8 @@ link-grown tail head marks whole here other =
     link-swept tail head marks 1 whole here (omega arith) (omega (arith, or-grows (getD marks tail 0) (getD marks head 0))) (λ z. absurd (omega arith))
 
 -- A sweep over no links leaves the marks,
-pub swept-none : (n m : ℕ) (tails heads marks : List ℕ) (l : ℕ) → Whole marks → Swept n m tails heads marks l l marks 0
-swept-none n m tails heads marks l whole =
+pub swept-none : (nodes : ℕ) (links : List (List ℕ)) (marks : List ℕ) (l : ℕ) → Whole marks → Swept nodes links marks l l marks 0
+swept-none nodes links marks l whole =
     record {
       whole = whole;
       stays = λ k j e. e;
@@ -141,38 +140,38 @@ swept-none n m tails heads marks l whole =
     }
 
 -- and one link more, l, goes by what is done at the link.
-module _ {n m : ℕ} {tails heads before : List ℕ} {first end : ℕ} {marks : List ℕ} {count : ℕ} (swept : Swept n m tails heads before first end marks count) (l : ℕ) (below : l < m) (ends : Ends n m tails heads) where
-  module _ {after : List ℕ} {more : ℕ} (link : LinkSwept (getD tails l 0) (getD heads l 0) marks after more) where
-    came : (k j : ℕ) → marked after k j ≡ true → (marked marks k j ≡ true) ⊎ ((getD tails l 0 ≡ j) × (marked marks k (getD heads l 0) ≡ true))
+module _ {nodes : ℕ} {links : List (List ℕ)} {before : List ℕ} {first end : ℕ} {marks : List ℕ} {count : ℕ} (swept : Swept nodes links before first end marks count) (l : ℕ) (below : l < length links) (ends : Ends nodes links) where
+  module _ {after : List ℕ} {more : ℕ} (link : LinkSwept (tail links l) (head links l) marks after more) where
+    came : (k j : ℕ) → marked after k j ≡ true → (marked marks k j ≡ true) ⊎ ((tail links l ≡ j) × (marked marks k (head links l) ≡ true))
     came k j e =
         ⊎-elim inl
-        (λ f. inr (eqb-true (getD tails l 0) j (and-left (eqb (getD tails l 0) j) (marked marks k (getD heads l 0)) f), and-right (eqb (getD tails l 0) j) (marked marks k (getD heads l 0)) f))
-        (either (marked marks k j) (eqb (getD tails l 0) j && marked marks k (getD heads l 0)) (sym (link .marks k j) ∙ e))
+        (λ f. inr (eqb-true (tail links l) j (and-left (eqb (tail links l) j) (marked marks k (head links l)) f), and-right (eqb (tail links l) j) (marked marks k (head links l)) f))
+        (either (marked marks k j) (eqb (tail links l) j && marked marks k (head links l)) (sym (link .marks k j) ∙ e))
 
-    supported : (k s : ℕ) → ((j : ℕ) → marked before k j ≡ true → PathTo n m tails heads s j) → (j : ℕ) → marked after k j ≡ true → PathTo n m tails heads s j
-    unfolding networkFrom
+    supported : (k s : ℕ) → ((j : ℕ) → marked before k j ≡ true → PathTo nodes links s j) → (j : ℕ) → marked after k j ≡ true → PathTo nodes links s j
+    unfolding network
     supported k s paths j e =
         ⊎-elim (swept .supports k s paths j)
-        (λ (same, led). let (path, p) = swept .supports k s paths (getD heads l 0) led in (l ∷ path, (below, refl, same, p)))
+        (λ (same, led). let (path, p) = swept .supports k s paths (head links l) led in (l ∷ path, (below, refl, same, p)))
         (came k j e)
 
-    closed : more ≡ 0 → (k : ℕ) → marked after k (getD heads l 0) ≡ true → marked after k (getD tails l 0) ≡ true
+    closed : more ≡ 0 → (k : ℕ) → marked after k (head links l) ≡ true → marked after k (tail links l) ≡ true
     closed z k e =
-        let led : marked marks k (getD heads l 0) ≡ true = sym (link .same z k (getD heads l 0)) ∙ e in
-        link .marks k (getD tails l 0) ∙ rw (led, eq-eqb (getD tails l 0) (getD tails l 0) refl, or-true)
+        let led : marked marks k (head links l) ≡ true = sym (link .same z k (head links l)) ∙ e in
+        link .marks k (tail links l) ∙ rw (led, eq-eqb (tail links l) (tail links l) refl, or-true)
 
-    closed-before : count ≡ 0 → more ≡ 0 → (k i : ℕ) → first ≤ i → i < end → marked after k (getD heads i 0) ≡ true → marked after k (getD tails i 0) ≡ true
+    closed-before : count ≡ 0 → more ≡ 0 → (k i : ℕ) → first ≤ i → i < end → marked after k (head links i) ≡ true → marked after k (tail links i) ≡ true
     closed-before z y k i low high e =
-        link .same y k (getD tails i 0) ∙ swept .closes z k i low high (sym (link .same y k (getD heads i 0)) ∙ e)
+        link .same y k (tail links i) ∙ swept .closes z k i low high (sym (link .same y k (head links i)) ∙ e)
 
-    swept-wider : (first′ end′ : ℕ) → 1 + first′ + end ≤ first + end′ → ((i : ℕ) → first′ ≤ i → i < end′ → ((first ≤ i) × (i < end)) ⊎ (i ≡ l)) → Swept n m tails heads before first′ end′ after (count + more)
+    swept-wider : (first′ end′ : ℕ) → 1 + first′ + end ≤ first + end′ → ((i : ℕ) → first′ ≤ i → i < end′ → ((first ≤ i) × (i < end)) ⊎ (i ≡ l)) → Swept nodes links before first′ end′ after (count + more)
     swept-wider first′ end′ wider which =
         record {
           whole = link .whole;
           stays = λ k j e. link .marks k j ∙ rw (swept .stays k j e);
           supports = supported;
           most = omega (arith, swept .most, link .most);
-          counts = omega (arith, swept .counts, link .counts n (ends .tail-node l below));
+          counts = omega (arith, swept .counts, link .counts nodes (ends .tail-node l below));
           closes = λ z k i low high e. ⊎-elim
               (λ (p, q). closed-before (omega arith) (omega arith) k i p q e)
               (λ same. rw same (closed (omega arith) k (rw same at e)))
@@ -180,28 +179,28 @@ module _ {n m : ℕ} {tails heads before : List ℕ} {first end : ℕ} {marks : 
         }
 
   -- The next link up,
-  pub swept-up : {after : List ℕ} {more : ℕ} → end ≡ l → LinkSwept (getD tails l 0) (getD heads l 0) marks after more → Swept n m tails heads before first (l + 1) after (count + more)
+  pub swept-up : {after : List ℕ} {more : ℕ} → end ≡ l → LinkSwept (tail links l) (head links l) marks after more → Swept nodes links before first (l + 1) after (count + more)
   swept-up e link = swept-wider link first (l + 1) (omega arith) (λ i low high. ⊎-elim (λ p. inl (low, omega arith)) inr (below-suc l i (omega arith)))
 
   -- and the next link down.
-  pub swept-down : {after : List ℕ} {more : ℕ} → first ≡ l + 1 → LinkSwept (getD tails l 0) (getD heads l 0) marks after more → Swept n m tails heads before l end after (count + more)
+  pub swept-down : {after : List ℕ} {more : ℕ} → first ≡ l + 1 → LinkSwept (tail links l) (head links l) marks after more → Swept nodes links before l end after (count + more)
   swept-down e link = swept-wider link l end (omega arith) (λ i low high. ⊎-elim (λ p. inl (omega arith, high)) (λ p. inr (omega arith)) (order l i))
 
 -- The routing of the search is well formed.
-routing-well-formed : (n m : ℕ) (tails heads : List ℕ) (s : ℕ) → Ends n m tails heads → s < n → WellFormed (toDestination n m tails heads s)
-unfolding networkFrom
-routing-well-formed n m tails heads s ends h =
+routing-well-formed : (nodes : ℕ) (links : List (List ℕ)) (s : ℕ) → Ends nodes links → s < nodes → WellFormed (toDestination nodes links s)
+unfolding network
+routing-well-formed nodes links s ends h =
     record {
       tail-node = ends .tail-node;
       head-node = ends .head-node;
       destination-node = h;
-      some-time = λ l p. rw (getD-replicate {A = ℕ} m l 1 0 p) (omega arith);
+      some-time = λ l p. rw (getD-replicate {A = ℕ} (length links) l 1 0 p) (omega arith);
     }
 
 -- A search sets out with each destination's own node marked,
-pub searched-first : (n m p : ℕ) (tails heads destinations marks : List ℕ) → Started destinations p marks → Searched n m p tails heads destinations marks
-unfolding networkFrom
-searched-first n m p tails heads destinations marks started =
+pub searched-first : (nodes : ℕ) (links : List (List ℕ)) (destinations marks : List ℕ) → Started destinations (length destinations) marks → Searched nodes links destinations marks
+unfolding network
+searched-first nodes links destinations marks started =
     record {
       whole = started .whole;
       own = started .own;
@@ -209,7 +208,7 @@ searched-first n m p tails heads destinations marks started =
     }
 
 -- goes on with each sweep,
-pub searched-next : {n m p : ℕ} {tails heads destinations before after : List ℕ} {count : ℕ} → Searched n m p tails heads destinations before → Swept n m tails heads before 0 m after count → Searched n m p tails heads destinations after
+pub searched-next : {nodes : ℕ} {links : List (List ℕ)} {destinations before after : List ℕ} {count : ℕ} → Searched nodes links destinations before → Swept nodes links before 0 (length links) after count → Searched nodes links destinations after
 searched-next {destinations} searched swept =
     record {
       whole = swept .whole;
@@ -218,17 +217,17 @@ searched-next {destinations} searched swept =
     }
 
 -- and where a sweep gives no node a mark the nodes marked for a destination are those with a path to it.
-pub searched-all : {n m p : ℕ} {tails heads destinations before after : List ℕ} → Ends n m tails heads → ((k : ℕ) → k < p → getD destinations k 0 < n) → Searched n m p tails heads destinations before → Swept n m tails heads before 0 m after 0 → Found n m p tails heads destinations after
-unfolding hasPath networkFrom
-searched-all {n} {m} {p} {tails} {heads} {destinations} {before} {after} ends below searched swept k h =
-    let q = toDestination n m tails heads (getD destinations k 0) in
+pub searched-all : {nodes : ℕ} {links : List (List ℕ)} {destinations before after : List ℕ} → Ends nodes links → ((k : ℕ) → k < length destinations → getD destinations k 0 < nodes) → Searched nodes links destinations before → Swept nodes links before 0 (length links) after 0 → Found nodes links destinations after
+unfolding hasPath network
+searched-all {nodes} {links} {destinations} {before} {after} ends below searched swept k h =
+    let q = toDestination nodes links (getD destinations k 0) in
     let done = searched-next searched swept in
     let reaches : Reaches q (marked after k) = record {
       at-destination = done .own k h;
       over-link = λ l p u e. swept .closes refl k l (omega arith) p e;
       supported = λ j p e. done .supported k j e;
     } in
-    tabulate-cong n _ _ (λ j p. marked-has-distance q (routing-well-formed n m tails heads (getD destinations k 0) ends (below k h)) (marked after k) reaches j p)
+    tabulate-cong nodes _ _ (λ j p. marked-has-distance q (routing-well-formed nodes links (getD destinations k 0) ends (below k h)) (marked after k) reaches j p)
 
 -- A node strands no trips where it has none, and else by its mark.
 pub stranded-none : (trips word k : ℕ) → trips ≡ 0 → Stranded trips word k 0
@@ -238,9 +237,9 @@ pub stranded-some : (trips word k : ℕ) → (trips ≡ 0 → ⊥) → Stranded 
 stranded-some trips word k n = record { most = omega arith; none = rw (ne-eqb trips 0 n) (read-bit word k) }
 
 -- A count of the nodes that strand trips is 0 where every node before j passes the test.
-pub stranded-next : (n k : ℕ) (trips marks : List ℕ) (j count more : ℕ) → eqb count 0 ≡ all j (markedTest n k trips marks) → Stranded (getD trips (k * n + j) 0) (getD marks j 0) k more → eqb (count + more) 0 ≡ all (j + 1) (markedTest n k trips marks)
+pub stranded-next : (k : ℕ) (trips marks : List ℕ) (j count more : ℕ) → eqb count 0 ≡ all j (markedTest k trips marks) → Stranded (getD trips j 0) (getD marks j 0) k more → eqb (count + more) 0 ≡ all (j + 1) (markedTest k trips marks)
 unfolding markedTest marked
-stranded-next n k trips marks j count more before here =
+stranded-next k trips marks j count more before here =
     rw (all-suc, ← before, ← here .none) (no-sum count more)
   where
     no-sum : (a b : ℕ) → eqb (a + b) 0 ≡ (eqb a 0 && eqb b 0)
@@ -250,20 +249,32 @@ stranded-next n k trips marks j count more before here =
         (λ n. rw (ne-eqb a 0 n, ne-eqb (a + b) 0 (λ e. n (omega arith))))
 
 -- Question 11 is a test of each destination, which goes by the links and that destination alone,
-unfoldable pub reachTest : ℕ → ℕ → List ℕ → List ℕ → List ℕ → List ℕ → ℕ → Bool
-reachTest n m tails heads destinations trips k =
-    let path = hasPath (toward n m tails heads (getD destinations k 0)) 0 in
-    all n (λ j. eqb (getD trips (k * n + j) 0) 0 || getD path j true)
+unfoldable pub reachTest : ℕ → List (List ℕ) → List ℕ → List ℕ → ℕ → Bool
+reachTest nodes links destinations trips k =
+    let path = hasPath (toward nodes links (getD destinations k 0)) 0 in
+    all nodes (λ j. eqb (getD trips (k * nodes + j) 0) 0 || getD path j true)
 
-pub reach-all : (n m p : ℕ) (tails heads destinations trips : List ℕ) → tripsReach (served n m p tails heads destinations trips) ≡ all p (reachTest n m tails heads destinations trips)
-unfolding tripsReach networkFrom hasPath reachTest
-reach-all n m p tails heads destinations trips = refl
+pub reach-all : (nodes : ℕ) (links : List (List ℕ)) (destinations trips : List ℕ) → tripsReach (network nodes links destinations trips) ≡ all (length destinations) (reachTest nodes links destinations trips)
+unfolding tripsReach network hasPath reachTest
+reach-all nodes links destinations trips = refl
 
--- and the marks of a search answer it.
-pub marks-answer : (n m p : ℕ) (tails heads destinations trips : List ℕ) (k : ℕ) (marks : List ℕ) → k < p → Found n m p tails heads destinations marks → allMarked n k trips marks ≡ reachTest n m tails heads destinations trips k
-unfolding allMarked markedTest reachTest
-marks-answer n m p tails heads destinations trips k marks below found =
-    all-cong n _ _ (λ j h. ap (λ mark. eqb (getD trips (k * n + j) 0) 0 || mark) (at j h))
-  where
-    at : (j : ℕ) → j < n → marked marks k j ≡ getD (hasPath (toward n m tails heads (getD destinations k 0)) 0) j true
-    at j h = sym (getD-tabulate n (marked marks k) true j h) ∙ ap (λ list. getD list j true) (found k below)
+-- and the marks of a search answer it, by the trips of that destination: the n entries from k * n on.
+abbrev tripsTo : ℕ → List ℕ → ℕ → List ℕ
+tripsTo nodes trips k = take (k * nodes + nodes - k * nodes) (drop (k * nodes) trips)
+
+module _ (nodes : ℕ) (destinations trips : List ℕ) (k : ℕ) (below : k < length destinations) (long : length trips ≡ length destinations * nodes) where
+  pub trips-there : k * nodes + nodes ≤ length trips
+  trips-there = let before = mul-le-mul-right {m = k + 1} {n = length destinations} nodes (omega arith) in omega arith
+
+  pub trips-count : length (tripsTo nodes trips k) ≡ nodes
+  trips-count = simp (length-take, length-drop) (omega (arith, trips-there))
+
+  pub marks-answer : (links : List (List ℕ)) (marks : List ℕ) → Found nodes links destinations marks → allMarked k (tripsTo nodes trips k) marks ≡ reachTest nodes links destinations trips k
+  unfolding allMarked markedTest reachTest
+  marks-answer links marks found = rw trips-count (all-cong nodes _ _ (λ j h. rw (entry j h, path j h)))
+    where
+      entry : (j : ℕ) → j < nodes → getD (tripsTo nodes trips k) j 0 ≡ getD trips (k * nodes + j) 0
+      entry j h = getD-take (k * nodes + nodes - k * nodes) (drop (k * nodes) trips) j 0 (omega arith) ∙ getD-drop (k * nodes) trips j 0
+
+      path : (j : ℕ) → j < nodes → marked marks k j ≡ getD (hasPath (toward nodes links (getD destinations k 0)) 0) j true
+      path j h = sym (getD-tabulate nodes (marked marks k) true j h) ∙ ap (λ list. getD list j true) (found k below)

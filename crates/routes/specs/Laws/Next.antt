@@ -3,24 +3,28 @@ use Prim.Native.Nat.{ℕ, _+_, _-_, _≤_, _<_}
 use native.Mathlib.Omega.{arith}
 use mathlib.Core.Path.{_≡_, refl, sym, _∙_, ap}
 use mathlib.Core.Bool.{true, false}
-use mathlib.Core.List.{List, _++_}
+use mathlib.Core.List.{List, [], _++_}
 use mathlib.Core.Option.{Option, none, some}
-use lib.ListN.{getD, replicate}
+use lib.ListN.{length, getD, replicate}
 use Rattle.theory.specs.Finite.{first}
 use Rattle.theory.specs.Routes.{Routing, distances, distance, fitsNext, nextLinks}
+use Rattle.theory.specs.Study.{tail, head, noLink}
 use Rattle.theory.specs.Laws.Cases.{on-equal, on-test, on-option}
 use Rattle.theory.specs.Laws.Finite.{some-first, none-first}
 use Rattle.theory.specs.Laws.Paths.{WellFormed}
 use Rattle.theory.specs.Laws.Distances.{distance-over-link}
 use Rattle.theory.specs.Laws.Next.{fits-through, through-fits, length-next}
-use Rattle.routes.specs.Search.{routingFrom, unreached, mark, marks, noLink, linkMark, linkMarks}
-use Rattle.routes.specs.Given.{Searchable}
-use Rattle.routes.specs.Chains.{Linked}
-use Rattle.routes.specs.Next.{Picked, Unfit, firstFitting, Seeking}
-use Rattle.routes.specs.Laws.Padded.{padded-at}
-use Rattle.routes.specs.Laws.Filled.{Filled, filled-is, map-tabulate}
-use Rattle.routes.specs.Laws.Chains.{chain-begins, chain-goes}
-use Rattle.routes.specs.Laws.Found.{well-formed, marks-at}
+use Rattle.theory.specs.Laws.Padded.{padded-at}
+use Rattle.theory.specs.Laws.Filled.{Filled, filled-is, map-tabulate}
+use Rattle.search.specs.Search.{routingFrom, unreached, mark, marks}
+use Rattle.search.specs.Given.{Searchable}
+use Rattle.search.specs.Chains.{linkMark, chainOf}
+use Rattle.search.specs.Lanes.{EachSearchable, Found}
+use Rattle.search.specs.Laws.Chains.{chain-goes}
+use Rattle.search.specs.Laws.Found.{well-formed, marks-at}
+use Rattle.search.specs.Laws.Lanes.{lane-at, row-most}
+use Rattle.routes.specs.Next.{firstFitting, Unfit}
+use Rattle.routes.specs.Table.{linkMarks}
 
 -- The test on marks is the definition's test on distances.
 module _ (q : Routing) (w : WellFormed q) (few : q .nodes ≤ 128) (j : ℕ) (h : j < q .nodes) where
@@ -54,78 +58,71 @@ module _ (q : Routing) (w : WellFormed q) (few : q .nodes ≤ 128) (j : ℕ) (h 
   elsewhere-unfit : (l : ℕ) → l < q .links → (q .tail l ≡ j → ⊥) → fitsNext q (distances q) j l ≡ false
   elsewhere-unfit l b away = on-test (fitsNext q (distances q) j l) (λ e. absurd (away (fits-equal l b e .0))) (λ e. e)
 
--- The search along the chain of node j, for one of the destinations.
-module _ {n m : ℕ} {tails heads times : List ℕ} {s : ℕ} (g : Searchable n m tails heads times s) {dist : List ℕ}
-    (least : dist ≡ marks (routingFrom n m tails heads times s)) {firsts nexts : List ℕ} (chains : Linked m tails firsts nexts) {j : ℕ}
-    (h : j < n) where
-  -- It begins at the lowest link, with none found,
-  pub seek-begins : {l r : ℕ} → l ≡ getD firsts j 0 → r ≡ noLink → Seeking n m tails heads times s j l r
-  seek-begins e none-found =
-      record {
-        none-yet = λ q. chain-begins (g .few-links) chains (omega (arith, g .few-nodes)) e;
-        found = λ some-link. absurd (some-link none-found);
-      }
+-- The search along the chain of node j, to destination k of a group.
+module _ {nodes : ℕ} {links : List (List ℕ)} {times group : List ℕ} (g : EachSearchable nodes links times group) {table : List (List ℕ)}
+    (found : Found nodes links times group table) {j : ℕ} (h : j < nodes) {k : ℕ} (b : k < 8) where
+  -- The marks of the table are those of the distances.
+  mark-is : (i : ℕ) → i < nodes → getD (getD table i []) k 0 ≡ getD (marks (routingFrom nodes links times (getD group k 0))) i 0
+  mark-is i c = sym (lane-at k table i (omega (arith, g k b .roads .few-nodes))) ∙ ap (λ d. getD d i 0) (found .least k b)
+
+  mark-most : (i : ℕ) → i < nodes → getD (getD table i []) k 0 ≤ unreached
+  mark-most i c = row-most table (found .marked) (omega (arith, g k b .roads .few-nodes)) k b
+
+  -- A link that does not give the node its mark does not fit.
+  pub unfit : (l : ℕ) → l < length links → (getD (getD table (head links l) []) k 0 + getD times l 0 ≡ getD (getD table j []) k 0 → ⊥)
+      → fitsNext (routingFrom nodes links times (getD group k 0)) (distances (routingFrom nodes links times (getD group k 0))) j l ≡ false
+  unfolding routingFrom
+  unfit l c differ =
+      unequal-unfit (routingFrom nodes links times (getD group k 0)) (well-formed (g k b)) (g k b .roads .few-nodes) j h l c
+      (λ same. differ (omega (arith, mark-is j h, mark-is (head links l) (g k b .roads .head-node l c), same)))
 
   -- No lower link fits.
-  lower : {l : ℕ} → Unfit n m tails heads times s j l → (i : ℕ) → i < m → i < l
-      → fitsNext (routingFrom n m tails heads times s) (distances (routingFrom n m tails heads times s)) j i ≡ false
+  lower : {l : ℕ} → Unfit nodes links times (getD group k 0) j l → (i : ℕ) → i < length links → i < l
+      → fitsNext (routingFrom nodes links times (getD group k 0)) (distances (routingFrom nodes links times (getD group k 0))) j i ≡ false
   unfolding routingFrom
-  lower at i b c =
-      on-equal (getD tails i 0) j (at .passed i b c)
-      (elsewhere-unfit (routingFrom n m tails heads times s) (well-formed g) (g .few-nodes) j h i b)
+  lower at i c d =
+      on-equal (tail links i) j (at .passed i c d)
+      (elsewhere-unfit (routingFrom nodes links times (getD group k 0)) (well-formed (g k b)) (g k b .roads .few-nodes) j h i c)
 
-  module _ {l r : ℕ} (at : Seeking n m tails heads times s j l r) where
-    -- ends past the last link,
-    pub seek-ends : l ≡ noLink → r ≡ firstFitting n m tails heads times s j
+  module _ {l : ℕ} (at : Unfit nodes links times (getD group k 0) j l) where
+    -- The search ends past the last link,
+    pub next-none : l ≡ noLink → l ≡ firstFitting nodes links times (getD group k 0) j
     unfolding linkMark
-    seek-ends e =
-        on-equal r noLink
-        (λ none-found. none-found
-        ∙ ap linkMark (sym (none-first m _ (λ i b. lower (at .none-yet none-found) i b (omega (arith, g .few-links))))))
-        (at .found)
+    next-none e =
+        e ∙ ap linkMark (sym (none-first (length links) _ (λ i c. lower at i c (omega (arith, g k b .roads .few-links)))))
 
-    module _ (below : l < m) (leaves : getD tails l 0 ≡ j) (own≤ : getD dist j 0 ≤ unreached) {given own r′ : ℕ}
-        (given≡ : given ≡ getD dist (getD heads l 0) 0 + getD times l 0) (own≡ : own ≡ getD dist j 0) (picked : Picked r given own l r′) where
-      -- finds a link that gives the node its mark,
-      here : r ≡ noLink → given ≡ own → r′ ≡ firstFitting n m tails heads times s j
-      unfolding routingFrom linkMark
-      here none-found same =
-          let equal : getD times l 0 + getD dist (getD heads l 0) 0 ≡ getD dist j 0 = omega arith in
-          let fits = equal-fits (routingFrom n m tails heads times s) (well-formed g) (g .few-nodes) j h l below refl leaves (rw least at own≤)
-          (rw least at equal) in
-          picked .took none-found same
-          ∙ ap linkMark (sym (some-first m _ l (record { below = below; fits = fits; lower = λ i b. lower (at .none-yet none-found) i (omega arith) b })))
+    module _ (some-link : l ≡ noLink → ⊥) {i : ℕ} (i≡ : i ≡ l) where
+      below : i < length links
+      below = omega (arith, at .on-chain some-link .0)
 
-      -- and passes any other.
-      unfit : (given ≡ own → ⊥) → fitsNext (routingFrom n m tails heads times s) (distances (routingFrom n m tails heads times s)) j l ≡ false
-      unfolding routingFrom
-      unfit differ =
-          let unequal : getD times l 0 + getD dist (getD heads l 0) 0 ≡ getD dist j 0 → ⊥ = λ same. differ (omega arith) in
-          unequal-unfit (routingFrom n m tails heads times s) (well-formed g) (g .few-nodes) j h l below (rw least at unequal)
+      -- is otherwise at a link of the network,
+      pub next-at : (i < length links) × (i < 512) × (head links i < 128)
+      next-at =
+          let roads = g k b .roads in (below, omega (arith, below, roads .few-links), omega (arith, roads .head-node i below, roads .few-nodes))
 
-      -- What is found stays found.
-      pub seek-found : (r′ ≡ noLink → ⊥) → r′ ≡ firstFitting n m tails heads times s j
-      seek-found some-link =
-          on-equal r noLink
-          (λ none-found. on-equal given own (here none-found) (λ differ. absurd (some-link (picked .none none-found differ))))
-          (λ was. picked .kept was ∙ at .found was)
+      module _ {a : ℕ} (a≡ : a ≡ head links i) where
+        pub next-sum : getD (getD table a []) k 0 + getD times i 0 < 4294967296
+        next-sum =
+            let roads = g k b .roads in
+            omega (arith, mark-most a (omega (arith, roads .head-node i below)), roads .short-time i below)
 
-      -- The search goes on to a higher link.
-      pub seek-goes : {k l′ : ℕ} → k ≡ l → l′ ≡ getD nexts k 0 → Seeking n m tails heads times s j l′ r′
-      seek-goes {l′ = l′} k≡ e =
-          record {
-            none-yet = λ none-found. on-equal r noLink (still none-found)
-                (λ was. absurd (was (sym (picked .kept was) ∙ none-found)));
-            found = seek-found;
-          }
-        where
-          some-link : l ≡ noLink → ⊥
-          some-link q = omega (arith, g .few-links)
+        -- ends at one that gives the node its mark,
+        pub next-here : getD (getD table a []) k 0 + getD times i 0 ≡ getD (getD table j []) k 0 → l ≡ firstFitting nodes links times (getD group k 0) j
+        unfolding routingFrom linkMark
+        next-here same =
+            let roads = g k b .roads in
+            let at-head = ap (λ x. getD (getD table x []) k 0) a≡ ∙ mark-is (head links i) (roads .head-node i below) in
+            let fits = equal-fits (routingFrom nodes links times (getD group k 0)) (well-formed (g k b)) (roads .few-nodes) j h i below refl
+            (rw (← i≡) at (at .on-chain some-link .1)) (omega (arith, mark-is j h, mark-most j h)) (omega (arith, mark-is j h, at-head)) in
+            sym i≡
+            ∙ ap linkMark (sym (some-first (length links) _ i (record { below = below; fits = fits; lower = λ x c. lower at x (omega (arith, below)) (omega arith) })))
 
-          still : r′ ≡ noLink → r ≡ noLink → Unfit n m tails heads times s j l′
-          still none-found was =
-              on-equal given own (λ same. absurd (some-link (sym (picked .took was same) ∙ none-found)))
-              (λ differ. chain-goes (g .few-links) chains (at .none-yet was) some-link (unfit differ) k≡ e .1)
+        -- and goes on from any other to a higher one.
+        pub next-goes : {out : List ℕ} → out ≡ chainOf links 0 → (getD (getD table a []) k 0 + getD times i 0 ≡ getD (getD table j []) k 0 → ⊥)
+            → {l′ : ℕ} → l′ ≡ getD out (128 + i) 0 → (l < l′) × Unfit nodes links times (getD group k 0) j l′
+        next-goes chain differ e =
+            let other = unfit i below (λ same. differ (rw a≡ same)) in
+            chain-goes (g k b .roads .few-links) chain at some-link (rw i≡ at other) i≡ e
 
 -- The marks of the next links, node by node.
 pub link-marks-at : (q : Routing) → q .nodes ≤ 128 → (j : ℕ) → j < 128 → getD (linkMarks q) j 0 ≡ linkMark (getD (nextLinks q) j none)
@@ -133,10 +130,10 @@ unfolding linkMarks linkMark
 link-marks-at q few j h = padded-at linkMark (nextLinks q) (q .nodes) (length-next q) few j h
 
 -- They are found node by node.
-pub link-marks-filled : {n m : ℕ} {tails heads times : List ℕ} {s : ℕ} → Searchable n m tails heads times s → {links : List ℕ}
-    → Filled (firstFitting n m tails heads times s) noLink 128 n links → links ≡ linkMarks (routingFrom n m tails heads times s)
+pub link-marks-filled : {nodes : ℕ} {links : List (List ℕ)} {times : List ℕ} {s : ℕ} → Searchable nodes links times s → {row : List ℕ}
+    → Filled (firstFitting nodes links times s) noLink 128 nodes row → row ≡ linkMarks (routingFrom nodes links times s)
 unfolding linkMarks nextLinks routingFrom
-link-marks-filled {n} {m} {tails} {heads} {times} {s} g w =
-    filled-is (g .few-nodes) w
-    ∙ ap (λ front. front ++ replicate (128 - n) noLink)
-    (sym (map-tabulate linkMark n (λ j. first m (fitsNext (routingFrom n m tails heads times s) (distances (routingFrom n m tails heads times s)) j))))
+link-marks-filled {nodes} {links} {times} {s} g w =
+    filled-is (g .roads .few-nodes) w
+    ∙ ap (λ front. front ++ replicate (128 - nodes) noLink)
+    (sym (map-tabulate linkMark nodes (λ j. first (length links) (fitsNext (routingFrom nodes links times s) (distances (routingFrom nodes links times s)) j))))

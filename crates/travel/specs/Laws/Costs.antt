@@ -3,20 +3,21 @@ use Prim.Native.Nat.{ℕ, _+_, _*_, _-_, _≤_, _<_}
 use native.Mathlib.Nat.{mul-le-mul, mul-le-mul-right, sub-le}
 use native.Mathlib.Omega.{arith}
 use mathlib.Core.Path.{_≡_, refl, sym}
-use mathlib.Core.List.{List}
-use lib.ListN.{getD}
+use mathlib.Core.List.{List, []}
+use lib.ListN.{length, getD}
 use Rattle.theory.specs.Finite.{sum}
-use Rattle.theory.specs.Flows.{step, stepTime}
+use Rattle.theory.specs.Study.{capacity}
+use Rattle.theory.specs.Flows.{step}
 use Rattle.theory.specs.Cost.{linkCost}
 use Rattle.theory.specs.Laws.Finite.{sum-suc, sum-bound}
-use Rattle.travel.specs.Links.{listCost, listProduct}
+use Rattle.travel.specs.Links.{rowTime, listCost, listProduct}
 use Rattle.travel.specs.Ranges.{LinkFits, LinksFit, Within, mostTime, mostFlow}
-use Rattle.travel.specs.Laws.Times.{step-within, stepTime-most}
+use Rattle.travel.specs.Laws.Times.{step-within, rowTime-most}
 use Rattle.travel.specs.Laws.Staircase.{linkCost-treads, linkCost-most}
 
 -- The heights of the treads below a step.
-pub heights-most : (a b r : ℕ) → a ≤ 16383 → b ≤ 16383 → r ≤ 256 → sum r (stepTime a b) ≤ r * mostTime
-heights-most a b r ha hb hr = sum-bound r mostTime (stepTime a b) (λ i p. stepTime-most a b i ha hb (omega arith))
+pub heights-most : (link : List ℕ) (r : ℕ) → LinkFits link → r ≤ 256 → sum r (rowTime link) ≤ r * mostTime
+heights-most link r fit h = sum-bound r mostTime (rowTime link) (λ i p. rowTime-most link i fit (omega arith))
 
 -- The cost of a link as the code adds it up: at step r, with h the heights of the treads below it and t its own.
 module _ (c w s r : ℕ) (at-step : r ≡ step c w s) where
@@ -29,14 +30,13 @@ module _ (c w s r : ℕ) (at-step : r ≡ step c w s) where
   pub rest-most : (t : ℕ) → t ≤ mostTime → t * (64 * s - r * (c * w)) ≤ 64 * s * mostTime
   rest-most t low = omega (arith, mul-le-mul low (sub-le (64 * s) (r * (c * w))))
 
-  pub treads-cost : (a b h t : ℕ) → 1 ≤ c → 1 ≤ w → h ≡ sum r (stepTime a b) → t ≡ stepTime a b r →
-      h * (c * w) + t * (64 * s - r * (c * w)) ≡ linkCost (stepTime a b) c w s
-  treads-cost a b h t hc hw below here = rw (below, here, at-step) (sym (linkCost-treads (stepTime a b) c w s hc hw))
+  pub treads-cost : (height : ℕ → ℕ) (h t : ℕ) → 1 ≤ c → 1 ≤ w → h ≡ sum r height → t ≡ height r →
+      h * (c * w) + t * (64 * s - r * (c * w)) ≡ linkCost height c w s
+  treads-cost height h t hc hw below here = rw (below, here, at-step) (sym (linkCost-treads height c w s hc hw))
 
-pub cost-of-most : (a b c w s : ℕ) → LinkFits a b c → 1 ≤ w → linkCost (stepTime a b) c w s ≤ 64 * s * mostTime
-cost-of-most a b c w s link hw =
-    linkCost-most (stepTime a b) mostTime c w s (link .some-capacity) hw
-    (λ i p. stepTime-most a b i (link .time-fits) (link .rise-fits) p)
+pub cost-of-most : (link : List ℕ) (w s : ℕ) → LinkFits link → 1 ≤ w → linkCost (rowTime link) (getD link 4 0) w s ≤ 64 * s * mostTime
+cost-of-most link w s fit hw =
+    linkCost-most (rowTime link) mostTime (getD link 4 0) w s (fit .some-capacity) hw (λ i p. rowTime-most link i fit p)
 
 -- Products of two lists.
 module _ (times flows : List ℕ) where
@@ -54,30 +54,31 @@ module _ (times flows : List ℕ) where
       sum-bound m (time * flow) (λ i. getD times i 0 * getD flows i 0) (λ i p. mul-le-mul (ht i p) (hf i p))
 
 -- Costs.
-module _ (freeTimes rises capacities : List ℕ) (share : ℕ) (flows : List ℕ) where
-  -- The cost of one link.
+module _ (links : List (List ℕ)) (share : ℕ) (flows : List ℕ) where
+  -- The cost of one link, and of the first l.
   abbrev pub costAt : ℕ → ℕ
-  costAt l = linkCost (stepTime (getD freeTimes l 0) (getD rises l 0)) (getD capacities l 0) share (getD flows l 0)
+  costAt l = linkCost (rowTime (getD links l [])) (capacity links l) share (getD flows l 0)
 
-  pub cost-none : listCost 0 freeTimes rises capacities share flows ≡ 0
-  unfolding listCost sum
+  abbrev pub costTo : ℕ → ℕ
+  costTo l = sum l costAt
+
+  pub cost-none : costTo 0 ≡ 0
+  unfolding sum
   cost-none = refl
 
-  pub cost-more : (l : ℕ) →
-      listCost (l + 1) freeTimes rises capacities share flows ≡ listCost l freeTimes rises capacities share flows + costAt l
-  unfolding listCost
+  pub cost-more : (l : ℕ) → costTo (l + 1) ≡ costTo l + costAt l
   cost-more l = sum-suc l costAt
 
-  -- 64 × 67,107,840 × 4,210,431 for each link: for 512 links less than 2⁶⁴.
-  pub cost-most : (m : ℕ) → LinksFit m freeTimes rises capacities → 1 ≤ share → Within m mostFlow flows → (l : ℕ) → l ≤ m →
-      listCost l freeTimes rises capacities share flows ≤ l * (64 * mostFlow * mostTime)
+  pub cost-all : costTo (length links) ≡ listCost links share flows
   unfolding listCost
-  cost-most m fit h few l q = sum-bound l (64 * mostFlow * mostTime) costAt each
+  cost-all = refl
+
+  -- 64 × 67,107,840 × 4,210,431 for each link: for 512 links less than 2⁶⁴.
+  pub cost-most : LinksFit links → 1 ≤ share → Within (length links) mostFlow flows → (l : ℕ) → l ≤ length links →
+      costTo l ≤ l * (64 * mostFlow * mostTime)
+  cost-most fit h few l q = sum-bound l (64 * mostFlow * mostTime) costAt each
     where
       each : (i : ℕ) → i < l → costAt i ≤ 64 * mostFlow * mostTime
       each i p =
-          omega (
-            arith,
-            few i (omega arith),
-            cost-of-most (getD freeTimes i 0) (getD rises i 0) (getD capacities i 0) share (getD flows i 0) (fit .link i (omega arith)) h,
-          )
+          omega
+          (arith, few i (omega arith), cost-of-most (getD links i []) share (getD flows i 0) (fit .link i (omega arith)) h)

@@ -9,6 +9,7 @@ use lib.Dec.{eqb}
 use lib.Seq.{getD-set-same, getD-set-other}
 use borrow.Author.Tests.{eqb-true, eqb-false}
 use Rattle.theory.specs.Finite.{sum}
+use Rattle.theory.specs.Study.{column}
 use Rattle.theory.specs.Flows.{sumAt}
 use Rattle.theory.specs.Laws.Finite.{sum-suc, sum-bound}
 use Rattle.travel.specs.Ranges.{SumsAt}
@@ -18,18 +19,18 @@ counted-most : (b : Bool) (x most : ℕ) → x ≤ most → cond b x 0 ≤ most
 counted-most true x most h = h
 counted-most false x most h = omega arith
 
-module _ (ends row : List ℕ) where
-  pub sums-none : SumsAt 0 ends row (replicate 128 0)
+module _ (links : List (List ℕ)) (end : ℕ) (row : List ℕ) where
+  pub sums-none : SumsAt 0 links end row (replicate 128 0)
   unfolding sumAt sum
   sums-none = record { size = length-replicate {A = ℕ} 128 0; at = λ j p. getD-replicate 128 j 0 0 p }
 
-  pub sums-most : (l most j : ℕ) → ((i : ℕ) → getD row i 0 ≤ most) → sumAt l (λ i. getD ends i 0) j (λ i. getD row i 0) ≤ l * most
+  pub sums-most : (l most j : ℕ) → ((i : ℕ) → getD row i 0 ≤ most) → sumAt l (column end links) j (λ i. getD row i 0) ≤ l * most
   unfolding sumAt
   sums-most l most j h =
-      sum-bound l most (λ i. cond (eqb (getD ends i 0) j) (getD row i 0) 0) (λ i p. counted-most (eqb (getD ends i 0) j) (getD row i 0) most (h i))
+      sum-bound l most (λ i. cond (eqb (column end links i) j) (getD row i 0) 0) (λ i p. counted-most (eqb (column end links i) j) (getD row i 0) most (h i))
 
-  pub sums-more : (l : ℕ) (sums : List ℕ) → getD ends l 0 < 128 → SumsAt l ends row sums →
-      SumsAt (l + 1) ends row (set sums (getD ends l 0) (getD sums (getD ends l 0) 0 + getD row l 0))
+  pub sums-more : (l : ℕ) (sums : List ℕ) → column end links l < 128 → SumsAt l links end row sums →
+      SumsAt (l + 1) links end row (set sums (column end links l) (getD sums (column end links l) 0 + getD row l 0))
   unfolding sumAt
   sums-more l sums h so-far =
       record {
@@ -38,13 +39,13 @@ module _ (ends row : List ℕ) where
       }
     where
       node : ℕ
-      node = getD ends l 0
+      node = column end links l
 
       x : ℕ
       x = getD sums node 0 + getD row l 0
 
       term : ℕ → ℕ → ℕ
-      term j i = cond (eqb (getD ends i 0) j) (getD row i 0) 0
+      term j i = cond (eqb (column end links i) j) (getD row i 0) 0
 
       one : (j : ℕ) → j < 128 → (b : Bool) → eqb node j ≡ b → getD (set sums node x) j 0 ≡ sum l (term j) + term j l
       one j p true e =

@@ -3,12 +3,13 @@ use Prim.Native.Nat.{ℕ, _*_, _/_, _^_, _≤_, _<_}
 use native.Mathlib.Nat.{min-le-left, min-le-right, le-trans, mul-le-mul, mul-le-mul-right, div-mul-le-self, pow-suc, pow-zero}
 use native.Mathlib.Omega.{arith}
 use mathlib.Core.Path.{_≡_}
-use mathlib.Core.List.{List}
-use lib.ListN.{getD}
+use mathlib.Core.List.{List, []}
+use lib.ListN.{length, getD}
+use Rattle.theory.specs.Study.{freeTime, rise, capacity}
 use Rattle.theory.specs.Flows.{step, stepTime}
 use Rattle.theory.specs.Laws.Times.{stepTime-least, stepTime-mono}
-use Rattle.travel.specs.Links.{listTime}
-use Rattle.travel.specs.Ranges.{LinksFit, mostTime, mostFlow}
+use Rattle.travel.specs.Links.{rowTime, listTime}
+use Rattle.travel.specs.Ranges.{LinkFits, LinksFit, mostTime, mostFlow}
 
 -- As the code has it.
 pub fourth-power : (r : ℕ) → r ^ 4 ≡ r * r * (r * r)
@@ -33,7 +34,7 @@ top-time : (a b : ℕ) → a ≤ 16383 → b ≤ 16383 → stepTime a b 256 ≤ 
 unfolding stepTime
 top-time a b ha hb = omega arith
 
-pub stepTime-most : (a b r : ℕ) → a ≤ 16383 → b ≤ 16383 → r ≤ 256 → stepTime a b r ≤ mostTime
+stepTime-most : (a b r : ℕ) → a ≤ 16383 → b ≤ 16383 → r ≤ 256 → stepTime a b r ≤ mostTime
 stepTime-most a b r ha hb hr = le-trans (stepTime-mono a b hr) (top-time a b ha hb)
 
 -- Steps.
@@ -48,16 +49,15 @@ unfolding step
 step-within c w s =
     le-trans (mul-le-mul-right (c * w) (min-le-right 256 (64 * s / (c * w)))) (div-mul-le-self (64 * s) (c * w))
 
--- The time of a link whose fields stand in lists.
-module _ (m : ℕ) (freeTimes rises capacities : List ℕ) (fit : LinksFit m freeTimes rises capacities) (share : ℕ) (flows : List ℕ) (l : ℕ) (h : l < m) where
-  pub listTime-least : 1 ≤ listTime freeTimes rises capacities share flows l
-  unfolding listTime
-  listTime-least =
-      le-trans (fit .link l h .some-time)
-      (stepTime-least (getD freeTimes l 0) (getD rises l 0) (step (getD capacities l 0) share (getD flows l 0)))
+-- The time of a link at a step, and with the flows of a list.
+pub rowTime-most : (link : List ℕ) (r : ℕ) → LinkFits link → r ≤ 256 → rowTime link r ≤ mostTime
+rowTime-most link r fit h = stepTime-most (getD link 2 0) (getD link 3 0) r (fit .time-fits) (fit .rise-fits) h
 
-  pub listTime-most : listTime freeTimes rises capacities share flows l ≤ mostTime
+module _ (links : List (List ℕ)) (fit : LinksFit links) (share : ℕ) (flows : List ℕ) (l : ℕ) (h : l < length links) where
+  pub listTime-least : 1 ≤ listTime links share flows l
   unfolding listTime
-  listTime-most =
-      stepTime-most (getD freeTimes l 0) (getD rises l 0) (step (getD capacities l 0) share (getD flows l 0))
-      (fit .link l h .time-fits) (fit .link l h .rise-fits) (step-most (getD capacities l 0) share (getD flows l 0))
+  listTime-least = le-trans (fit .link l h .some-time) (stepTime-least (freeTime links l) (rise links l) _)
+
+  pub listTime-most : listTime links share flows l ≤ mostTime
+  unfolding listTime
+  listTime-most = rowTime-most (getD links l []) _ (fit .link l h) (step-most (capacity links l) share (getD flows l 0))

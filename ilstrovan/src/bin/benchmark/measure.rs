@@ -1,4 +1,4 @@
-//! Times of two ways to do the same, measured turn about, in processor time of
+//! Times of several ways to do the same, measured turn about, in processor time of
 //! this thread, so that what else the machine does counts little.
 
 use std::ffi::{c_int, c_long};
@@ -15,17 +15,22 @@ const MEASUREMENT: Duration = Duration::from_millis(2);
 /// Most calls in a measurement.
 const MOST_CALLS: usize = 2_000;
 
-/// Times of the proved call and of the second implementation's, and their
-/// ratios.
+/// Times of the proved call, of the second implementation's and, where there is
+/// one, of an earlier build's, and the ratios of the first to the others.
 pub struct Comparison {
     proved: Spread,
     second: Spread,
     ratio: Spread,
+    before: Option<(Spread, Spread)>,
 }
 
 impl fmt::Display for Comparison {
     fn fmt(&self, out: &mut fmt::Formatter<'_>) -> fmt::Result {
-        write!(out, "{} | {} | {}", self.proved, self.second, self.ratio)
+        write!(out, "{} | {} | {}", self.proved, self.second, self.ratio)?;
+        match &self.before {
+            Some((before, ratio)) => write!(out, " | {before} | {ratio}"),
+            None => Ok(()),
+        }
     }
 }
 
@@ -58,41 +63,44 @@ impl fmt::Display for Spread {
     }
 }
 
-/// Compares two ways, each call with a table of its own that holds what
+/// One way to do it.
+pub type Way<'a> = &'a mut dyn FnMut(&mut [u32]);
+
+/// Compares the proved way, the second implementation's and perhaps an earlier
+/// build's, in this order. Each call has a table of its own that holds what
 /// `table` does.
-pub fn compare<A, B>(
-    table: &[u32],
-    mut proved: impl FnMut(&mut [u32]) -> A,
-    mut second: impl FnMut(&mut [u32]) -> B,
-) -> Comparison {
-    let once = time(table, 1, &mut proved) + time(table, 1, &mut second);
-    let calls = (2.0 * MEASUREMENT.as_secs_f64() * 1e6 / once) as usize;
+pub fn compare(table: &[u32], ways: &mut [Way<'_>]) -> Comparison {
+    let once: f64 = ways.iter_mut().map(|way| time(table, 1, way)).sum();
+    let calls = (ways.len() as f64 * MEASUREMENT.as_secs_f64() * 1e6 / once) as usize;
     let calls = calls.clamp(1, MOST_CALLS);
-    let (mut proved_times, mut second_times) = (Vec::new(), Vec::new());
+    let mut times = vec![vec![]; ways.len()];
     for turn in 0..REPETITIONS {
-        // Now the one first, now the other.
-        if turn % 2 == 0 {
-            proved_times.push(time(table, calls, &mut proved));
-            second_times.push(time(table, calls, &mut second));
-        } else {
-            second_times.push(time(table, calls, &mut second));
-            proved_times.push(time(table, calls, &mut proved));
+        // Each of them is now the first, now the last.
+        for place in 0..ways.len() {
+            let way = (turn + place) % ways.len();
+            times[way].push(time(table, calls, &mut ways[way]));
         }
     }
-    let ratios = proved_times.iter().zip(&second_times);
+    let ratio = |other: &Vec<f64>| {
+        let pairs = times[0].iter().zip(other);
+        Spread::of(pairs.map(|(proved, other)| proved / other).collect())
+    };
     Comparison {
-        ratio: Spread::of(ratios.map(|(proved, second)| proved / second).collect()),
-        proved: Spread::of(proved_times),
-        second: Spread::of(second_times),
+        ratio: ratio(&times[1]),
+        before: times
+            .get(2)
+            .map(|before| (Spread::of(before.clone()), ratio(before))),
+        proved: Spread::of(times[0].clone()),
+        second: Spread::of(times[1].clone()),
     }
 }
 
 /// Microseconds a call.
-fn time<A>(table: &[u32], calls: usize, call: &mut impl FnMut(&mut [u32]) -> A) -> f64 {
+fn time(table: &[u32], calls: usize, call: &mut Way<'_>) -> f64 {
     let mut tables = vec![table.to_vec(); calls];
     let begin = processor_time();
     for table in &mut tables {
-        black_box(call(black_box(table)));
+        call(black_box(table));
     }
     (processor_time() - begin).as_secs_f64() * 1e6 / calls as f64
 }

@@ -1,33 +1,27 @@
--- `assign_cases::show` meets its contract: what is written is a part of the listing's array.
-use Prim.Native.Nat.{_≤_}
-use native.Mathlib.Omega.{arith}
-use mathlib.Core.Path.{sym, ap}
-use lib.ListN.{length, length-append}
+-- `assign_cases::show::show` is safe: the response is to a part of the input.
+use mathlib.Core.Path.{sym}
 use lib.Seq.{length-take-le}
 use borrow.Author.Needs.{needs}
 use Rattle.assign_cases.proofs.show.show.Statement.{statement}
 use Rattle.assign_cases.proofs.show.show.Tie as tie
 
+number-within-requires : tie.Need-number-within-requires
+number-within-requires c κs = search needs
+
+label-requires : tie.Need-label-requires
+label-requires c κs = search needs
+
+slice-aggregate-text : tie.Need-slice-aggregate-text
+slice-aggregate-text c = search needs
+
+text-requires : tie.Need-text-requires
+text-requires c κs = search needs
+
 slice-aggregate-respond : tie.Need-slice-aggregate-respond
-slice-aggregate-respond c = search needs
+slice-aggregate-respond c = sym (length-take-le _ _ (search needs))
 
 respond-requires : tie.Need-respond-requires
 respond-requires c κs = search needs
-
-write-all-requires : tie.Need-write-all-requires
-write-all-requires c κs = search needs
-
-listed : (c : tie.After-respond) → c .respond .result ≤ length (c .respond .last .1 .1 .0)
-listed c = omega (arith, simp length-append at (ap length (c .respond .ensures .1 .0)))
-
-array-share-prefix-listing : tie.Need-array-share-prefix-listing
-array-share-prefix-listing c = listed (c .before .before .before .before)
-
-slice-aggregate-write-all : tie.Need-slice-aggregate-write-all
-slice-aggregate-write-all c = sym (length-take-le _ _ (listed (c .before .before .before .before .before)))
-
-write-all-requires-2 : tie.Need-write-all-requires-2
-write-all-requires-2 c κs = search needs
 
 same-length : tie.Need-same-length
 same-length c = search needs
@@ -39,11 +33,11 @@ pub show-spec : {M : Type 1} → statement M
 show-spec =
     tie.close
     (tie.spec
+    number-within-requires
+    label-requires
+    slice-aggregate-text
+    text-requires
     slice-aggregate-respond
     respond-requires
-    write-all-requires
-    array-share-prefix-listing
-    slice-aggregate-write-all
-    write-all-requires-2
     same-length
     returns)

@@ -21,7 +21,7 @@ budget-fits-requires : tie.Need-budget-fits-requires
 budget-fits-requires c κs = search needs
 
 -- Question 13 decides, and the code turns on its answer.
-asked : (c : tie.After-budget-fits) → runNumber (now (c .before .before .before .before .before .args .file)) (now (c .before .before .before .before .before .args .table)) (c .before .before .before .before .before .args .budget) ≡ cond (c .budget-fits .result) 0 13
+asked : (c : tie.After-budget-fits) → runNumber (now (c .before .before .before .before .before .before .before .args .file)) (now (c .before .before .before .before .before .before .before .args .table)) (c .before .before .before .before .before .before .before .args .budget) ≡ cond (c .budget-fits .result) 0 13
 asked c = rw (c .budget-fits .ensures) (run-budget _ _ _ (sym (c .before .before .start-refusal .ensures) ∙ c .before .if1 .left))
 
 returns-2 : tie.Need-returns-2

@@ -1,22 +1,42 @@
--- `assignment::run` meets its contract: a start, and then the turns, of what its questions accept.
-use mathlib.Core.Path.{_≡_, refl, sym, _∙_}
+-- `assignment::run` meets its contract: it runs a study that its questions accept, and leaves the table of any other.
+use native.Mathlib.Omega.{arith}
+use mathlib.Core.Path.{_≡_, sym, _∙_}
 use borrow.Author.Needs.{needs}
 use denote.Ref.{now}
 use Rattle.calls.specs.Calls.{runNumber}
 use Rattle.calls.specs.Laws.Calls.{run-kept}
-use Rattle.judging.specs.Laws.Judged.{zeros-lent}
-use Rattle.assignment.specs.Decoded.{decodedOf}
-use Rattle.assignment.specs.Runs.{Begun}
-use Rattle.assignment.specs.Laws.Decoding.{studyIn, study-decoded, total-decoded}
-use Rattle.assignment.specs.Laws.Answers.{run-refusal, run-ready, run-begun}
+use Rattle.network.specs.Laws.Decoding.{links-within, destinations-within, trips-within, links-counted, destinations-counted, trips-counted}
+use Rattle.assignment.specs.Laws.Parts.{parts-decoded, parts-opened}
+use Rattle.assignment.specs.Laws.Answers.{run-refusal, run-opened}
 use Rattle.assignment.proofs.running.run.Statement.{statement}
 use Rattle.assignment.proofs.running.run.Tie as tie
 
 decode-requires : tie.Need-decode-requires
 decode-requires c κs = search needs
 
+array-share-prefix-rows : tie.Need-array-share-prefix-rows
+array-share-prefix-rows c = links-within (c .decode .ensures)
+
+slice-aggregate-links : tie.Need-slice-aggregate-links
+slice-aggregate-links c = links-counted (c .before .decode .ensures)
+
+array-share-prefix-places : tie.Need-array-share-prefix-places
+array-share-prefix-places c = destinations-within (c .before .decode .ensures)
+
+slice-aggregate-destinations : tie.Need-slice-aggregate-destinations
+slice-aggregate-destinations c = destinations-counted (c .before .before .decode .ensures)
+
+mul-entries : tie.Need-mul-entries
+mul-entries c = omega (arith, trips-within (c .before .before .decode .ensures), c .before .before .decode .ensures .entries-long)
+
+array-share-prefix-entries : tie.Need-array-share-prefix-entries
+array-share-prefix-entries c = trips-within (c .before .before .decode .ensures)
+
+slice-aggregate-trips : tie.Need-slice-aggregate-trips
+slice-aggregate-trips c = trips-counted (c .before .before .before .decode .ensures)
+
 run-refusal-requires : tie.Need-run-refusal-requires
-run-refusal-requires c κs = study-decoded _ _ (c .before .before .before .before .before .before .before .before .before .decode .ensures)
+run-refusal-requires c κs = parts-decoded (c .before .before .before .before .decode .ensures)
 
 refused-run-requires : tie.Need-refused-run-requires
 refused-run-requires c κs = search needs
@@ -33,67 +53,41 @@ returns c =
 
 -- What was decoded, and the call's arguments.
 abbrev read : tie.Else1 → tie.After-decode
-read c = c .before .before .before .before .before .before .before .before .before .before .before
+read c = c .before .before .before .before .before .before
 
 abbrev given : tie.Else1 → tie.Start
-given c = read c .before .before .before
-
-decoded : (c : tie.Else1) → studyIn (read c .decode .result) ≡ decodedOf (now (given c .args .file))
-decoded c = study-decoded _ _ (read c .decode .ensures)
+given c = read c .before .before .before .before .before .before
 
 accepted : (c : tie.Else1) → runNumber (now (given c .args .file)) (now (given c .args .table)) (given c .args .budget) ≡ 0
 accepted c = sym (c .before .run-refusal .ensures) ∙ c .if1 .left
 
-fourth-powers-requires : tie.Need-fourth-powers-requires
-fourth-powers-requires c κs = search needs
-
-start-table-requires : tie.Need-start-table-requires
-start-table-requires c κs =
-    let raised = c .before .before .before .before .before .before .before .before .before .before .before .before .before .before in
-    let ready = run-ready _ _ _ (decoded (raised .before)) _ (accepted (raised .before)) in
-    (ready .0, (ready .1, (zeros-lent _ refl refl, raised .fourth-powers .ensures)))
-
--- The turns begin with what the start left.
-abbrev raised : tie.After-start-table → tie.After-fourth-powers
-raised c = c .before .before .before .before .before .before .before .before .before .before .before .before .before .before .before
-
-abbrev yes : tie.After-start-table → tie.Else1
-yes c = raised c .before
-
-begun : (c : tie.After-start-table) → Begun (now (given (yes c) .args .file)) (now (given (yes c) .args .table)) (given (yes c) .args .budget) (studyIn (read (yes c) .decode .result)) (c .start-table .last .1 .1 .1 .1 .1 .1 .1 .1 .1 .1 .0)
-begun c = run-begun _ _ _ (decoded (yes c)) _ _ (accepted (yes c)) (c .start-table .ensures .0)
-
 turns-requires : tie.Need-turns-requires
 turns-requires c κs =
-    let started = c .before .before .before .before .before .before .before .before .before .before .before .before .before .before .before .before in (
-      record {
-        total-is = total-decoded _ _ (read (yes started) .decode .ensures);
-        file = _;
-        before = _;
-        begun = begun started;
-      },
-      (started .start-table .ensures .1, raised started .fourth-powers .ensures),
-    )
+    let else = c .before in
+    (parts-opened (parts-decoded (read else .decode .ensures)) (run-opened _ _ _ (accepted else)), accepted else)
 
 same-length-2 : tie.Need-same-length-2
 same-length-2 c = search needs
 
 returns-2 : tie.Need-returns-2
-returns-2 c =
-    let ran = c .before .before .turns .ensures _ _ (begun (c .before .before .before .before .before .before .before .before .before .before .before .before .before .before .before .before .before .before .before)) in
-    (ran .answers, ran .leaves)
+returns-2 c = search needs
 
 pub run-spec : {M : Type 1} → statement M
 run-spec =
     tie.close
     (tie.spec
     decode-requires
+    array-share-prefix-rows
+    slice-aggregate-links
+    array-share-prefix-places
+    slice-aggregate-destinations
+    mul-entries
+    array-share-prefix-entries
+    slice-aggregate-trips
     run-refusal-requires
     refused-run-requires
     same-length
     returns
-    fourth-powers-requires
-    start-table-requires
     turns-requires
     same-length-2
     returns-2)

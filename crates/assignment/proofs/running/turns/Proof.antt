@@ -1,91 +1,185 @@
 -- `assignment::turns` meets its contract. The invariant: as many tables as `judged` says have been judged and moved, the run goes on with
 -- the table and the share that are there now, and where `known` says so the arrays hold what judging computes of them; the totals are those of
 -- the table. The measure is what is left of the budget.
-use Prim.Native.Nat.{ℕ, _-_}
+use Prim.Native.Nat.{ℕ, _*_, _-_}
+use native.Mathlib.Nat.{mul-le-mul}
 use native.Mathlib.Omega.{arith}
-use mathlib.Core.Path.{_≡_, refl, sym, _∙_}
+use mathlib.Core.Path.{_≡_, refl, sym, _∙_, ap}
 use mathlib.Core.Bool.{true, true≢false}
 use mathlib.Core.List.{List}
 use mathlib.Core.Logic.{⊎-elim}
 use lib.ListN.{length}
 use borrow.Author.Needs.{needs}
 use denote.Ref.{now}
-use Rattle.theory.specs.Flows.{linkTotal}
-use Rattle.travel.specs.Links.{padded}
-use Rattle.judging.specs.declared.Decoded.{Decoded}
 use Rattle.judging.specs.declared.Step.the-variants as step
-use Rattle.judging.specs.Study.{studyOf, JudgeableOf}
-use Rattle.judging.specs.Judged.{KnownOf, Lent}
+use Rattle.theory.specs.Network.{totalTrips}
+use Rattle.theory.specs.Moves.{started}
+use Rattle.calls.specs.Study.{networkOf}
+use Rattle.calls.specs.Calls.{overwritten}
+use Rattle.calls.specs.Laws.Questions.{run-both}
+use Rattle.judging.specs.Study.{Study, studyOf, Judgeable}
+use Rattle.judging.specs.Judged.{Known, Lent, TotalsOf}
+use Rattle.judging.specs.Laws.Study.{links-fit, chainable}
+use Rattle.judging.specs.Laws.Judged.{zeros-lent, totals-set, totals-lent, share-fits, holds, totals-within, cost-is}
 use Rattle.assignment.specs.Runs.{Running, Begun}
-use Rattle.assignment.specs.Laws.Runs.{begun-running, turn-judgeable, turn-moves, turn-left, turn-ends, totals-ask, cost-asks, cost-of}
+use Rattle.assignment.specs.Laws.Parts.{network-is, parts-sized}
+use Rattle.assignment.specs.Laws.Answers.{start-holds}
+use Rattle.assignment.specs.Laws.Runs.{begun-running, run-ready, limit-is, limit-fits, turn-judgeable, turn-runs, still-judgeable, turn-ends}
 use Rattle.assignment.proofs.running.turns.Statement.{statement}
 use Rattle.assignment.proofs.running.turns.Tie as tie
 
 abbrev Inv-loop : tie.InvT-loop
-Inv-loop n m p tails heads free rises capacities nodes trips total table₀ budget excess powers times₀ next₀ volumes₀ loads₀ totals₀ judged₀ share₀ guess₀ known₀ table times next volumes loads totals judged share guess known =
+Inv-loop file nodes links destinations trips table₀ budget excess limit times₀ next₀ volumes₀ flows₀ powers chains judged₀ share₀ guess₀ known₀ table times next volumes flows judged share guess known =
     (length table ≡ length table₀)
-    × ((file before : List ℕ)
-    → Begun file before budget (studyOf n m p tails heads free rises capacities nodes trips) table₀
-    → Running file before budget excess judged table share)
-    × (known ≡ true → KnownOf (studyOf n m p tails heads free rises capacities nodes trips) table share times next volumes loads)
-    × Lent m times next volumes loads
-    × (totals ≡ padded m (linkTotal p m table))
+    × ((before : List ℕ) → Begun file before budget table₀ → Running file before budget excess judged table share)
+    × (known ≡ true → Known (studyOf nodes links destinations trips) share times next volumes flows)
+    × Lent (length links) times next volumes flows
+    × TotalsOf (studyOf nodes links destinations trips) table flows
 
 abbrev μ-loop : tie.MeasureT-loop
-μ-loop n m p tails heads free rises capacities nodes trips total table₀ budget excess powers times₀ next₀ volumes₀ loads₀ totals₀ judged₀ share₀ guess₀ known₀ table times next volumes loads totals judged share guess known =
+μ-loop file nodes links destinations trips table₀ budget excess limit times₀ next₀ volumes₀ flows₀ powers chains judged₀ share₀ guess₀ known₀ table times next volumes flows judged share guess known =
     budget - judged
 
 -- The beginning, from the loop, and the loop, from a turn that is made and from its match.
 abbrev start-of : tie.At-loop Inv-loop μ-loop → tie.Start Inv-loop μ-loop
-start-of c = c .before .before .before .before
+start-of c = c .before .before .before .before .before .before .before .before .before .before .before .before .before .before .before .before .before .before .before .before .before
 
 abbrev loop-of : tie.After-turn-table Inv-loop μ-loop → tie.At-loop Inv-loop μ-loop
-loop-of c = c .before .before .before .before .before .before .before
+loop-of c = c .before .before .before .before .before .before .before .before
+
+-- From the loop back to what was computed before it.
+abbrev first-of : tie.At-loop Inv-loop μ-loop → tie.After-start-table Inv-loop μ-loop
+first-of c = c .before .before .before .before .before .before
+
+abbrev chained-of : tie.At-loop Inv-loop μ-loop → tie.After-link-chains Inv-loop μ-loop
+chained-of c = first-of c .before .before .before .before .before .before .before .before
+
+abbrev counted-of : tie.At-loop Inv-loop μ-loop → tie.After-total-trips Inv-loop μ-loop
+counted-of c = chained-of c .before .before
 
 abbrev turn-of : tie.At-match-keys2 Inv-loop μ-loop → tie.After-turn-table Inv-loop μ-loop
 turn-of c = c .before .before .before
 
-totals-requires : tie.Need-totals-requires Inv-loop μ-loop
-totals-requires c κs =
-    let begun = c .before .before .pre .0 .begun in
-    totals-ask (turn-judgeable _ _ _ 0 _ _ begun _ _ _ (begun-running _ _ _ 0 _ _ begun))
+total-trips-requires : tie.Need-total-trips-requires Inv-loop μ-loop
+total-trips-requires c κs =
+    let few = parts-sized (c .before .before .before .before .pre .0) in
+    omega (arith, few .entries-long, mul-le-mul (few .few-destinations) (few .few-nodes))
+
+mul-limit : tie.Need-mul-limit Inv-loop μ-loop
+mul-limit c =
+    let given = c .before .before .before .before .before in
+    omega (arith, limit-fits (given .pre .0) _ _ (given .args .excess) (given .pre .1) (c .total-trips .ensures) (omega (arith, given .fits .excess)))
+
+fourth-powers-requires : tie.Need-fourth-powers-requires Inv-loop μ-loop
+fourth-powers-requires c κs = search needs
+
+link-chains-requires : tie.Need-link-chains-requires Inv-loop μ-loop
+link-chains-requires c κs =
+    let given = c .before .before .before .before .before .before .pre in
+    chainable (run-ready (given .0) _ _ 0 (given .1))
+
+start-table-requires : tie.Need-start-table-requires Inv-loop μ-loop
+start-table-requires c κs =
+    let chained = c .before .before .before .before .before .before .before in
+    let given = chained .before .before .before .before .before .before .before .pre in (
+      (run-ready (given .0) _ _ 0 (given .1), record { chains-are = chained .link-chains .ensures; powers-are = chained .before .fourth-powers .ensures }),
+      (start-holds _ _ (given .0) (run-both _ _ _ (given .1) .0), (zeros-lent _ refl refl refl refl, refl)),
+    )
+
+-- What the start left.
+abbrev from-start : tie.After-start-table Inv-loop μ-loop → tie.Start Inv-loop μ-loop
+from-start c = c .before .before .before .before .before .before .before .before .before .before .before .before .before .before .before
+
+begun :
+    (c : tie.After-start-table Inv-loop μ-loop) →
+    Begun (now (from-start c .args .file)) (now (from-start c .args .table)) (from-start c .args .budget) (c .start-table .last .1 .1 .1 .1 .1 .1 .0)
+begun c =
+    record {
+      accepted = from-start c .pre .1;
+      started =
+          c .start-table .ensures .0
+          ∙ ap (λ g. overwritten (started g .table) (now (from-start c .args .table))) (network-is (from-start c .pre .0));
+    }
+
+-- The limit is excess × T.
+limit-there :
+    (c : tie.After-total-trips Inv-loop μ-loop) →
+    c .before .before .before .before .before .args .excess * c .total-trips .result
+    ≡ c .before .before .before .before .before .args .excess * totalTrips (networkOf (now (c .before .before .before .before .before .args .file)))
+limit-there c =
+    let given = c .before .before .before .before .before in
+    limit-is (given .pre .0) (now (given .args .table)) (given .args .budget) (given .args .excess) (given .pre .1) (c .total-trips .ensures)
+
+write-totals-requires : tie.Need-write-totals-requires Inv-loop μ-loop
+write-totals-requires c κs =
+    let first = c .before .before .before .before in
+    let given = from-start first in
+    let study = run-ready (given .pre .0) _ _ 0 (given .pre .1) in (
+      study .few-destinations,
+      study .few-links,
+      holds
+          (turn-judgeable (given .pre .0) _ _ (given .args .excess) (given .pre .1) _ 0 _ 1 (limit-there (first .before .before .before .before .before .before .before .before .before .before)) (begun-running _ _ _ _ (begun first))),
+      first .start-table .ensures .1 .1,
+    )
+
+index-1-write-totals : tie.Need-index-1-write-totals Inv-loop μ-loop
+index-1-write-totals c = search needs
 
 loop-holds : tie.Need-loop-holds Inv-loop μ-loop
-loop-holds c = (
-  refl,
-  λ file before begun. begun-running file before _ _ _ _ begun,
-  λ e. absurd (true≢false (sym e)),
-  c .before .before .before .pre .1 .0,
-  c .totals .ensures .0,
-)
+loop-holds c =
+    let first = c .before .before .before .before .before in
+    let lent = first .start-table .ensures .1 .0 in (
+      refl,
+      λ before begun′. begun-running _ before _ _ begun′,
+      λ e. absurd (true≢false (sym e)),
+      totals-lent _ lent refl,
+      totals-set (first .start-table .last .1 .1 .1 .1 .1 .1 .1 .1 .1 .1 .0) _ (lent .flows-long) refl .totals-are ∙ c .write-totals .ensures .0,
+    )
 
--- The study in the arrays.
-abbrev study : tie.Start Inv-loop μ-loop → Decoded
-study c =
-    studyOf (c .args .n) (c .args .m) (c .args .p) (now (c .args .tails)) (now (c .args .heads)) (now (c .args .free)) (now (c .args .rises)) (now (c .args .capacities)) (now (c .args .nodes))
-    (now (c .args .trips))
-
--- The run of the file that the turns are known to have.
+-- The run is under way.
 under-way :
     (c : tie.At-loop Inv-loop μ-loop) →
-    let begins = start-of c .pre .0 in
-    Running (begins .file) (begins .before) (start-of c .args .budget) (start-of c .args .excess) (c .loop .judged) (c .loop .table) (c .loop .share)
-under-way c = c .loop .inv .1 _ _ (start-of c .pre .0 .begun)
+    Running (now (start-of c .args .file)) (now (start-of c .args .table)) (start-of c .args .budget) (start-of c .args .excess) (c .loop .judged)
+    (c .loop .table)
+    (c .loop .share)
+under-way c = c .loop .inv .1 _ (begun (first-of c))
+
+-- The study, and that the table can be judged.
+abbrev study : tie.At-loop Inv-loop μ-loop → Study
+study c =
+    let given = start-of c .args in
+    studyOf (given .nodes) (now (given .links)) (now (given .destinations)) (now (given .trips))
+
+judgeable : (c : tie.At-loop Inv-loop μ-loop) → Judgeable (study c) (c .loop .table) (c .loop .share)
+judgeable c =
+    let given = start-of c in
+    turn-judgeable (given .pre .0) _ _ (given .args .excess) (given .pre .1) _ _ _ _ (limit-there (counted-of c)) (under-way c)
 
 add-judged : tie.Need-add-judged Inv-loop μ-loop
 add-judged c = omega (arith, under-way c .within, start-of c .fits .budget)
 
 turn-table-requires : tie.Need-turn-table-requires Inv-loop μ-loop
 turn-table-requires c κs =
-    let loop = c .before .before .before .before .before .before in
-    let given = start-of loop .pre in
-    let inv = loop .loop .inv in (
-      turn-judgeable _ _ _ _ _ _ (given .0 .begun) _ _ _ (under-way loop),
-      (given .0 .total-is, (inv .2, ((inv .3, given .1 .1), inv .4))),
+    let loop = c .before .before .before .before .before .before .before in
+    let given = start-of loop in
+    let inv = loop .loop .inv in
+    let chained = chained-of loop in (
+      (judgeable loop, record { chains-are = chained .link-chains .ensures; powers-are = chained .before .fourth-powers .ensures }),
+      (
+        inv .3,
+        record {
+          limit-fits = limit-fits (given .pre .0) _ _ _ (given .pre .1) (chained .before .before .total-trips .ensures) (omega (arith, given .fits .excess));
+          totals-are = inv .4;
+          known = inv .2;
+        },
+      ),
     )
 
 enum-told : tie.Need-enum-told Inv-loop μ-loop
 enum-told c = search needs
+
+index-1-cost : tie.Need-index-1-cost Inv-loop μ-loop
+index-1-cost c = search needs
 
 -- A turn that ends the run did not move.
 stays : (c : tie.At-match-keys2 Inv-loop μ-loop) → turn-of c .turn-table .result .step ≡ step.Moved → ⊥
@@ -93,38 +187,48 @@ stays c e =
     ⊎-elim (λ w. omega arith) (⊎-elim (λ w. omega arith) (λ w. omega arith)) (rw e at (c .match .keys2))
 
 -- It left its table, which can still be judged.
-left :
+still :
     (c : tie.At-match-keys2 Inv-loop μ-loop) →
     let loop = loop-of (turn-of c) in
-    JudgeableOf (study (start-of loop)) (turn-of c .turn-table .last .1 .1 .1 .1 .1 .1 .1 .1 .1 .1 .1 .1 .1 .1 .1 .1 .1 .1 .0) (loop .loop .share)
-left c =
-    let loop = loop-of (turn-of c) in
-    let turned = turn-of c .turn-table .ensures .0 in
-    turn-left _ _ _ _ _ _ (start-of loop .pre .0 .begun) _ _ _ (under-way loop) _ _ (turned .step-is) (turned .table-is) (stays c)
+    Judgeable (study loop) (turn-of c .turn-table .last .1 .1 .1 .1 .1 .1 .1 .1 .1 .1 .0) (loop .loop .share)
+still c =
+    let turn = turn-of c in
+    let loop = loop-of turn in
+    let given = start-of loop in
+    still-judgeable (given .pre .0) _ _ (given .args .excess) (given .pre .1) _ _ _ _ (limit-there (counted-of loop)) (under-way loop) refl refl refl
+    (turn .turn-table .ensures .0)
+    (stays c)
 
 cost-requires : tie.Need-cost-requires Inv-loop μ-loop
 cost-requires c κs =
-    let turn = turn-of (c .before) in
-    (cost-asks (left (c .before)) (turn .turn-table .ensures .1 .1 .1), start-of (loop-of turn) .pre .1 .1)
+    let matched = c .before .before in
+    let turn = turn-of matched in
+    let raised = chained-of (loop-of turn) .before in
+    let known = still matched in (
+      (links-fit (known .ready), share-fits known, totals-within known (turn .turn-table .ensures .1 .totals-are)),
+      raised .fourth-powers .ensures,
+    )
 
 ended-requires : tie.Need-ended-requires Inv-loop μ-loop
 ended-requires c κs = search needs
 
 same-length : tie.Need-same-length Inv-loop μ-loop
-same-length c = search needs
+same-length c =
+    let table2 = c .before .before .before .before .before .before in
+    let loop = loop-of (table2 .before) in
+    table2 .table2 .given ∙ loop .loop .inv .0 ∙ loop .before .before .before .before .before .table .given
 
 returns : tie.Need-returns Inv-loop μ-loop
-returns c file before begun =
-    let matched = c .before .before .before in
-    let turn = turn-of matched .turn-table .ensures in
-    let turned = turn .0 in
-    turn-ends file before _ _ _ _ begun _ _ _ (loop-of (turn-of matched) .loop .inv .1 file before begun) _ _ (turned .step-is) (turned .table-is)
+returns c =
+    let matched = c .before .before .before .before in
+    let turn = turn-of matched in
+    let loop = loop-of turn in
+    let given = start-of loop in
+    let left = turn .turn-table .ensures .1 in
+    turn-ends (given .pre .0) _ _ (given .args .excess) (given .pre .1) _ _ _ _ (limit-there (counted-of loop)) (under-way loop) refl refl refl
+    (turn .turn-table .ensures .0)
     (stays matched)
-    _
-    _
-    _
-    (turned .gap-is)
-    (c .before .cost .ensures ∙ cost-of (left matched) (turn .1 .1 .1))
+    (c .before .cost .ensures ∙ cost-is (still matched) (left .totals-are))
     (c .ended .ensures)
 
 wrapping-sub-u32-requires : tie.Need-wrapping-sub-u32-requires Inv-loop μ-loop
@@ -140,15 +244,17 @@ loop-less c = omega (arith, under-way (loop-of (moved c)) .within)
 loop-again : tie.Need-loop-again Inv-loop μ-loop
 loop-again c =
     let turn = moved c .turn-table in
-    let turned = turn .ensures .0 in
-    let loop = loop-of (moved c) .loop in (
-      turn .kept .1 .1 .1 .1 .1 .1 .1 .1 .1 .1 .1 .1 .1 .1 .1 .1 .1 .1 .0 ∙ loop .inv .0,
-      λ file before begun.
-          turn-moves file before _ _ _ _ begun _ _ _ (loop .inv .1 file before begun) _ _ (turned .step-is) (turned .table-is) _ (turned .share-is)
+    let loop = loop-of (moved c) in
+    let given = start-of loop in
+    let left = turn .ensures .1 in (
+      turn .kept .1 .1 .1 .1 .1 .1 .1 .1 .1 .1 .0 ∙ loop .loop .inv .0,
+      λ before begun′.
+          turn-runs (given .pre .0) before _ _ (begun′ .accepted) _ _ _ _ (limit-there (counted-of loop)) (loop .loop .inv .1 before begun′) refl refl refl
+          (turn .ensures .0)
           (c .before .enum-told .given .1),
-      turn .ensures .1 .0,
-      turn .ensures .1 .1 .0,
-      turn .ensures .1 .1 .1,
+      left .known,
+      left .lent,
+      left .totals-are,
     )
 
 pub turns-spec : {M : Type 1} → statement M
@@ -157,11 +263,18 @@ turns-spec =
     (tie.spec
     Inv-loop
     μ-loop
-    totals-requires
+    total-trips-requires
+    mul-limit
+    fourth-powers-requires
+    link-chains-requires
+    start-table-requires
+    index-1-write-totals
+    write-totals-requires
     loop-holds
     add-judged
     turn-table-requires
     enum-told
+    index-1-cost
     cost-requires
     ended-requires
     same-length

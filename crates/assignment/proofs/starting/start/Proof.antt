@@ -1,21 +1,44 @@
 -- `assignment::start` meets its contract: it fills a table that its questions accept, and leaves any other.
+use native.Mathlib.Omega.{arith}
 use mathlib.Core.Path.{_≡_, refl, sym, _∙_}
 use borrow.Author.Needs.{needs}
 use denote.Ref.{now}
 use Rattle.calls.specs.Calls.{startNumber}
 use Rattle.calls.specs.Laws.Calls.{start-kept}
+use Rattle.network.specs.Laws.Decoding.{links-within, destinations-within, trips-within, links-counted, destinations-counted, trips-counted}
 use Rattle.judging.specs.Laws.Judged.{zeros-lent}
-use Rattle.assignment.specs.Decoded.{decodedOf}
-use Rattle.assignment.specs.Laws.Decoding.{studyIn, study-decoded}
-use Rattle.assignment.specs.Laws.Answers.{start-ready, start-leaves}
+use Rattle.judging.specs.Laws.Study.{chainable}
+use Rattle.assignment.specs.Laws.Parts.{parts-decoded}
+use Rattle.assignment.specs.Laws.Answers.{start-ready, start-holds, start-leaves}
 use Rattle.assignment.proofs.starting.start.Statement.{statement}
 use Rattle.assignment.proofs.starting.start.Tie as tie
 
 decode-requires : tie.Need-decode-requires
 decode-requires c κs = search needs
 
+array-share-prefix-rows : tie.Need-array-share-prefix-rows
+array-share-prefix-rows c = links-within (c .decode .ensures)
+
+slice-aggregate-links : tie.Need-slice-aggregate-links
+slice-aggregate-links c = links-counted (c .before .decode .ensures)
+
+array-share-prefix-places : tie.Need-array-share-prefix-places
+array-share-prefix-places c = destinations-within (c .before .decode .ensures)
+
+slice-aggregate-destinations : tie.Need-slice-aggregate-destinations
+slice-aggregate-destinations c = destinations-counted (c .before .before .decode .ensures)
+
+mul-entries : tie.Need-mul-entries
+mul-entries c = omega (arith, trips-within (c .before .before .decode .ensures), c .before .before .decode .ensures .entries-long)
+
+array-share-prefix-entries : tie.Need-array-share-prefix-entries
+array-share-prefix-entries c = trips-within (c .before .before .decode .ensures)
+
+slice-aggregate-trips : tie.Need-slice-aggregate-trips
+slice-aggregate-trips c = trips-counted (c .before .before .before .decode .ensures)
+
 start-refusal-requires : tie.Need-start-refusal-requires
-start-refusal-requires c κs = study-decoded _ _ (c .before .before .before .before .before .before .before .before .before .decode .ensures)
+start-refusal-requires c κs = parts-decoded (c .before .before .before .before .decode .ensures)
 
 same-length : tie.Need-same-length
 same-length c = search needs
@@ -27,13 +50,10 @@ returns c =
 
 -- What was decoded, and the call's arguments.
 abbrev read : tie.Else1 → tie.After-decode
-read c = c .before .before .before .before .before .before .before .before .before .before .before
+read c = c .before .before .before .before .before .before
 
 abbrev given : tie.Else1 → tie.Start
-given c = read c .before .before .before
-
-decoded : (c : tie.Else1) → studyIn (read c .decode .result) ≡ decodedOf (now (given c .args .file))
-decoded c = study-decoded _ _ (read c .decode .ensures)
+given c = read c .before .before .before .before .before .before
 
 accepted : (c : tie.Else1) → startNumber (now (given c .args .file)) (now (given c .args .table)) ≡ 0
 accepted c = sym (c .before .start-refusal .ensures) ∙ c .if1 .left
@@ -41,20 +61,45 @@ accepted c = sym (c .before .start-refusal .ensures) ∙ c .if1 .left
 fourth-powers-requires : tie.Need-fourth-powers-requires
 fourth-powers-requires c κs = search needs
 
+link-chains-requires : tie.Need-link-chains-requires
+link-chains-requires c κs =
+    let else = c .before in
+    chainable (start-ready _ _ (parts-decoded (read else .decode .ensures)) (accepted else))
+
 start-table-requires : tie.Need-start-table-requires
 start-table-requires c κs =
-    let raised = c .before .before .before .before .before .before .before .before .before .before .before .before .before .before in
-    let ready = start-ready _ _ _ (decoded (raised .before)) (accepted (raised .before)) in
-    (ready .0, (ready .1, (zeros-lent _ refl refl, raised .fourth-powers .ensures)))
+    let chained = c .before .before .before .before .before .before .before in
+    let else = chained .before .before in
+    let parts = parts-decoded (read else .decode .ensures) in (
+      (start-ready _ _ parts (accepted else), record { chains-are = chained .link-chains .ensures; powers-are = chained .before .fourth-powers .ensures }),
+      (start-holds _ _ parts (accepted else), (zeros-lent _ refl refl refl refl, refl)),
+    )
 
 same-length-2 : tie.Need-same-length-2
 same-length-2 c = search needs
 
 returns-2 : tie.Need-returns-2
 returns-2 c =
-    let else = c .before .before .before .before .before .before .before .before .before .before .before .before .before .before .before .before .before .before in
-    (sym (accepted else), start-leaves _ _ _ (decoded else) _ (accepted else) (c .before .before .start-table .ensures .0))
+    let else = c .before .before .before .before .before .before .before .before .before .before .before .before in
+    (sym (accepted else), start-leaves _ _ (parts-decoded (read else .decode .ensures)) _ (accepted else) (c .before .before .start-table .ensures .0))
 
 pub start-spec : {M : Type 1} → statement M
 start-spec =
-    tie.close (tie.spec decode-requires start-refusal-requires same-length returns fourth-powers-requires start-table-requires same-length-2 returns-2)
+    tie.close
+    (tie.spec
+    decode-requires
+    array-share-prefix-rows
+    slice-aggregate-links
+    array-share-prefix-places
+    slice-aggregate-destinations
+    mul-entries
+    array-share-prefix-entries
+    slice-aggregate-trips
+    start-refusal-requires
+    same-length
+    returns
+    fourth-powers-requires
+    link-chains-requires
+    start-table-requires
+    same-length-2
+    returns-2)

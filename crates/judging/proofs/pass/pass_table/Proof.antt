@@ -1,77 +1,87 @@
 -- `pass_table` meets its contract: the table is judged by what is computed of it, and moved by the chosen j.
 use mathlib.Core.Path.{refl, _∙_, ap}
+use lib.ListN.{length}
 use borrow.Author.Needs.{needs}
 use Rattle.theory.specs.Laws.Cases.{true-false}
 use Rattle.calls.specs.Calls.{shareAfter, tableAfter}
-use Rattle.judging.specs.Laws.Study.{links-fit}
-use Rattle.judging.specs.Laws.Judged.{zeros-lent, share-fits, holds, totals-within, cost-is, gap-is, gap-fits, move-fits, movable, move-is, moves-is}
+use Rattle.judging.specs.Laws.Study.{links-fit, chainable}
+use Rattle.judging.specs.Laws.Judged.{zeros-lent, share-fits, holds, totals-within, cost-is, totals-are, gap-is, gap-fits, move-fits, movable, move-is, moves-is}
 use Rattle.judging.proofs.pass.pass_table.Statement.{statement}
 use Rattle.judging.proofs.pass.pass_table.Tie as tie
 
--- The places at which fourth powers, totals, what judging computes, the gap, the cost and j are there, each with the one before.
-abbrev of-powers : tie.After-totals → tie.After-fourth-powers
-of-powers c = c .before .before
+-- The places at which chains, fourth powers, totals, what judging computes, the gap, the cost and j are there, each with the one before.
+abbrev of-totals : tie.After-totals → tie.After-fourth-powers
+of-totals c = c .before .before
 
-abbrev of-totals : tie.After-totals → tie.Start
-of-totals c = of-powers c .before .before
+abbrev start : tie.After-totals → tie.Start
+start c = of-totals c .before .before .before .before .before
 
 abbrev of-judge : tie.After-judge → tie.After-totals
 of-judge c = c .before .before .before .before .before .before .before
 
 abbrev of-gap : tie.After-gap-of → tie.After-judge
-of-gap c = c .before .before .before .before
+of-gap c = c .before .before .before
 
 abbrev of-cost : tie.After-cost → tie.After-gap-of
 of-cost c = c .before .before .before
 
 abbrev of-chosen : tie.After-chosen → tie.After-cost
-of-chosen c = c .before .before .before .before
+of-chosen c = c .before .before .before
+
+link-chains-requires : tie.Need-link-chains-requires
+link-chains-requires c κs = chainable (c .before .before .before .pre .ready)
 
 fourth-powers-requires : tie.Need-fourth-powers-requires
 fourth-powers-requires c κs = search needs
 
 totals-requires : tie.Need-totals-requires
-totals-requires c κs = let given = c .before .before .before .pre in
-    (given .0 .0 .few-destinations, given .0 .0 .few-links, holds (given .0 .0) (given .1))
+totals-requires c κs = let given = c .before .before .before .before .before .before .pre in
+    (given .ready .few-destinations, given .ready .few-links, holds given)
+
+array-set-from-flows : tie.Need-array-set-from-flows
+array-set-from-flows c = search needs
 
 judge-requires : tie.Need-judge-requires
 judge-requires c κs = let at = c .before .before .before .before .before .before in
-    let given = of-totals at .pre in (
-      given .0,
+    let given = start at .pre in (
       (
-        (share-fits (given .0 .0) (given .1), totals-within (given .0 .0) (given .1) (at .totals .ensures .0)),
-        (λ e. true-false e refl, (zeros-lent (of-totals at .args .m) refl refl, of-powers at .fourth-powers .ensures)),
+        given .ready,
+        share-fits given,
+        record { chains-are = of-totals at .before .link-chains .ensures; powers-are = of-totals at .fourth-powers .ensures },
+      ),
+      (
+        λ e. true-false e refl,
+        (zeros-lent (length (start at .args .links .now)) refl refl refl refl, totals-within given (at .totals .ensures .0)),
       ),
     )
 
 gap-of-requires : tie.Need-gap-of-requires
-gap-of-requires c κs = let judged = c .before .before .before in
+gap-of-requires c κs = let judged = c .before .before in
     let at = of-judge judged in
-    let given = of-totals at .pre in
-    gap-fits (given .0 .0) (given .1) (at .totals .ensures .0) (judged .judge .ensures)
+    gap-fits (start at .pre) (judged .judge .ensures) (at .totals .ensures .0)
+
+index-1-cost : tie.Need-index-1-cost
+index-1-cost c = search needs
 
 cost-requires : tie.Need-cost-requires
-cost-requires c κs = let at = of-judge (of-gap (c .before .before)) in
-    let given = of-totals at .pre in (
-      (links-fit (given .0 .0), share-fits (given .0 .0) (given .1), totals-within (given .0 .0) (given .1) (at .totals .ensures .0)),
-      of-powers at .fourth-powers .ensures,
-    )
+cost-requires c κs = let judged = of-gap (c .before .before) in
+    let at = of-judge judged in
+    let given = start at .pre in
+    ((links-fit (given .ready), share-fits given, totals-within given (totals-are given (judged .judge .ensures) (at .totals .ensures .0))), of-totals at .fourth-powers .ensures)
 
 chosen-requires : tie.Need-chosen-requires
-chosen-requires c κs = let judged = of-gap (of-cost (c .before .before .before)) in
+chosen-requires c κs = let judged = of-gap (of-cost (c .before .before)) in
     let at = of-judge judged in
-    let given = of-totals at .pre in
-    (move-fits (given .0 .0) (given .1) (at .totals .ensures .0) (judged .judge .ensures), of-powers at .fourth-powers .ensures)
+    (move-fits (start at .pre) (judged .judge .ensures) (at .totals .ensures .0), of-totals at .fourth-powers .ensures)
 
 can-move-requires : tie.Need-can-move-requires
-can-move-requires c κs = of-totals (of-judge (of-gap (of-cost (of-chosen c)))) .pre .1 .share-most
+can-move-requires c κs = start (of-judge (of-gap (of-cost (of-chosen c)))) .pre .share-most
 
 move-table-requires : tie.Need-move-table-requires
 move-table-requires c κs = let chose = c .before .before .before .before in
     let judged = of-gap (of-cost (of-chosen chose)) in
     let at = of-judge judged in
-    let given = of-totals at .pre in
-    movable (given .0 .0) (given .1) (at .totals .ensures .0) (judged .judge .ensures) (chose .chosen .ensures) (given .0 .1)
+    movable (start at .pre) (judged .judge .ensures) (at .totals .ensures .0) (chose .chosen .ensures)
 
 same-length : tie.Need-same-length
 same-length c = search needs
@@ -84,28 +94,30 @@ returns c = let moved = c .before .before in
     let gapped = of-cost priced in
     let judged = of-gap gapped in
     let at = of-judge judged in
-    let start = of-totals at in
-    let ready = start .pre .0 .0 in
-    let judgeable = start .pre .1 in
-    let sums = at .totals .ensures .0 in
+    let begin = start at in
+    let judgeable = begin .pre in
     let known = judged .judge .ensures in
-    let next = move-is ready judgeable sums known (chose .chosen .ensures) in
+    let sums = at .totals .ensures .0 in
+    let next = move-is judgeable known sums (chose .chosen .ensures) in
     record {
-      moved-is = can .can-move .ensures ∙ moves-is ready judgeable sums known (chose .chosen .ensures);
-      share-is = moved .move-table .ensures .0 ∙ ap (shareAfter (start .args .share)) next;
-      gap-is = gapped .gap-of .ensures ∙ gap-is ready judgeable sums known;
-      cost-is = priced .cost .ensures ∙ cost-is ready judgeable sums;
-      table-is = moved .move-table .ensures .1 ∙ ap (tableAfter (start .args .table .now)) next;
+      moved-is = can .can-move .ensures ∙ moves-is judgeable known sums (chose .chosen .ensures);
+      share-is = moved .move-table .ensures .0 ∙ ap (shareAfter (begin .args .share)) next;
+      gap-is = gapped .gap-of .ensures ∙ gap-is judgeable known sums;
+      cost-is = priced .cost .ensures ∙ cost-is judgeable (totals-are judgeable known sums);
+      table-is = moved .move-table .ensures .1 ∙ ap (tableAfter (begin .args .table .now)) next;
     }
 
 pub pass-table-spec : {M : Type 1} → statement M
 pass-table-spec =
     tie.close
     (tie.spec
+    link-chains-requires
     fourth-powers-requires
     totals-requires
+    array-set-from-flows
     judge-requires
     gap-of-requires
+    index-1-cost
     cost-requires
     chosen-requires
     can-move-requires

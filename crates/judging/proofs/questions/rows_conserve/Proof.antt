@@ -6,35 +6,35 @@ use native.Mathlib.Omega.{arith}
 use borrow.Author.Needs.{needs}
 use borrow.Author.Tests.{not-true, not-false}
 use lib.ListN.{length}
-use Rattle.judging.specs.Rows.{rowsConserve}
-use Rattle.judging.specs.Laws.Rows.{rows-none, rows-pass, rows-fail}
+use Rattle.judging.specs.Laws.Rows.{rowsBefore, rows-none, rows-pass, rows-fail, rows-all}
 use Rattle.judging.specs.Laws.Parts.{row-within, row-most, length-part}
 use Rattle.judging.proofs.questions.rows_conserve.Statement.{statement}
 use Rattle.judging.proofs.questions.rows_conserve.Tie as tie
 
 abbrev Inv-loop : tie.InvT-loop
-Inv-loop n m p tails heads nodes trips table share k₀ k = (k ≤ p) × (rowsConserve n m k tails heads nodes trips share table ≡ true)
+Inv-loop nodes links destinations trips table share m k₀ k = (k ≤ length destinations) × (rowsBefore nodes links destinations trips share table k ≡ true)
 
 abbrev μ-loop : tie.MeasureT-loop
-μ-loop n m p tails heads nodes trips table share k₀ k = p - k
+μ-loop nodes links destinations trips table share m k₀ k = length destinations - k
 
 loop-holds : tie.Need-loop-holds Inv-loop μ-loop
-loop-holds c = (search needs, rows-none _ _ _ _ _ _ _ _)
+loop-holds c = (search needs, rows-none _ _ _ _ _ _)
 
 -- The part of the trips and the row of a turn are within the whole, and few.
 within :
     (c : tie.In-loop Inv-loop μ-loop) →
-    let x = c .before .before .before .before .args in
+    let x = c .before .before .before .before .before .args in
     let k = c .before .loop .k in
-    (k * x .n + x .n ≤ length (x .trips .now)) × (k * x .n + x .n ≤ 4096)
-    × (k * x .m + x .m ≤ length (x .table .now)) × (k * x .m + x .m ≤ 16384)
+    let m = length (x .links .now) in
+    (k * x .nodes + x .nodes ≤ length (x .trips .now)) × (k * x .nodes + x .nodes ≤ 4096)
+    × (k * m + m ≤ length (x .table .now)) × (k * m + m ≤ 16384)
 within c =
-    let x = c .before .before .before .before .args in
-    let given = c .before .before .before .before .pre .0 in
+    let x = c .before .before .before .before .before .args in
+    let given = c .before .before .before .before .before .pre .0 in
     let inside = c .loop-test .taken in (
-      omega (arith, row-within (x .n) inside, given .has-trips),
+      omega (arith, row-within (x .nodes) inside, given .has-trips),
       row-most 32 128 inside (given .few-destinations) (given .few-nodes),
-      omega (arith, row-within (x .m) inside, given .holds),
+      omega (arith, row-within (length (x .links .now)) inside, given .holds),
       row-most 32 512 inside (given .few-destinations) (given .few-links),
     )
 
@@ -53,8 +53,8 @@ add-past c = omega (arith, within c)
 mul-index : tie.Need-mul-index Inv-loop μ-loop
 mul-index c = search needs
 
-element-copy-out-index : tie.Need-element-copy-out-index Inv-loop μ-loop
-element-copy-out-index c = search needs
+shared-slice-read-index : tie.Need-shared-slice-read-index Inv-loop μ-loop
+shared-slice-read-index c = search needs
 
 index-requires : tie.Need-index-requires Inv-loop μ-loop
 index-requires c κs = search needs
@@ -85,16 +85,16 @@ part-row-balances-end-2 c = omega (arith, within (c .before .before .before))
 
 row-balances-requires : tie.Need-row-balances-requires Inv-loop μ-loop
 row-balances-requires c κs = let turn = c .before .before .before .before in
-    let x = turn .before .before .before .before .args in
-    let given = turn .before .before .before .before .pre .0 in
+    let x = turn .before .before .before .before .before .args in
+    let given = turn .before .before .before .before .before .pre .0 in
     let k = turn .before .loop .k in (
       record {
         few-nodes = given .few-nodes;
         few-links = given .few-links;
-        tails-fit = given .tail-node;
-        heads-fit = given .head-node;
-        trips-long = omega (arith, length-part (x .trips .now) (k * x .n) (x .n) (within turn .0));
-        row-long = omega (arith, length-part (x .table .now) (k * x .m) (x .m) (within turn .2));
+        tail-node = given .tail-node;
+        head-node = given .head-node;
+        trips-long = length-part (x .trips .now) (k * x .nodes) (x .nodes) (within turn .0);
+        row-long = length-part (x .table .now) (k * length (x .links .now)) (length (x .links .now)) (within turn .2);
       },
       search needs,
     )
@@ -102,7 +102,7 @@ row-balances-requires c κs = let turn = c .before .before .before .before in
 returns : tie.Need-returns Inv-loop μ-loop
 returns c = let turn = c .before .before .before .before .before .before in
     sym
-    (rows-fail _ _ _ _ _ _ _ _ _ (turn .before .loop .k) _ (c .before .before .before .before .index .ensures) (turn .loop-test .taken)
+    (rows-fail _ _ _ _ _ _ (turn .before .loop .k) _ (c .before .before .before .before .index .ensures) (turn .loop-test .taken)
     (sym (c .before .row-balances .ensures) ∙ not-true _ (c .if1 .taken)))
 
 add-k : tie.Need-add-k Inv-loop μ-loop
@@ -114,13 +114,12 @@ loop-less c = search needs
 loop-again : tie.Need-loop-again Inv-loop μ-loop
 loop-again c = let turn = c .before .before .before .before .before .before in (
   search needs,
-  rows-pass _ _ _ _ _ _ _ _ (turn .before .loop .k) _ (c .before .before .before .before .index .ensures) (turn .before .loop .inv .1)
+  rows-pass _ _ _ _ _ _ (turn .before .loop .k) _ (c .before .before .before .before .index .ensures) (turn .before .loop .inv .1)
       (sym (c .before .row-balances .ensures) ∙ not-false _ (c .if1 .left)),
 )
 
 returns-2 : tie.Need-returns-2 Inv-loop μ-loop
-returns-2 c = let all : c .before .loop .k ≡ c .before .before .before .before .args .p = omega arith in
-    sym (rw all at (c .before .loop .inv .1))
+returns-2 c = sym (rows-all _ _ _ _ _ _ (c .before .loop .k) (omega arith) (c .before .loop .inv .1))
 
 pub rows-conserve-spec : {M : Type 1} → statement M
 rows-conserve-spec =
@@ -134,7 +133,7 @@ rows-conserve-spec =
     mul-first
     add-past
     mul-index
-    element-copy-out-index
+    shared-slice-read-index
     index-requires
     mul-row-balances
     sub-row-balances

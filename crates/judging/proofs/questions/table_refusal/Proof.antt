@@ -4,6 +4,7 @@ use mathlib.Core.Path.{_≡_}
 use mathlib.Core.Bool.{true}
 use native.Mathlib.Omega.{arith}
 use borrow.Author.Needs.{needs}
+use lib.ListN.{length}
 use Rattle.study.proofs.Flags.{was-yes, was-no}
 use Rattle.calls.specs.Questions.{shareFits}
 use Rattle.travel.specs.Links.{listFits}
@@ -14,13 +15,17 @@ use Rattle.judging.proofs.questions.table_refusal.Tie as tie
 share-fits-requires : tie.Need-share-fits-requires
 share-fits-requires c κs = search needs
 
+-- The place at which the function begins, from that at which its first question is answered.
+abbrev of-share : tie.After-share-fits → tie.Start
+of-share c = c .before .before .before .before
+
 -- Question 14 is answered yes.
-in-range : (c : tie.Else1) → shareFits (c .before .before .before .args .share) ≡ true
+in-range : (c : tie.Else1) → shareFits (of-share (c .before) .args .share) ≡ true
 in-range c = was-yes (c .before .share-fits .ensures) (c .if1 .left)
 
 -- The places at which the totals are there, and are found to fit, each with the one before.
 abbrev of-totals : tie.After-totals → tie.Start
-of-totals c = c .before .before .before .before
+of-totals c = of-share (c .before .before)
 
 abbrev of-fit : tie.Else2 → tie.After-totals
 of-fit c = c .before .before .before
@@ -28,44 +33,42 @@ of-fit c = c .before .before .before
 -- Question 15 is answered yes.
 fit :
     (c : tie.Else2) →
-    let x = of-totals (of-fit c) .args in listFits (x .m) (of-fit c .totals .result) (x .share * x .total) ≡ true
+    let x = of-totals (of-fit c) .args in
+    listFits (length (x .links .now)) (of-fit c .totals .result) (x .share * x .total) ≡ true
 fit c = was-yes (c .before .totals-fit .ensures) (c .if2 .left)
 
 returns : tie.Need-returns
-returns c d ready same =
-    refused-14 ready same _ (c .before .before .before .args .share) (was-no (c .before .share-fits .ensures) (c .if1 .taken))
+returns c = refused-14 _ _ _ _ _ (of-share (c .before) .args .share) (was-no (c .before .share-fits .ensures) (c .if1 .taken))
 
 totals-requires : tie.Need-totals-requires
 totals-requires c κs = search needs
 
 mul-totals-fit : tie.Need-mul-totals-fit
-mul-totals-fit c = let else1 = c .before .before in
-    let start = else1 .before .before .before in
-    omega (arith, limit-fits (start .args .share) (in-range else1) (start .pre .1))
+mul-totals-fit c = let at = c .before in
+    omega (arith, limit-fits (of-totals at .args .share) (in-range (at .before)) (of-totals at .pre .1 .1))
 
 totals-fit-requires : tie.Need-totals-fit-requires
 totals-fit-requires c κs = search needs
 
 returns-2 : tie.Need-returns-2
-returns-2 c d ready same = let at = c .before .before .before in
-    refused-15 ready same _ (of-totals at .args .share) (in-range (at .before)) (at .totals .ensures .0)
+returns-2 c = let at = c .before .before .before in
+    refused-15 _ _ _ _ _ (of-totals at .args .share) (in-range (at .before)) (of-totals at .pre .1 .0) (at .totals .ensures .0)
     (was-no (c .before .totals-fit .ensures) (c .if2 .taken))
 
 rows-conserve-requires : tie.Need-rows-conserve-requires
-rows-conserve-requires c κs = let at = of-fit (c .before) in
-    let start = of-totals at in
-    (start .pre .0, share-most (start .args .share) (in-range (at .before)))
+rows-conserve-requires c κs = let at = of-fit c in
+    (of-totals at .pre .0, share-most (of-totals at .args .share) (in-range (at .before)))
 
 returns-3 : tie.Need-returns-3
-returns-3 c d ready same = let after = c .before .before .before in
+returns-3 c = let after = c .before .before in
     let at = of-fit after in
-    refused-16 ready same _ (of-totals at .args .share) (in-range (at .before)) (at .totals .ensures .0) (fit after)
+    refused-16 _ _ _ _ _ (of-totals at .args .share) (in-range (at .before)) (of-totals at .pre .1 .0) (at .totals .ensures .0) (fit after)
     (was-no (c .before .rows-conserve .ensures) (c .if3 .taken))
 
 returns-4 : tie.Need-returns-4
-returns-4 c d ready same = let after = c .before .before .before in
+returns-4 c = let after = c .before .before in
     let at = of-fit after in
-    accepted ready same _ (of-totals at .args .share) (in-range (at .before)) (at .totals .ensures .0) (fit after)
+    accepted _ _ _ _ _ (of-totals at .args .share) (in-range (at .before)) (of-totals at .pre .1 .0) (at .totals .ensures .0) (fit after)
     (was-yes (c .before .rows-conserve .ensures) (c .if3 .left))
 
 pub table-refusal-spec : {M : Type 1} → statement M

@@ -1,81 +1,63 @@
--- `network::check` meets its contract: questions 1 to 5 of the file, and then 6 to 11 of its decoded fields.
+-- `network::check` meets its contract: questions 1 to 5 of the file, and then 6 to 11 of its study.
 use borrow.Author.Needs.{needs}
-use denote.Ref.{now}
-use mathlib.Core.Path.{_≡_, sym, _∙_}
-use Rattle.study.specs.Questions.{refusal}
-use Rattle.network.specs.Decoded.{Counts}
-use Rattle.network.specs.Laws.Answers.{links-there, destinations-there, trips-there, counts, decoded, check-refused, check-opened}
+use mathlib.Core.Path.{sym, _∙_}
+use native.Mathlib.Omega.{arith}
+use Rattle.network.specs.Laws.Decoding.{links-within, destinations-within, trips-within, links-counted, destinations-counted, trips-counted, decoded-sized}
+use Rattle.network.specs.Laws.Questions.{check-refused, check-opened}
 use Rattle.network.proofs.checking.check.Statement.{statement}
 use Rattle.network.proofs.checking.check.Tie as tie
 
-refusal-requires : tie.Need-refusal-requires
-refusal-requires c κs = search needs
+decode-requires : tie.Need-decode-requires
+decode-requires c κs = search needs
 
 returns : tie.Need-returns
-returns c = c .before .refusal .ensures ∙ sym (check-refused _ (λ e. c .if1 .taken (c .before .refusal .ensures ∙ e)))
+returns c =
+    let decoded = c .before .decode .ensures in
+    decoded .refusal-is ∙ sym (check-refused _ (λ e. c .if1 .taken (decoded .refusal-is ∙ e)))
 
--- Questions 1 to 5 are passed.
-opened : (c : tie.Else1) → refusal (now (c .before .before .before .args .file)) ≡ 0
-opened c = sym (c .before .refusal .ensures) ∙ c .if1 .left
+array-share-prefix-links : tie.Need-array-share-prefix-links
+array-share-prefix-links c = links-within (c .before .decode .ensures)
 
-node-count-requires : tie.Need-node-count-requires
-node-count-requires c κs = search needs
+slice-aggregate-study-refusal : tie.Need-slice-aggregate-study-refusal
+slice-aggregate-study-refusal c = links-counted (c .before .before .decode .ensures)
 
-link-count-requires : tie.Need-link-count-requires
-link-count-requires c κs = search needs
+array-share-prefix-destinations : tie.Need-array-share-prefix-destinations
+array-share-prefix-destinations c = destinations-within (c .before .before .decode .ensures)
 
-destination-count-requires : tie.Need-destination-count-requires
-destination-count-requires c κs = search needs
+slice-aggregate-study-refusal-2 : tie.Need-slice-aggregate-study-refusal-2
+slice-aggregate-study-refusal-2 c = destinations-counted (c .before .before .before .decode .ensures)
 
--- The counts of the accepted file.
-counted : (c : tie.After-destination-count) → Counts (now (c .before .before .before .before .before .before .args .file)) (c .before .before .node-count .result) (c .before .link-count .result) (c .destination-count .result)
-counted c =
-    counts _ (opened (c .before .before .before)) (c .before .before .node-count .ensures) (c .before .link-count .ensures) (c .destination-count .ensures)
+mul-trips : tie.Need-mul-trips
+mul-trips c = omega (arith, trips-within (c .before .before .before .decode .ensures), c .before .before .before .decode .ensures .entries-long)
 
-links-requires : tie.Need-links-requires
-links-requires c κs = search needs
+array-share-prefix-trips : tie.Need-array-share-prefix-trips
+array-share-prefix-trips c = trips-within (c .before .before .before .decode .ensures)
 
-decode-links-requires : tie.Need-decode-links-requires
-decode-links-requires c κs = links-there (counted (c .before)) (c .links .ensures)
-
-destinations-requires : tie.Need-destinations-requires
-destinations-requires c κs = search needs
-
-decode-destinations-requires : tie.Need-decode-destinations-requires
-decode-destinations-requires c κs = destinations-there (counted (c .before .before .before)) (c .destinations .ensures)
-
-trips-requires : tie.Need-trips-requires
-trips-requires c κs = search needs
-
-decode-trips-requires : tie.Need-decode-trips-requires
-decode-trips-requires c κs = trips-there (counted (c .before .before .before .before .before)) (c .trips .ensures)
+slice-aggregate-study-refusal-3 : tie.Need-slice-aggregate-study-refusal-3
+slice-aggregate-study-refusal-3 c = trips-counted (c .before .before .before .before .decode .ensures)
 
 study-refusal-requires : tie.Need-study-refusal-requires
-study-refusal-requires c κs =
-    let known = counted (c .before .before .before .before .before .before .before .before .before .before .before .before .before .before) in
-    (known .nodes-most, known .links-most, known .destinations-most)
+study-refusal-requires c κs = decoded-sized (c .before .before .before .before .decode .ensures)
 
 returns-2 : tie.Need-returns-2
 returns-2 c =
-    let d = c .before .before .before .before .before .before .before .before .before in
-    c .study-refusal .ensures _
-    (decoded _ _ _ _ _ _ _ (counted (d .before .before .before .before .before .before)) (d .before .before .before .before .before .links .ensures) (d .before .before .before .destinations .ensures) (d .before .trips .ensures) (d .before .before .before .before .decode-links .ensures) (d .before .before .decode-destinations .ensures) (d .decode-trips .ensures))
-    ∙ sym (check-opened _ (opened (d .before .before .before .before .before .before .before .before .before)))
+    let decoded = c .before .before .before .before .before .decode .ensures in
+    let opened = sym (decoded .refusal-is) ∙ c .before .before .before .before .if1 .left in
+    let number = rw (decoded .entries-held, decoded .nodes-held, decoded .links-held, decoded .nodes-are) at (c .study-refusal .ensures) in
+    number ∙ sym (check-opened _ opened)
 
 pub check-spec : {M : Type 1} → statement M
 check-spec =
     tie.close
     (tie.spec
-    refusal-requires
+    decode-requires
     returns
-    node-count-requires
-    link-count-requires
-    destination-count-requires
-    links-requires
-    decode-links-requires
-    destinations-requires
-    decode-destinations-requires
-    trips-requires
-    decode-trips-requires
+    array-share-prefix-links
+    slice-aggregate-study-refusal
+    array-share-prefix-destinations
+    slice-aggregate-study-refusal-2
+    mul-trips
+    array-share-prefix-trips
+    slice-aggregate-study-refusal-3
     study-refusal-requires
     returns-2)

@@ -2,42 +2,42 @@
 use borrow.Author.Needs.{needs}
 use denote.Ref.{now}
 use mathlib.Core.List.{_++_, append-nil}
-use mathlib.Core.Path.{_≡_, ap, sym, _∙_}
+use mathlib.Core.Path.{_≡_}
 use native.Mathlib.Omega.{arith}
 use Prim.Native.Nat.{_≤_, _+_, _*_, _-_}
 use Rattle.study.specs.Fields.{trips as tripsOf}
 use Rattle.theory.specs.Finite.{tabulate}
-use Rattle.network.specs.Decoded.{padded, entriesIn, HasRow}
-use Rattle.network.specs.Laws.Decoding.{padded-after, entries-length, entries-next}
+use Rattle.network.specs.Decoded.{Holds, entriesIn, HasRow}
+use Rattle.network.specs.Laws.Decoding.{holds-after, entries-length, entries-next}
 use Rattle.network.proofs.decoding.decode_row.Statement.{statement}
 use Rattle.network.proofs.decoding.decode_row.Tie as tie
 
 abbrev Inv-loop : tie.InvT-loop
-Inv-loop trips n k entries₀ j₀ entries j =
-    (j ≤ n) × (entries ≡ padded 4096 (entriesIn trips n k ++ tabulate j (tripsOf trips n k)))
+Inv-loop bytes n k trips₀ j₀ trips j =
+    (j ≤ n) × Holds 4096 (entriesIn bytes n k ++ tabulate j (tripsOf bytes n k)) trips
 
 abbrev μ-loop : tie.MeasureT-loop
-μ-loop trips n k entries₀ j₀ entries j = n - j
+μ-loop bytes n k trips₀ j₀ trips j = n - j
 
 loop-holds : tie.Need-loop-holds Inv-loop μ-loop
 unfolding tabulate
-loop-holds c = (search needs, c .before .pre .2 ∙ ap (padded 4096) (sym (append-nil _)))
+loop-holds c = (search needs, rw append-nil (c .before .pre .2))
 
 trips-from-requires : tie.Need-trips-from-requires Inv-loop μ-loop
 unfolding HasRow
 trips-from-requires c κs = c .before .before .before .pre .1 (c .before .loop .j) (search needs)
 
-mul-entries : tie.Need-mul-entries Inv-loop μ-loop
-mul-entries c = search needs
+mul-trips : tie.Need-mul-trips Inv-loop μ-loop
+mul-trips c = search needs
 
-add-entries : tie.Need-add-entries Inv-loop μ-loop
-add-entries c = search needs
+add-trips : tie.Need-add-trips Inv-loop μ-loop
+add-trips c = search needs
 
-mul-entries-2 : tie.Need-mul-entries-2 Inv-loop μ-loop
-mul-entries-2 c = search needs
+mul-trips-2 : tie.Need-mul-trips-2 Inv-loop μ-loop
+mul-trips-2 c = search needs
 
-element-write-entries : tie.Need-element-write-entries Inv-loop μ-loop
-element-write-entries c = search needs
+element-write-trips : tie.Need-element-write-trips Inv-loop μ-loop
+element-write-trips c = search needs
 
 add-j : tie.Need-add-j Inv-loop μ-loop
 add-j c = search needs
@@ -48,24 +48,22 @@ loop-less c = search needs
 loop-again : tie.Need-loop-again Inv-loop μ-loop
 loop-again c =
     let start = c .before .before .before .before in
-    let bytes = now (start .args .trips) in
+    let bytes = now (start .args .bytes) in
     let n = start .args .n in
     let k = start .args .k in
     let j = c .before .before .loop .j in (
       search needs,
-      padded-after 4096 (entriesIn bytes n k) (tripsOf bytes n k) j (k * n + j) (omega (arith, entries-length bytes n k)) (search needs) (c .before .before .loop .inv .1) (c .trips-from .ensures),
+      holds-after 4096 (entriesIn bytes n k) (tripsOf bytes n k) j (k * n + j) (omega (arith, entries-length bytes n k)) (search needs) (c .before .before .loop .inv .1) (c .trips-from .ensures),
     )
 
 returns : tie.Need-returns Inv-loop μ-loop
 returns c =
     let start = c .before .before .before in
-    let bytes = now (start .args .trips) in
+    let bytes = now (start .args .bytes) in
     let n = start .args .n in
     let k = start .args .k in
     let last : c .before .loop .j ≡ n = omega arith in
-    c .before .loop .inv .1
-    ∙ ap (λ j. padded 4096 (entriesIn bytes n k ++ tabulate j (tripsOf bytes n k))) last
-    ∙ ap (padded 4096) (entries-next bytes n k)
+    rw (last, entries-next bytes n k) at (c .before .loop .inv .1)
 
 pub decode-row-spec : {M : Type 1} → statement M
 decode-row-spec =
@@ -75,10 +73,10 @@ decode-row-spec =
     μ-loop
     loop-holds
     trips-from-requires
-    mul-entries
-    add-entries
-    mul-entries-2
-    element-write-entries
+    mul-trips
+    add-trips
+    mul-trips-2
+    element-write-trips
     add-j
     loop-less
     loop-again

@@ -1,25 +1,24 @@
 -- `network::decode_trips` meets its contract.
 use borrow.Author.Needs.{needs}
-use denote.Ref.{now}
-use mathlib.Core.Path.{_≡_, ap, _∙_}
+use mathlib.Core.Path.{_≡_}
 use native.Mathlib.Nat.{mul-le-mul-right}
 use native.Mathlib.Omega.{arith}
 use Prim.Native.Nat.{_≤_, _+_, _-_}
 use Rattle.theory.specs.Finite.{rows}
-use Rattle.network.specs.Decoded.{padded, entriesIn, HasRows}
-use Rattle.network.specs.Laws.Decoding.{padded-none}
+use Rattle.network.specs.Decoded.{Holds, entriesIn, HasRows}
+use Rattle.network.specs.Laws.Decoding.{holds-none}
 use Rattle.network.proofs.decoding.decode_trips.Statement.{statement}
 use Rattle.network.proofs.decoding.decode_trips.Tie as tie
 
 abbrev Inv-loop : tie.InvT-loop
-Inv-loop trips p n entries₀ k₀ entries k = (k ≤ p) × (entries ≡ padded 4096 (entriesIn trips n k))
+Inv-loop bytes n p trips₀ k₀ trips k = (k ≤ p) × Holds 4096 (entriesIn bytes n k) trips
 
 abbrev μ-loop : tie.MeasureT-loop
-μ-loop trips p n entries₀ k₀ entries k = p - k
+μ-loop bytes n p trips₀ k₀ trips k = p - k
 
 loop-holds : tie.Need-loop-holds Inv-loop μ-loop
 unfolding entriesIn rows
-loop-holds c = (search needs, padded-none 4096)
+loop-holds c = (search needs, holds-none 4096 (c .before .pre .2))
 
 decode-row-requires : tie.Need-decode-row-requires Inv-loop μ-loop
 unfolding HasRows
@@ -42,7 +41,7 @@ returns : tie.Need-returns Inv-loop μ-loop
 returns c =
     let start = c .before .before .before in
     let last : c .before .loop .k ≡ start .args .p = omega arith in
-    c .before .loop .inv .1 ∙ ap (λ k. padded 4096 (entriesIn (now (start .args .trips)) (start .args .n) k)) last
+    rw last at (c .before .loop .inv .1)
 
 pub decode-trips-spec : {M : Type 1} → statement M
 decode-trips-spec =

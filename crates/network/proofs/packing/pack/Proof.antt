@@ -6,10 +6,9 @@ use mathlib.Core.Path.{_≡_, sym, _∙_}
 use native.Mathlib.Omega.{arith}
 use Prim.Native.Nat.{_≤_}
 use Rattle.calls.specs.Calls.{checkNumber}
-use Rattle.calls.specs.Laws.Questions.{check-passed}
 use Rattle.calls.specs.Questions.{packedSize}
 use Rattle.network.specs.Decoded.{Counts}
-use Rattle.network.specs.Laws.Answers.{counts}
+use Rattle.network.specs.Laws.Decoding.{counts}
 use Rattle.network.specs.Laws.Packing.{size-is, pack-refused, pack-short, pack-written}
 use Rattle.network.proofs.packing.pack.Statement.{statement}
 use Rattle.network.proofs.packing.pack.Tie as tie
@@ -35,8 +34,7 @@ destination-count-requires c κs = search needs
 
 counted : (c : tie.After-destination-count) → Counts (now (c .before .before .before .before .before .before .before .args .file)) (c .before .before .node-count .result) (c .before .link-count .result) (c .destination-count .result)
 counted c =
-    let else1 = c .before .before .before in
-    counts _ (check-passed _ (passed else1) .described .opened) (c .before .before .node-count .ensures) (c .before .link-count .ensures) (c .destination-count .ensures)
+    counts _ (c .before .before .node-count .ensures) (c .before .link-count .ensures) (c .destination-count .ensures)
 
 packed-size-requires : tie.Need-packed-size-requires
 packed-size-requires c κs = (counted c .nodes-most, counted c .links-most, counted c .destinations-most)

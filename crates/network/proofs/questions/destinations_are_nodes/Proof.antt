@@ -4,30 +4,32 @@ use denote.Ref.{now}
 use mathlib.Core.Bool.{true}
 use mathlib.Core.Path.{_≡_, refl}
 use native.Mathlib.Omega.{arith}
-use lib.ListN.{getD}
+use lib.Dec.{ltb}
+use lib.ListN.{length, getD}
 use Prim.Native.Nat.{_≤_, _<_, _-_}
 use borrow.Author.Tests.{lt-ltb, le-ltb}
 use Rattle.theory.specs.Finite.{all}
-use Rattle.network.specs.Networks.{allNodes}
+use Rattle.network.specs.Destinations.{allNodes}
 use Rattle.network.specs.Laws.Questions.{all-more, all-failed, all-held}
 use Rattle.network.proofs.questions.destinations_are_nodes.Statement.{statement}
 use Rattle.network.proofs.questions.destinations_are_nodes.Tie as tie
 
 abbrev Inv-loop : tie.InvT-loop
-Inv-loop n p destinations k₀ k = (k ≤ p) × (allNodes n k destinations ≡ true)
+Inv-loop nodes destinations k₀ k =
+    (k ≤ length destinations) × (all k (λ i. ltb (getD destinations i 0) nodes) ≡ true)
 
 abbrev μ-loop : tie.MeasureT-loop
-μ-loop n p destinations k₀ k = p - k
+μ-loop nodes destinations k₀ k = length destinations - k
 
 loop-holds : tie.Need-loop-holds Inv-loop μ-loop
-unfolding allNodes all
+unfolding all
 loop-holds c = (search needs, refl)
 
 mul-node : tie.Need-mul-node Inv-loop μ-loop
 mul-node c = search needs
 
-element-copy-out-node : tie.Need-element-copy-out-node Inv-loop μ-loop
-element-copy-out-node c = search needs
+shared-slice-read-node : tie.Need-shared-slice-read-node Inv-loop μ-loop
+shared-slice-read-node c = search needs
 
 node-requires : tie.Need-node-requires Inv-loop μ-loop
 node-requires c κs = search needs
@@ -35,9 +37,9 @@ node-requires c κs = search needs
 returns : tie.Need-returns Inv-loop μ-loop
 unfolding allNodes
 returns c =
-    let start = c .before .before .before .before .before in
+    let start = c .before .before .before .before .before .before in
     let k = c .before .before .before .before .loop .k in
-    let beyond : start .args .n ≤ getD (now (start .args .destinations)) k 0 = omega arith in
+    let beyond : start .args .nodes ≤ getD (now (start .args .destinations)) k 0 = omega arith in
     all-failed _ _ k (search needs) (le-ltb _ _ beyond)
 
 add-k : tie.Need-add-k Inv-loop μ-loop
@@ -49,9 +51,9 @@ loop-less c = search needs
 loop-again : tie.Need-loop-again Inv-loop μ-loop
 unfolding allNodes
 loop-again c =
-    let start = c .before .before .before .before .before in
+    let start = c .before .before .before .before .before .before in
     let k = c .before .before .before .before .loop .k in
-    let below : getD (now (start .args .destinations)) k 0 < start .args .n = omega arith in
+    let below : getD (now (start .args .destinations)) k 0 < start .args .nodes = omega arith in
     (search needs, all-more k _ (c .before .before .before .before .loop .inv .1) (lt-ltb _ _ below))
 
 returns-2 : tie.Need-returns-2 Inv-loop μ-loop
@@ -66,7 +68,7 @@ destinations-are-nodes-spec =
     μ-loop
     loop-holds
     mul-node
-    element-copy-out-node
+    shared-slice-read-node
     node-requires
     returns
     add-k

@@ -4,20 +4,20 @@ use mathlib.Core.Bool.{true}
 use mathlib.Core.Path.{_≡_, refl}
 use native.Mathlib.Omega.{arith}
 use lib.Dec.{ltb}
-use lib.ListN.{getD}
+use lib.ListN.{length, getD}
 use Prim.Native.Nat.{_+_, _≤_, _-_}
 use borrow.Author.Tests.{lt-ltb, le-ltb}
 use Rattle.theory.specs.Finite.{all}
-use Rattle.network.specs.Networks.{allAscending}
+use Rattle.network.specs.Destinations.{allAscending}
 use Rattle.network.specs.Laws.Questions.{all-more, all-failed, all-held}
 use Rattle.network.proofs.questions.destinations_ascend.Statement.{statement}
 use Rattle.network.proofs.questions.destinations_ascend.Tie as tie
 
 abbrev Inv-loop : tie.InvT-loop
-Inv-loop p destinations k₀ k = (k ≤ p - 1) × (all k (λ i. ltb (getD destinations i 0) (getD destinations (i + 1) 0)) ≡ true)
+Inv-loop destinations k₀ k = (k ≤ length destinations - 1) × (all k (λ i. ltb (getD destinations i 0) (getD destinations (i + 1) 0)) ≡ true)
 
 abbrev μ-loop : tie.MeasureT-loop
-μ-loop p destinations k₀ k = p - k
+μ-loop destinations k₀ k = length destinations - k
 
 loop-holds : tie.Need-loop-holds Inv-loop μ-loop
 unfolding all
@@ -32,14 +32,14 @@ add-if1 c = search needs
 mul-if1 : tie.Need-mul-if1 Inv-loop μ-loop
 mul-if1 c = search needs
 
-element-copy-out-if1 : tie.Need-element-copy-out-if1 Inv-loop μ-loop
-element-copy-out-if1 c = search needs
+shared-slice-read-if1 : tie.Need-shared-slice-read-if1 Inv-loop μ-loop
+shared-slice-read-if1 c = search needs
 
 mul-if1-2 : tie.Need-mul-if1-2 Inv-loop μ-loop
 mul-if1-2 c = search needs
 
-element-copy-out-if1-2 : tie.Need-element-copy-out-if1-2 Inv-loop μ-loop
-element-copy-out-if1-2 c = search needs
+shared-slice-read-if1-2 : tie.Need-shared-slice-read-if1-2 Inv-loop μ-loop
+shared-slice-read-if1-2 c = search needs
 
 returns : tie.Need-returns Inv-loop μ-loop
 unfolding allAscending
@@ -70,9 +70,9 @@ destinations-ascend-spec =
     add-loop
     add-if1
     mul-if1
-    element-copy-out-if1
+    shared-slice-read-if1
     mul-if1-2
-    element-copy-out-if1-2
+    shared-slice-read-if1-2
     returns
     add-k
     loop-less

@@ -12,7 +12,7 @@ destinations-are-nodes-requires c κs = search needs
 returns : tie.Need-returns
 returns c =
     and-no _ _ (was-no (c .before .destinations-are-nodes .ensures) (c .if1 .taken)) (sym (was-no (c .before .destinations-are-nodes .ensures) (c .if1 .taken)))
-    ∙ sym (destinations-halves _ _ _ _)
+    ∙ sym (destinations-halves _ _)
 
 destinations-ascend-requires : tie.Need-destinations-ascend-requires
 destinations-ascend-requires c κs = search needs
@@ -20,7 +20,7 @@ destinations-ascend-requires c κs = search needs
 returns-2 : tie.Need-returns-2
 returns-2 c =
     and-yes _ _ (was-yes (c .before .before .destinations-are-nodes .ensures) (c .before .if1 .left)) (c .destinations-ascend .ensures)
-    ∙ sym (destinations-halves _ _ _ _)
+    ∙ sym (destinations-halves _ _)
 
 pub destinations-fit-spec : {M : Type 1} → statement M
 destinations-fit-spec =

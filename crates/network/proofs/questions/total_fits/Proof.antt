@@ -1,6 +1,5 @@
 -- `network::questions::total_fits` meets its contract.
 use borrow.Author.Needs.{needs}
-use Rattle.calls.specs.Questions.{totalFits}
 use Rattle.network.proofs.questions.total_fits.Statement.{statement}
 use Rattle.network.proofs.questions.total_fits.Tie as tie
 
@@ -8,7 +7,6 @@ total-trips-requires : tie.Need-total-trips-requires
 total-trips-requires c κs = search needs
 
 returns : tie.Need-returns
-unfolding totalFits
 returns c = rw (c .total-trips .ensures)
 
 pub total-fits-spec : {M : Type 1} → statement M

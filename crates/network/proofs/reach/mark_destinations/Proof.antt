@@ -1,6 +1,6 @@
 -- `network::reach::mark_destinations` meets its contract: the destinations before k have marked their own nodes.
 use denote.Ref.{now}
-use mathlib.Core.List.{[]}
+use lib.ListN.{length}
 use mathlib.Core.Path.{_≡_}
 use Prim.Native.Nat.{_≤_, _-_}
 use native.Mathlib.Omega.{arith}
@@ -12,10 +12,10 @@ use Rattle.network.proofs.reach.mark_destinations.Statement.{statement}
 use Rattle.network.proofs.reach.mark_destinations.Tie as tie
 
 abbrev Inv-loop : tie.InvT-loop
-Inv-loop n p destinations marks₀ k₀ marks k = (k ≤ p) × Started destinations k marks
+Inv-loop nodes destinations marks₀ k₀ marks k = (k ≤ length destinations) × Started destinations k marks
 
 abbrev μ-loop : tie.MeasureT-loop
-μ-loop n p destinations marks₀ k₀ marks k = p - k
+μ-loop nodes destinations marks₀ k₀ marks k = length destinations - k
 
 loop-holds : tie.Need-loop-holds Inv-loop μ-loop
 loop-holds c = search needs
@@ -23,17 +23,17 @@ loop-holds c = search needs
 mul-node : tie.Need-mul-node Inv-loop μ-loop
 mul-node c = search needs
 
-element-copy-out-node : tie.Need-element-copy-out-node Inv-loop μ-loop
-element-copy-out-node c = search needs
+shared-slice-read-node : tie.Need-shared-slice-read-node Inv-loop μ-loop
+shared-slice-read-node c = search needs
 
 node-requires : tie.Need-node-requires Inv-loop μ-loop
 node-requires c κs = search needs
 
 mark-requires : tie.Need-mark-requires Inv-loop μ-loop
 mark-requires c κs =
-    let start = c .before .before .before .before .before in
+    let start = c .before .before .before .before .before .before in
     let k = c .before .before .before .before .loop .k in
-    let below = destination-below _ _ (now (start .args .destinations)) [] (start .pre .0 .2) k (search needs) in
+    let below = destination-below _ (now (start .args .destinations)) (start .pre .1 .0) k (search needs) in
     (omega arith, omega (arith, c .before .node .ensures), c .before .before .before .before .loop .inv .1 .whole)
 
 add-k : tie.Need-add-k Inv-loop μ-loop
@@ -49,7 +49,7 @@ loop-again c =
 
 returns : tie.Need-returns Inv-loop μ-loop
 returns c =
-    let last : c .before .loop .k ≡ c .before .before .args .p = omega arith in
+    let last : c .before .loop .k ≡ length (now (c .before .before .before .args .destinations)) = omega arith in
     rw last at (c .before .loop .inv .1)
 
 pub mark-destinations-spec : {M : Type 1} → statement M
@@ -60,7 +60,7 @@ mark-destinations-spec =
     μ-loop
     loop-holds
     mul-node
-    element-copy-out-node
+    shared-slice-read-node
     node-requires
     mark-requires
     add-k

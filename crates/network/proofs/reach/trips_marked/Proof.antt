@@ -1,7 +1,9 @@
 -- `network::reach::trips_marked` meets its contract: the count is 0 where the nodes before j are marked or have no trips.
 use native.Mathlib.Omega.{arith}
 use mathlib.Core.Path.{_≡_, refl}
+use denote.Ref.{now}
 use lib.Dec.{eqb}
+use lib.ListN.{length}
 use Prim.Native.Nat.{_≤_, _-_}
 use Rattle.theory.specs.Finite.{all}
 use Rattle.network.specs.Reach.{allMarked, markedTest}
@@ -11,10 +13,11 @@ use Rattle.network.proofs.reach.trips_marked.Statement.{statement}
 use Rattle.network.proofs.reach.trips_marked.Tie as tie
 
 abbrev Inv-loop : tie.InvT-loop
-Inv-loop n k trips marks count₀ j₀ count j = (j ≤ n) × (count ≤ j) × (eqb count 0 ≡ all j (markedTest n k trips marks))
+Inv-loop k trips marks count₀ j₀ count j =
+    (j ≤ length trips) × (count ≤ j) × (eqb count 0 ≡ all j (markedTest k trips marks))
 
 abbrev μ-loop : tie.MeasureT-loop
-μ-loop n k trips marks count₀ j₀ count j = n - j
+μ-loop k trips marks count₀ j₀ count j = length trips - j
 
 loop-holds : tie.Need-loop-holds Inv-loop μ-loop
 unfolding all
@@ -23,20 +26,14 @@ loop-holds c = (search needs, search needs, refl)
 mul-stranded : tie.Need-mul-stranded Inv-loop μ-loop
 mul-stranded c = search needs
 
-add-stranded : tie.Need-add-stranded Inv-loop μ-loop
-add-stranded c = search needs
+shared-slice-read-stranded : tie.Need-shared-slice-read-stranded Inv-loop μ-loop
+shared-slice-read-stranded c = search needs
 
 mul-stranded-2 : tie.Need-mul-stranded-2 Inv-loop μ-loop
 mul-stranded-2 c = search needs
 
 element-copy-out-stranded : tie.Need-element-copy-out-stranded Inv-loop μ-loop
 element-copy-out-stranded c = search needs
-
-mul-stranded-3 : tie.Need-mul-stranded-3 Inv-loop μ-loop
-mul-stranded-3 c = search needs
-
-element-copy-out-stranded-2 : tie.Need-element-copy-out-stranded-2 Inv-loop μ-loop
-element-copy-out-stranded-2 c = search needs
 
 stranded-requires : tie.Need-stranded-requires Inv-loop μ-loop
 stranded-requires c κs = search needs
@@ -53,12 +50,12 @@ loop-less c = search needs
 loop-again : tie.Need-loop-again Inv-loop μ-loop
 loop-again c =
     let inv = c .before .before .before .before .loop .inv in
-    (search needs, omega (arith, c .stranded .ensures .most), stranded-next _ _ _ _ _ _ _ (inv .2) (c .stranded .ensures))
+    (search needs, omega (arith, c .stranded .ensures .most), stranded-next _ _ _ _ _ _ (inv .2) (c .stranded .ensures))
 
 returns : tie.Need-returns Inv-loop μ-loop
 unfolding allMarked
 returns c =
-    let last : c .before .loop .j ≡ c .before .before .args .n = omega arith in
+    let last : c .before .loop .j ≡ length (now (c .before .before .before .args .trips)) = omega arith in
     rw last at (c .before .loop .inv .2)
 
 pub trips-marked-spec : {M : Type 1} → statement M
@@ -69,11 +66,9 @@ trips-marked-spec =
     μ-loop
     loop-holds
     mul-stranded
-    add-stranded
+    shared-slice-read-stranded
     mul-stranded-2
     element-copy-out-stranded
-    mul-stranded-3
-    element-copy-out-stranded-2
     stranded-requires
     add-count
     add-j

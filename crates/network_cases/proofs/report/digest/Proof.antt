@@ -1,15 +1,16 @@
 -- `network_cases::report::digest` meets its contract: the sum stays below its modulus.
-use borrow.Author.Needs.{needs}
+use Prim.Native.Nat.{_<_, _≤_, _-_}
 use lib.ListN.{length}
-use Prim.Native.Nat.{_<_, _-_}
+use mathlib.Core.Path.{_≡_}
+use borrow.Author.Needs.{needs}
 use Rattle.network_cases.proofs.report.digest.Statement.{statement}
 use Rattle.network_cases.proofs.report.digest.Tie as tie
 
 abbrev Inv-loop : tie.InvT-loop
-Inv-loop bytes sum₀ i₀ sum i = sum < 1000003
+Inv-loop bytes sum₀ i₀ i-end sum i = (i-end ≡ length bytes) × (i ≤ length bytes) × (sum < 1000003)
 
 abbrev μ-loop : tie.MeasureT-loop
-μ-loop bytes sum₀ i₀ sum i = length bytes - i
+μ-loop bytes sum₀ i₀ i-end sum i = length bytes - i
 
 loop-holds : tie.Need-loop-holds Inv-loop μ-loop
 loop-holds c = search needs

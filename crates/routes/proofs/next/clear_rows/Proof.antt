@@ -1,24 +1,25 @@
--- `next::clear_rows` meets its contract. The loop's invariant: the rows below `k` have no link. The measure is what is left of the rows.
+-- `next::clear_rows` meets its contract. The loop's invariant: the rows from `first` on and below `k` have no link, and the others are as they
+-- were. The measure is what is left of the rows.
 use Prim.Native.Nat.{_-_, _≤_}
-use mathlib.Core.Path.{_≡_}
+use mathlib.Core.Path.{_≡_, refl}
 use native.Mathlib.Omega.{arith}
 use borrow.Author.Needs.{needs}
-use Rattle.routes.specs.Table.{noLinks, RowsEmpty}
-use Rattle.routes.specs.Laws.Table.{empty-none, empty-more}
+use Rattle.routes.specs.Table.{noLinks, RowsCleared}
+use Rattle.routes.specs.Laws.Table.{rows-none, rows-more}
 use Rattle.routes.proofs.next.clear_rows.Statement.{statement}
 use Rattle.routes.proofs.next.clear_rows.Tie as tie
 
 abbrev Inv-loop : tie.InvT-loop
-Inv-loop table₀ p k₀ table k = (k ≤ p) × RowsEmpty k table
+Inv-loop table₀ first past k₀ table k = (first ≤ k) × (k ≤ past) × RowsCleared table₀ first k table
 
 abbrev μ-loop : tie.MeasureT-loop
-μ-loop table₀ p k₀ table k = p - k
+μ-loop table₀ first past k₀ table k = past - k
 
 loop-holds : tie.Need-loop-holds Inv-loop μ-loop
-loop-holds c = (search needs, empty-none (c .pre .1))
+loop-holds c = (search needs, search needs, rows-none (c .pre .2))
 
-mul-t6 : tie.Need-mul-t6 Inv-loop μ-loop
-mul-t6 c = search needs
+mul-t7 : tie.Need-mul-t7 Inv-loop μ-loop
+mul-t7 c = search needs
 
 element-set-from-table : tie.Need-element-set-from-table Inv-loop μ-loop
 element-set-from-table c = search needs
@@ -31,10 +32,10 @@ loop-less c = search needs
 
 loop-again : tie.Need-loop-again Inv-loop μ-loop
 unfolding noLinks
-loop-again c = (search needs, empty-more (omega arith) (c .before .loop .inv .1))
+loop-again c = (search needs, search needs, rows-more noLinks (omega arith) refl (omega arith) (c .before .loop .inv .2))
 
 returns : tie.Need-returns Inv-loop μ-loop
-returns c = let all : c .before .loop .k ≡ c .before .before .args .p = omega arith in rw all at (c .before .loop .inv .1)
+returns c = let all : c .before .loop .k ≡ c .before .before .args .past = omega arith in rw all at (c .before .loop .inv .2)
 
 pub clear-rows-spec : {M : Type 1} → statement M
 clear-rows-spec =
@@ -43,7 +44,7 @@ clear-rows-spec =
     Inv-loop
     μ-loop
     loop-holds
-    mul-t6
+    mul-t7
     element-set-from-table
     add-k
     loop-less

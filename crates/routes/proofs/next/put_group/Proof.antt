@@ -1,43 +1,36 @@
--- `next::put_group` meets its contract. The loop's invariant: the links of the nodes below `j` are written. The measure is what is left of the
+-- `next::put_group` meets its contract. The loop's invariant: the next links of the nodes below `j` are written. The measure is what is left of the
 -- nodes.
-use Prim.Native.Nat.{_-_, _≤_, _<_}
+use Prim.Native.Nat.{_-_, _≤_}
 use native.Mathlib.Omega.{arith}
 use borrow.Author.Needs.{needs}
-use Rattle.routes.specs.Laws.Table.{Putting, put-none, put-more, put-all, fitting-fits}
+use Rattle.routes.specs.Laws.Table.{Putting, put-none, put-more, put-all}
 use Rattle.routes.proofs.next.put_group.Statement.{statement}
 use Rattle.routes.proofs.next.put_group.Tie as tie
 
 abbrev Inv-loop : tie.InvT-loop
-Inv-loop table₀ n m p tails heads times group marks first-out next-out first j₀ table j =
-    (j ≤ n) × Putting n m p tails heads times group first table₀ j table
+Inv-loop table₀ first past nodes links times group out marks lows j₀ table j = (j ≤ nodes) × Putting nodes links times group table₀ first past j table
 
 abbrev μ-loop : tie.MeasureT-loop
-μ-loop table₀ n m p tails heads times group marks first-out next-out first j₀ table j =
-    n - j
+μ-loop table₀ first past nodes links times group out marks lows j₀ table j = nodes - j
+
+few-nodes : (c : tie.Start Inv-loop μ-loop) → c .args .nodes ≤ 128
+few-nodes c = c .pre .0 .0 0 (omega arith) .roads .few-nodes
+
+low-marks-requires : tie.Need-low-marks-requires Inv-loop μ-loop
+low-marks-requires c κs = few-nodes c
 
 loop-holds : tie.Need-loop-holds Inv-loop μ-loop
-loop-holds c = let room = c .pre .1 .1 .1 in (search needs, put-none (room .3) (room .2))
+loop-holds c =
+    let start = c .before in
+    let given = start .pre in
+    (search needs, put-none (start .args .group .now) (given .0 .0) (given .1 .0 .1) (given .1 .0 .2))
 
-next-row-requires : tie.Need-next-row-requires Inv-loop μ-loop
-next-row-requires c κs =
-    let start = c .before .before in
-    (start .pre .0, (start .pre .1 .0, (start .pre .1 .1 .0, c .loop-test .taken)))
-
--- The node is one of 128.
-node : (c : tie.In-loop Inv-loop μ-loop) → c .before .loop .j < 128
-node c = omega (arith, c .loop-test .taken, c .before .before .pre .0 0 (omega arith) .few-nodes)
-
-put-row-requires : tie.Need-put-row-requires Inv-loop μ-loop
-put-row-requires c κs =
+put-node-requires : tie.Need-put-node-requires Inv-loop μ-loop
+put-node-requires c κs =
     let turn = c .before .before .before in
-    let start = turn .before in
-    let room = start .pre .1 .1 .1 in (
-      room .0,
-      room .1,
-      node (c .before .before),
-      fitting-fits (start .args .group .now) (start .pre .0) (turn .loop .j) (c .before .next-row .result) (c .before .next-row .ensures),
-      turn .loop .inv .1 .size,
-    )
+    let after-lows = turn .before in
+    let given = after-lows .before .pre in
+    (given .0, ((given .1 .0 .0, after-lows .low-marks .ensures, c .before .before .loop-test .taken), (given .1 .1 .0, given .1 .1 .1, given .1 .1 .2, turn .loop .inv .1 .size)))
 
 add-j : tie.Need-add-j Inv-loop μ-loop
 add-j c = search needs
@@ -48,13 +41,13 @@ loop-less c = search needs
 loop-again : tie.Need-loop-again Inv-loop μ-loop
 loop-again c =
     let turn = c .before .before .before .before in
-    let row = c .before .before in
-    (search needs, put-more (turn .loop .inv .1) (node (row .before)) (row .next-row .ensures) (c .put-row .ensures))
+    let start = turn .before .before in
+    (search needs, put-more (start .args .group .now) (start .pre .0 .0) (turn .loop .inv .1) (omega (arith, few-nodes start, c .before .before .before .loop-test .taken)) (c .put-node .ensures))
 
 returns : tie.Need-returns Inv-loop μ-loop
 returns c =
-    let start = c .before .before in
-    put-all (c .before .loop .inv .1) (start .pre .0) (omega arith)
+    let start = c .before .before .before in
+    put-all (start .args .group .now) (start .pre .0 .0) (c .before .loop .inv .1) (start .pre .1 .1 .1) (omega arith)
 
 pub put-group-spec : {M : Type 1} → statement M
 put-group-spec =
@@ -62,9 +55,9 @@ put-group-spec =
     (tie.spec
     Inv-loop
     μ-loop
+    low-marks-requires
     loop-holds
-    next-row-requires
-    put-row-requires
+    put-node-requires
     add-j
     loop-less
     loop-again

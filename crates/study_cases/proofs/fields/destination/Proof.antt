@@ -1,18 +1,30 @@
 -- `study_cases::fields::destination` is safe: a destination below the count has its bytes.
-use borrow.Author.Needs.{needs}
 use native.Mathlib.Omega.{arith}
 use Rattle.study.specs.Laws.{has-destination}
+use borrow.Author.Needs.{needs}
 use Rattle.study_cases.proofs.fields.destination.Statement.{statement}
 use Rattle.study_cases.proofs.fields.destination.Tie as tie
-
-destination-count-requires : tie.Need-destination-count-requires
-destination-count-requires c κs = search needs
 
 destinations-requires : tie.Need-destinations-requires
 destinations-requires c κs = search needs
 
-destination-field-requires : tie.Need-destination-field-requires
-destination-field-requires c κs = rw (c .destinations .ensures) (has-destination _ _ (omega arith))
+destination-count-requires : tie.Need-destination-count-requires
+destination-count-requires c κs = search needs
+
+destination-requires : tie.Need-destination-requires
+destination-requires c κs = rw (c .before .before .destinations .ensures) (has-destination _ _ (omega arith))
+
+cast-node : tie.Need-cast-node
+cast-node c = search needs
+
+slice-aggregate-print : tie.Need-slice-aggregate-print
+slice-aggregate-print c = search needs
+
+slice-aggregate-print-2 : tie.Need-slice-aggregate-print-2
+slice-aggregate-print-2 c = search needs
+
+print-requires : tie.Need-print-requires
+print-requires c κs = search needs
 
 returns : tie.Need-returns
 returns c = search needs
@@ -24,8 +36,12 @@ pub destination-spec : {M : Type 1} → statement M
 destination-spec =
     tie.close
     (tie.spec
-    destination-count-requires
     destinations-requires
-    destination-field-requires
+    destination-count-requires
+    destination-requires
+    cast-node
+    slice-aggregate-print
+    slice-aggregate-print-2
+    print-requires
     returns
     returns-2)

@@ -6,7 +6,7 @@ use native.Mathlib.Omega.{arith}
 use mathlib.Core.Path.{_≡_, sym}
 use mathlib.Core.Bool.{true}
 use mathlib.Core.Logic.{⊎-elim}
-use lib.ListN.{getD}
+use lib.ListN.{length, getD}
 use borrow.Author.Needs.{needs}
 use Rattle.travel.specs.Links.{rowBalances}
 use Rattle.travel.specs.Ranges.{mostFlow}
@@ -16,10 +16,10 @@ use Rattle.travel.proofs.balance.row_balances.Statement.{statement}
 use Rattle.travel.proofs.balance.row_balances.Tie as tie
 
 abbrev Inv-loop : tie.InvT-loop
-Inv-loop row tails heads trips n m destination share out into j₀ j = (j ≤ n) × (rowBalances j m tails heads trips destination share row ≡ true)
+Inv-loop nodes links destination trips row share out into j₀ j = (j ≤ nodes) × (rowBalances j links destination trips share row ≡ true)
 
 abbrev μ-loop : tie.MeasureT-loop
-μ-loop row tails heads trips n m destination share out into j₀ j = n - j
+μ-loop nodes links destination trips row share out into j₀ j = nodes - j
 
 abbrev start : tie.At-loop Inv-loop μ-loop → tie.Start Inv-loop μ-loop
 start c = c .before .before .before .before .before
@@ -36,25 +36,25 @@ sent-most c = mul-le-mul {n₂ = 1024} (search needs) (trips-most c)
 into-most : (c : tie.At-loop Inv-loop μ-loop) → c .loop .j < 128 → getD (c .before .sums-at2 .result) (c .loop .j) 0 ≤ 512 * 4294967295
 into-most c p =
     let x = start c .args in
-    let row-most = c .before .before .before .before .shared-slice-known .given in
+    let row-most = c .before .before .before .shared-slice-known2 .given in
     omega (
       arith,
       c .before .sums-at2 .ensures .at (c .loop .j) p,
-      sums-most (x .heads .now) (x .row .now) (x .m) 4294967295 (c .loop .j) (λ i. omega (arith, row-most i)),
+      sums-most (x .links .now) 1 (x .row .now) (length (x .links .now)) 4294967295 (c .loop .j) (λ i. omega (arith, row-most i)),
     )
 
 sums-at-requires : tie.Need-sums-at-requires Inv-loop μ-loop
 sums-at-requires c κs =
     let fit = c .before .before .pre .0 in
-    (search needs, search needs, (λ l p. omega (arith, fit .tails-fit l p)))
+    (record { is-end = omega arith; few-links = fit .few-links; end-node = λ l p. omega (arith, fit .tail-node l p) }, fit .row-long)
 
 sums-at-requires-2 : tie.Need-sums-at-requires-2 Inv-loop μ-loop
 sums-at-requires-2 c κs =
     let fit = c .before .before .before .pre .0 in
-    (search needs, search needs, (λ l p. omega (arith, fit .heads-fit l p)))
+    (record { is-end = omega arith; few-links = fit .few-links; end-node = λ l p. omega (arith, fit .head-node l p) }, fit .row-long)
 
 loop-holds : tie.Need-loop-holds Inv-loop μ-loop
-loop-holds c = (search needs, balances-none _ _ _ _ _ _ _)
+loop-holds c = (search needs, balances-none _ _ _ _ _)
 
 mul-sent : tie.Need-mul-sent Inv-loop μ-loop
 mul-sent c = search needs
@@ -88,7 +88,7 @@ returns c =
     let at-loop = c .before .before .before .before in
     let outs = at-loop .before .before .sums-at .ensures in
     let ins = at-loop .before .sums-at2 .ensures in
-    sym (balances-fails _ _ _ _ _ _ _ _ _ outs ins (at-loop .loop .j) (omega arith) _ (omega arith) (c .before .before .if1 .taken) (c .if2 .taken))
+    sym (balances-fails _ _ _ _ _ _ _ outs ins (at-loop .loop .j) (omega arith) _ (omega arith) (c .before .before .if1 .taken) (c .if2 .taken))
 
 add-j : tie.Need-add-j Inv-loop μ-loop
 add-j c = search needs
@@ -103,12 +103,12 @@ loop-again c =
     let ins = at-loop .before .sums-at2 .ensures in
     let so-far = at-loop .loop .inv .1 in (
       search needs,
-      ⊎-elim (λ w. balances-more _ _ _ _ _ _ _ _ _ outs ins (at-loop .loop .j) (omega arith) so-far (w .2 .left)) (λ w. balances-there _ _ _ _ _ _ _ (at-loop .loop .j) so-far (w .left)) (c .if1 .came),
+      ⊎-elim (λ w. balances-more _ _ _ _ _ _ _ outs ins (at-loop .loop .j) (omega arith) so-far (w .2 .left)) (λ w. balances-there _ _ _ _ _ (at-loop .loop .j) so-far (w .left)) (c .if1 .came),
     )
 
 returns-2 : tie.Need-returns-2 Inv-loop μ-loop
 returns-2 c =
-    let end : c .before .loop .j ≡ c .before .before .before .before .before .before .args .n = omega arith in
+    let end : c .before .loop .j ≡ start (c .before) .args .nodes = omega arith in
     sym (rw end at (c .before .loop .inv .1))
 
 pub row-balances-spec : {M : Type 1} → statement M

@@ -3,31 +3,38 @@
 use Prim.Native.Nat.{_-_, _≤_, _<_}
 use native.Mathlib.Omega.{arith}
 use mathlib.Core.Path.{_≡_}
-use lib.ListN.{getD}
+use lib.ListN.{length}
 use borrow.Author.Needs.{needs}
+use Rattle.theory.specs.Study.{column}
 use Rattle.travel.specs.Ranges.{SumsAt}
 use Rattle.travel.specs.Laws.Sums.{sums-none, sums-more, sums-most}
 use Rattle.travel.proofs.balance.sums_at.Statement.{statement}
 use Rattle.travel.proofs.balance.sums_at.Tie as tie
 
 abbrev Inv-loop : tie.InvT-loop
-Inv-loop row ends m sums₀ l₀ sums l = (l ≤ m) × SumsAt l ends row sums
+Inv-loop links end row sums₀ l₀ sums l = (l ≤ length links) × SumsAt l links end row sums
 
 abbrev μ-loop : tie.MeasureT-loop
-μ-loop row ends m sums₀ l₀ sums l = m - l
+μ-loop links end row sums₀ l₀ sums l = length links - l
 
 -- The end of the link of a turn is a node.
-end-fits : (c : tie.In-loop Inv-loop μ-loop) → getD (c .before .before .args .ends .now) (c .before .loop .l) 0 < 128
-end-fits c = c .before .before .pre .2 (c .before .loop .l) (omega arith)
+end-fits : (c : tie.In-loop Inv-loop μ-loop) → column (c .before .before .args .end) (c .before .before .args .links .now) (c .before .loop .l) < 128
+end-fits c = c .before .before .pre .0 .end-node (c .before .loop .l) (omega arith)
 
 loop-holds : tie.Need-loop-holds Inv-loop μ-loop
-loop-holds c = (search needs, sums-none (c .args .ends .now) (c .args .row .now))
+loop-holds c = (search needs, sums-none (c .args .links .now) (c .args .end) (c .args .row .now))
 
 mul-node : tie.Need-mul-node Inv-loop μ-loop
 mul-node c = search needs
 
-element-copy-out-node : tie.Need-element-copy-out-node Inv-loop μ-loop
-element-copy-out-node c = search needs
+mul-node-2 : tie.Need-mul-node-2 Inv-loop μ-loop
+mul-node-2 c = search needs
+
+index-1-node : tie.Need-index-1-node Inv-loop μ-loop
+index-1-node c = search needs
+
+index-2-node : tie.Need-index-2-node Inv-loop μ-loop
+index-2-node c = search needs
 
 cast-node : tie.Need-cast-node Inv-loop μ-loop
 cast-node c = omega (arith, end-fits (c .before))
@@ -50,13 +57,13 @@ array-read-sums c = end-fits (c .before .before)
 add-sums : tie.Need-add-sums Inv-loop μ-loop
 add-sums c =
     let at-loop = c .before .before .before in
-    let ends = at-loop .before .args .ends .now in
-    let row = at-loop .before .args .row .now in
+    let x = at-loop .before .args in
     let l = at-loop .loop .l in
+    let node = column (x .end) (x .links .now) l in
     omega (
       arith,
-      at-loop .loop .inv .1 .at (getD ends l 0) (end-fits (c .before .before)),
-      sums-most ends row l 4294967295 (getD ends l 0) (λ i. omega (arith, c .shared-slice-known .given i)),
+      at-loop .loop .inv .1 .at node (end-fits (c .before .before)),
+      sums-most (x .links .now) (x .end) (x .row .now) l 4294967295 node (λ i. omega (arith, c .shared-slice-known .given i)),
       c .shared-slice-known .given l,
     )
 
@@ -72,15 +79,14 @@ loop-less c = search needs
 loop-again : tie.Need-loop-again Inv-loop μ-loop
 loop-again c =
     let at-loop = c .before .before .before in
-    let ends = at-loop .before .args .ends .now in
-    let row = at-loop .before .args .row .now in (
+    let x = at-loop .before .args in (
       search needs,
-      sums-more ends row (at-loop .loop .l) (at-loop .loop .sums) (end-fits (c .before .before)) (at-loop .loop .inv .1),
+      sums-more (x .links .now) (x .end) (x .row .now) (at-loop .loop .l) (at-loop .loop .sums) (end-fits (c .before .before)) (at-loop .loop .inv .1),
     )
 
 returns : tie.Need-returns Inv-loop μ-loop
 returns c =
-    let end : c .before .loop .l ≡ c .before .before .args .m = omega arith in
+    let end : c .before .loop .l ≡ length (c .before .before .args .links .now) = omega arith in
     rw end at (c .before .loop .inv .1)
 
 pub sums-at-spec : {M : Type 1} → statement M
@@ -91,7 +97,9 @@ sums-at-spec =
     μ-loop
     loop-holds
     mul-node
-    element-copy-out-node
+    mul-node-2
+    index-1-node
+    index-2-node
     cast-node
     mul-sums
     shared-slice-read-sums

@@ -2,28 +2,28 @@
 -- between them. Assumes nothing.
 use Prim.Native.Nat.{ℕ, _-_, min}
 use native.Mathlib.Omega.{arith}
-use mathlib.Core.Path.{_≡_, sym, _∙_}
+use mathlib.Core.Path.{_≡_, sym}
 use mathlib.Core.Bool.{Bool}
 use mathlib.Core.List.{List}
-use lib.ListN.{getD}
 use borrow.Author.Needs.{needs}
 use Rattle.theory.specs.Moves.{qualifies}
-use Rattle.travel.specs.Links.{roads}
+use Rattle.travel.specs.Links.{roads, totalOf, loadOf}
 use Rattle.travel.specs.Laws.Choice.{roads-chosen, qualifies-yes, qualifies-no}
 use Rattle.travel.specs.Laws.Bisection.{Between, between-all, between-up, between-down}
 use Rattle.travel.proofs.choice.chosen.Statement.{statement}
 use Rattle.travel.proofs.choice.chosen.Tie as tie
 
 -- Whether a number qualifies.
-abbrev qualifying : ℕ → List ℕ → List ℕ → List ℕ → List ℕ → List ℕ → ℕ → ℕ → Bool
-qualifying m free rises capacities flows loading share =
-    qualifies (roads m free rises capacities) share (λ l. getD flows l 0) (λ l. getD loading l 0)
+abbrev qualifying : List (List ℕ) → List (List ℕ) → ℕ → ℕ → Bool
+qualifying links flows share j = qualifies (roads links) share (totalOf flows) (loadOf flows) j
 
 abbrev Inv-loop : tie.InvT-loop
-Inv-loop free rises capacities flows loading m share guess gap powers low₀ high₀ below₀ above₀ tries₀ low high below above tries = Between (min 64 (1024 - share)) (qualifying m free rises capacities flows loading share) low high
+Inv-loop links flows share guess gap powers low₀ high₀ below₀ above₀ tries₀ low high below above tries =
+    Between (min 64 (1024 - share)) (qualifying links flows share) low high
 
 abbrev μ-loop : tie.MeasureT-loop
-μ-loop free rises capacities flows loading m share guess gap powers low₀ high₀ below₀ above₀ tries₀ low high below above tries = high - low
+μ-loop links flows share guess gap powers low₀ high₀ below₀ above₀ tries₀ low high below above tries =
+    high - low
 
 last-requires : tie.Need-last-requires Inv-loop μ-loop
 last-requires c κs = search needs
@@ -41,7 +41,7 @@ sums-at-requires : tie.Need-sums-at-requires Inv-loop μ-loop
 sums-at-requires c κs =
     let at-loop = c .before .before .before in
     let start = at-loop .before .before in
-    ((start .pre .0, omega (arith, at-loop .loop .inv .within)), start .pre .1)
+    (start .pre .0, omega (arith, at-loop .loop .inv .within), start .pre .1)
 
 -- The loop, from the sums of a j.
 abbrev loop-of : tie.After-sums-at Inv-loop μ-loop → tie.At-loop Inv-loop μ-loop
@@ -77,7 +77,7 @@ returns c =
     let x = start .args in
     let inv = c .before .loop .inv in
     let met : c .before .loop .high ≡ c .before .loop .low = omega arith in
-    sym (roads-chosen (x .m) _ _ _ (start .pre .0 .links) (x .share) (search needs) _ _ _ (omega (arith, inv .within, inv .ordered)) (inv .holds) (rw met at (inv .ends)))
+    sym (roads-chosen _ (start .pre .0 .links-fit) (x .share) (search needs) _ _ _ (omega (arith, inv .within, inv .ordered)) (inv .holds) (rw met at (inv .ends)))
 
 pub chosen-spec : {M : Type 1} → statement M
 chosen-spec =

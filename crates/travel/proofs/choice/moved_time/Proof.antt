@@ -20,7 +20,9 @@ add-link-time-2 : tie.Need-add-link-time-2
 add-link-time-2 c = omega (arith, flow-most c)
 
 link-time-requires : tie.Need-link-time-requires
-link-time-requires c κs = ((c .pre .0 .0, record { some-share = omega arith; share-fits = c .pre .0 .2 }, omega (arith, flow-most c)), c .pre .1)
+link-time-requires c κs =
+    let pre = c .pre in
+    (pre .0, record { some-share = omega arith; share-fits = pre .2 }, omega (arith, flow-most c), pre .5)
 
 returns : tie.Need-returns
 returns c = search needs

@@ -1,112 +1,104 @@
 -- `sums_at` meets its contract. The invariant: the products of the links passed are added on both sides. The measure is what is left
 -- of the links. Assumes nothing.
-use Prim.Native.Nat.{ℕ, _+_, _*_, _-_, _≤_}
+use Prim.Native.Nat.{ℕ, _+_, _*_, _-_, _≤_, _<_}
 use native.Mathlib.Nat.{mul-le-mul}
 use native.Mathlib.Omega.{arith}
-use mathlib.Core.Path.{_≡_, sym, ap}
+use mathlib.Core.Path.{_≡_, sym, _∙_, ap}
 use mathlib.Core.List.{List}
-use lib.ListN.{getD}
+use lib.ListN.{length}
 use borrow.Author.Needs.{needs}
-use Rattle.theory.specs.Moves.{movedTimes}
-use Rattle.travel.specs.Links.{roads}
-use Rattle.travel.specs.Ranges.{Within, mostFlow, mostTime}
-use Rattle.travel.specs.Laws.Choice.{moved-none, moved-more, moved-most}
+use Rattle.travel.specs.Links.{totalOf, loadOf}
+use Rattle.travel.specs.Ranges.{mostFlow, mostTime}
+use Rattle.travel.specs.Laws.Choice.{movedAt, movedTo, moved-none, moved-more, moved-all, moved-most}
 use Rattle.travel.proofs.choice.sums_at.Statement.{statement}
 use Rattle.travel.proofs.choice.sums_at.Tie as tie
 
 -- The sum of amount × time over the first l links.
-abbrev moved : ℕ → List ℕ → List ℕ → List ℕ → List ℕ → List ℕ → ℕ → ℕ → List ℕ → ℕ
-moved l free rises capacities flows loading share j amount =
-    movedTimes (roads l free rises capacities) share (λ i. getD flows i 0) (λ i. getD loading i 0) j (λ i. getD amount i 0)
+abbrev moved : List (List ℕ) → List (List ℕ) → ℕ → ℕ → (ℕ → ℕ) → ℕ → ℕ
+moved links flows share j amount l = movedTo links share (totalOf flows) (loadOf flows) j amount l
 
 abbrev Inv-loop : tie.InvT-loop
-Inv-loop free rises capacities flows loading m share j powers loaded₀ spent₀ l₀ loaded spent l = (l ≤ m) × (loaded ≡ moved l free rises capacities flows loading share j loading) × (spent ≡ moved l free rises capacities flows loading share j flows)
+Inv-loop links flows share j powers loaded₀ spent₀ l₀ loaded spent l = (l ≤ length links) × (loaded ≡ moved links flows share j (loadOf flows) l) × (spent ≡ moved links flows share j (totalOf flows) l)
 
 abbrev μ-loop : tie.MeasureT-loop
-μ-loop free rises capacities flows loading m share j powers loaded₀ spent₀ l₀ loaded spent l = m - l
+μ-loop links flows share j powers loaded₀ spent₀ l₀ loaded spent l = length links - l
 
 -- The same of a call's arguments.
-abbrev sum-of : tie.Start Inv-loop μ-loop → ℕ → List ℕ → ℕ
-sum-of c l amount =
-    let x = c .args in
-    moved l (x .free .now) (x .rises .now) (x .capacities .now) (x .flows .now) (x .loading .now) (x .share) (x .j) amount
+abbrev sum-of : tie.Start Inv-loop μ-loop → (ℕ → ℕ) → ℕ → ℕ
+sum-of c amount l = let x = c .args in moved (x .links .now) (x .flows .now) (x .share) (x .j) amount l
 
-sum-most : (c : tie.Start Inv-loop μ-loop) (amount : List ℕ) (most : ℕ) → Within (c .args .m) most amount → (l : ℕ) → l ≤ c .args .m →
-    sum-of c l amount ≤ l * (most * mostTime)
+sum-most : (c : tie.Start Inv-loop μ-loop) (amount : ℕ → ℕ) (most : ℕ) → ((l : ℕ) → l < length (c .args .links .now) → amount l ≤ most) → (l : ℕ) → l ≤ length (c .args .links .now) →
+    sum-of c amount l ≤ l * (most * mostTime)
 sum-most c amount most h l p =
     let x = c .args in
-    moved-most (x .free .now) (x .rises .now) (x .capacities .now) (x .share) (λ i. getD (x .flows .now) i 0) (λ i. getD (x .loading .now) i 0) (x .j) (λ i. getD amount i 0) (x .m) most (c .pre .0 .0 .links) h l p
+    moved-most (x .links .now) (x .share) (totalOf (x .flows .now)) (loadOf (x .flows .now)) (x .j) amount (c .pre .0 .links-fit) most h l p
 
-loaded-most : (c : tie.Start Inv-loop μ-loop) (l : ℕ) → l ≤ c .args .m → sum-of c l (c .args .loading .now) ≤ l * (65535 * mostTime)
-loaded-most c l p = sum-most c (c .args .loading .now) 65535 (c .pre .0 .0 .loaded) l p
+loaded-most : (c : tie.Start Inv-loop μ-loop) (l : ℕ) → l ≤ length (c .args .links .now) → sum-of c (loadOf (c .args .flows .now)) l ≤ l * (65535 * mostTime)
+loaded-most c l p = sum-most c (loadOf (c .args .flows .now)) 65535 (c .pre .0 .loads-fit) l p
 
-spent-most : (c : tie.Start Inv-loop μ-loop) (l : ℕ) → l ≤ c .args .m → sum-of c l (c .args .flows .now) ≤ l * (mostFlow * mostTime)
-spent-most c l p = sum-most c (c .args .flows .now) mostFlow (λ i q. omega (arith, c .pre .0 .0 .flows i q)) l p
+spent-most : (c : tie.Start Inv-loop μ-loop) (l : ℕ) → l ≤ length (c .args .links .now) → sum-of c (totalOf (c .args .flows .now)) l ≤ l * (mostFlow * mostTime)
+spent-most c l p = sum-most c (totalOf (c .args .flows .now)) mostFlow (λ i q. omega (arith, c .pre .0 .totals-fit i q)) l p
 
 abbrev at-loop : tie.After-moved-time Inv-loop μ-loop → tie.At-loop Inv-loop μ-loop
-at-loop c = c .before .before .before .before .before .before .before
+at-loop c = c .before .before .before .before .before
 
 -- After a turn each sum is that of one link more.
-turn : (c : tie.After-moved-time Inv-loop μ-loop) (amount : List ℕ) (sum : ℕ) →
-    sum ≡ sum-of (at-loop c .before) (at-loop c .loop .l) amount →
-    sum + getD amount (at-loop c .loop .l) 0 * c .moved-time .result ≡ sum-of (at-loop c .before) (at-loop c .loop .l + 1) amount
+turn : (c : tie.After-moved-time Inv-loop μ-loop) (amount : ℕ → ℕ) (sum : ℕ) →
+    sum ≡ sum-of (at-loop c .before) amount (at-loop c .loop .l) →
+    sum + amount (at-loop c .loop .l) * c .moved-time .result ≡ sum-of (at-loop c .before) amount (at-loop c .loop .l + 1)
 turn c amount sum e =
     let l = at-loop c .loop .l in
     let x = at-loop c .before .args in
     omega (
       arith,
       e,
-      ap (λ t. getD amount l 0 * t) (c .moved-time .ensures .0),
-      moved-more (x .free .now) (x .rises .now) (x .capacities .now) (x .share) (λ i. getD (x .flows .now) i 0) (λ i. getD (x .loading .now) i 0) (x .j) (λ i. getD amount i 0) l,
+      ap (λ t. amount l * t) {y = movedAt (x .links .now) (x .share) (totalOf (x .flows .now)) (loadOf (x .flows .now)) (x .j) amount l} (c .moved-time .ensures .0),
+      moved-more (x .links .now) (x .share) (totalOf (x .flows .now)) (loadOf (x .flows .now)) (x .j) amount l,
     )
 
 loaded-turn : (c : tie.After-moved-time Inv-loop μ-loop) →
-    at-loop c .loop .loaded + getD (at-loop c .before .args .loading .now) (at-loop c .loop .l) 0 * c .moved-time .result ≡ sum-of (at-loop c .before) (at-loop c .loop .l + 1) (at-loop c .before .args .loading .now)
-loaded-turn c = turn c (at-loop c .before .args .loading .now) (at-loop c .loop .loaded) (at-loop c .loop .inv .1)
+    at-loop c .loop .loaded + loadOf (at-loop c .before .args .flows .now) (at-loop c .loop .l) * c .moved-time .result ≡ sum-of (at-loop c .before) (loadOf (at-loop c .before .args .flows .now)) (at-loop c .loop .l + 1)
+loaded-turn c = turn c (loadOf (at-loop c .before .args .flows .now)) (at-loop c .loop .loaded) (at-loop c .loop .inv .1)
 
 spent-turn : (c : tie.After-moved-time Inv-loop μ-loop) →
-    at-loop c .loop .spent + getD (at-loop c .before .args .flows .now) (at-loop c .loop .l) 0 * c .moved-time .result ≡ sum-of (at-loop c .before) (at-loop c .loop .l + 1) (at-loop c .before .args .flows .now)
-spent-turn c = turn c (at-loop c .before .args .flows .now) (at-loop c .loop .spent) (at-loop c .loop .inv .2)
+    at-loop c .loop .spent + totalOf (at-loop c .before .args .flows .now) (at-loop c .loop .l) * c .moved-time .result ≡ sum-of (at-loop c .before) (totalOf (at-loop c .before .args .flows .now)) (at-loop c .loop .l + 1)
+spent-turn c = turn c (totalOf (at-loop c .before .args .flows .now)) (at-loop c .loop .spent) (at-loop c .loop .inv .2)
 
 loop-holds : tie.Need-loop-holds Inv-loop μ-loop
-loop-holds c = (search needs, sym (moved-none _ _ _ _ _ _ _ _), sym (moved-none _ _ _ _ _ _ _ _))
+loop-holds c =
+    let none : (amount : ℕ → ℕ) → 0 ≡ sum-of c amount 0 = λ amount. sym (moved-none (c .args .links .now) (c .args .share) (totalOf (c .args .flows .now)) (loadOf (c .args .flows .now)) (c .args .j) amount) in
+    (search needs, none (loadOf (c .args .flows .now)), none (totalOf (c .args .flows .now)))
 
 mul-s : tie.Need-mul-s Inv-loop μ-loop
 mul-s c = search needs
 
-element-copy-out-s : tie.Need-element-copy-out-s Inv-loop μ-loop
-element-copy-out-s c = search needs
+index-1-s : tie.Need-index-1-s Inv-loop μ-loop
+index-1-s c = search needs
+
+index-2-s : tie.Need-index-2-s Inv-loop μ-loop
+index-2-s c = search needs
 
 mul-y : tie.Need-mul-y Inv-loop μ-loop
 mul-y c = search needs
 
-element-copy-out-y : tie.Need-element-copy-out-y Inv-loop μ-loop
-element-copy-out-y c = search needs
+index-1-y : tie.Need-index-1-y Inv-loop μ-loop
+index-1-y c = search needs
+
+index-2-y : tie.Need-index-2-y Inv-loop μ-loop
+index-2-y c = search needs
 
 mul-moved-time : tie.Need-mul-moved-time Inv-loop μ-loop
 mul-moved-time c = search needs
 
-element-copy-out-moved-time : tie.Need-element-copy-out-moved-time Inv-loop μ-loop
-element-copy-out-moved-time c = search needs
-
-mul-moved-time-2 : tie.Need-mul-moved-time-2 Inv-loop μ-loop
-mul-moved-time-2 c = search needs
-
-element-copy-out-moved-time-2 : tie.Need-element-copy-out-moved-time-2 Inv-loop μ-loop
-element-copy-out-moved-time-2 c = search needs
-
-mul-moved-time-3 : tie.Need-mul-moved-time-3 Inv-loop μ-loop
-mul-moved-time-3 c = search needs
-
-element-copy-out-moved-time-3 : tie.Need-element-copy-out-moved-time-3 Inv-loop μ-loop
-element-copy-out-moved-time-3 c = search needs
+shared-slice-copy-out-moved-time : tie.Need-shared-slice-copy-out-moved-time Inv-loop μ-loop
+shared-slice-copy-out-moved-time c = search needs
 
 moved-time-requires : tie.Need-moved-time-requires Inv-loop μ-loop
 moved-time-requires c κs =
-    let l = c .before .before .before .before .before .before .loop .l in
-    let fit = c .before .before .before .before .before .before .before .pre .0 .0 in
-    let raised = c .before .before .before .before .before .before .before .pre .1 in
-    ((fit .links .link l (omega arith), search needs, search needs, fit .flows l (omega arith), fit .loaded l (omega arith)), raised)
+    let l = c .before .before .before .before .loop .l in
+    let pre = c .before .before .before .before .before .pre in
+    let fit = pre .0 in
+    (fit .links-fit .link l (omega arith), search needs, search needs, fit .totals-fit l (omega arith), fit .loads-fit l (omega arith), pre .2)
 
 mul-loaded : tie.Need-mul-loaded Inv-loop μ-loop
 mul-loaded c = omega (arith, loaded-turn c, loaded-most (at-loop c .before) (at-loop c .loop .l + 1) (omega arith))
@@ -136,8 +128,12 @@ mul-loaded-2 c =
 
 returns : tie.Need-returns Inv-loop μ-loop
 returns c =
-    let end : c .before .loop .l ≡ c .before .before .args .m = omega arith in
-    (rw (c .before .loop .inv .1, end), rw (c .before .loop .inv .2, end))
+    let x = c .before .before .args in
+    let end : c .before .loop .l ≡ length (x .links .now) = omega arith in
+    let all = moved-all (x .links .now) (x .share) (totalOf (x .flows .now)) (loadOf (x .flows .now)) (x .j) in (
+      ap (λ sum. x .share * sum) (rw end at (c .before .loop .inv .1) ∙ all (loadOf (x .flows .now))),
+      rw end at (c .before .loop .inv .2) ∙ all (totalOf (x .flows .now)),
+    )
 
 pub sums-at-spec : {M : Type 1} → statement M
 sums-at-spec =
@@ -147,15 +143,13 @@ sums-at-spec =
     μ-loop
     loop-holds
     mul-s
-    element-copy-out-s
+    index-1-s
+    index-2-s
     mul-y
-    element-copy-out-y
+    index-1-y
+    index-2-y
     mul-moved-time
-    element-copy-out-moved-time
-    mul-moved-time-2
-    element-copy-out-moved-time-2
-    mul-moved-time-3
-    element-copy-out-moved-time-3
+    shared-slice-copy-out-moved-time
     moved-time-requires
     mul-loaded
     add-loaded

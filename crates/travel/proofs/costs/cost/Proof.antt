@@ -2,27 +2,25 @@
 -- Assumes nothing.
 use Prim.Native.Nat.{ℕ, _+_, _-_, _≤_}
 use native.Mathlib.Omega.{arith}
-use mathlib.Core.Path.{_≡_, sym}
+use mathlib.Core.Path.{_≡_, sym, _∙_}
+use lib.ListN.{length}
 use borrow.Author.Needs.{needs}
-use Rattle.travel.specs.Links.{listCost}
-use Rattle.travel.specs.Laws.Costs.{cost-none, cost-more, cost-most}
+use Rattle.travel.specs.Laws.Costs.{costTo, cost-none, cost-more, cost-all, cost-most}
 use Rattle.travel.proofs.costs.cost.Statement.{statement}
 use Rattle.travel.proofs.costs.cost.Tie as tie
 
 abbrev Inv-loop : tie.InvT-loop
-Inv-loop free rises capacities totals m share powers area₀ l₀ area l = (l ≤ m) × (area ≡ listCost l free rises capacities share totals)
+Inv-loop links flows share powers area₀ l₀ area l = (l ≤ length links) × (area ≡ costTo links share flows l)
 
 abbrev μ-loop : tie.MeasureT-loop
-μ-loop free rises capacities totals m share powers area₀ l₀ area l = m - l
+μ-loop links flows share powers area₀ l₀ area l = length links - l
 
 -- The cost of the first l links of a call.
 abbrev cost-of : tie.Start Inv-loop μ-loop → ℕ → ℕ
-cost-of c l =
-    let x = c .args in
-    listCost l (x .free .now) (x .rises .now) (x .capacities .now) (x .share) (x .totals .now)
+cost-of c l = costTo (c .args .links .now) (c .args .share) (c .args .flows .now) l
 
 abbrev at-loop : tie.After-link-cost Inv-loop μ-loop → tie.At-loop Inv-loop μ-loop
-at-loop c = c .before .before .before .before .before .before
+at-loop c = c .before .before .before .before
 
 -- After a turn the area is that of one link more.
 turn : (c : tie.After-link-cost Inv-loop μ-loop) →
@@ -32,41 +30,29 @@ turn c =
     omega (
       arith,
       c .link-cost .ensures .0,
-      cost-more (x .free .now) (x .rises .now) (x .capacities .now) (x .share) (x .totals .now) (at-loop c .loop .l),
+      cost-more (x .links .now) (x .share) (x .flows .now) (at-loop c .loop .l),
     )
 
 loop-holds : tie.Need-loop-holds Inv-loop μ-loop
-loop-holds c = (search needs, sym (cost-none _ _ _ _ _))
+loop-holds c = (search needs, sym (cost-none (c .args .links .now) (c .args .share) (c .args .flows .now)))
 
 mul-link-cost : tie.Need-mul-link-cost Inv-loop μ-loop
 mul-link-cost c = search needs
 
-element-copy-out-link-cost : tie.Need-element-copy-out-link-cost Inv-loop μ-loop
-element-copy-out-link-cost c = search needs
+shared-slice-copy-out-link-cost : tie.Need-shared-slice-copy-out-link-cost Inv-loop μ-loop
+shared-slice-copy-out-link-cost c = search needs
 
 mul-link-cost-2 : tie.Need-mul-link-cost-2 Inv-loop μ-loop
 mul-link-cost-2 c = search needs
 
-element-copy-out-link-cost-2 : tie.Need-element-copy-out-link-cost-2 Inv-loop μ-loop
-element-copy-out-link-cost-2 c = search needs
-
-mul-link-cost-3 : tie.Need-mul-link-cost-3 Inv-loop μ-loop
-mul-link-cost-3 c = search needs
-
-element-copy-out-link-cost-3 : tie.Need-element-copy-out-link-cost-3 Inv-loop μ-loop
-element-copy-out-link-cost-3 c = search needs
-
-mul-link-cost-4 : tie.Need-mul-link-cost-4 Inv-loop μ-loop
-mul-link-cost-4 c = search needs
-
-element-copy-out-link-cost-4 : tie.Need-element-copy-out-link-cost-4 Inv-loop μ-loop
-element-copy-out-link-cost-4 c = search needs
+element-copy-out-link-cost : tie.Need-element-copy-out-link-cost Inv-loop μ-loop
+element-copy-out-link-cost c = search needs
 
 link-cost-requires : tie.Need-link-cost-requires Inv-loop μ-loop
 link-cost-requires c κs =
-    let l = c .before .before .before .before .before .loop .l in
-    let pre = c .before .before .before .before .before .before .pre in
-    ((pre .0 .0 .link l (omega arith), search needs, pre .0 .2 l (omega arith)), pre .1)
+    let l = c .before .before .before .loop .l in
+    let pre = c .before .before .before .before .pre in
+    (pre .0 .0 .link l (omega arith), search needs, pre .0 .2 l (omega arith), pre .1)
 
 add-area : tie.Need-add-area Inv-loop μ-loop
 add-area c =
@@ -75,7 +61,7 @@ add-area c =
     omega (
       arith,
       turn c,
-      cost-most (x .free .now) (x .rises .now) (x .capacities .now) (x .share) (x .totals .now) (x .m) (start .pre .0 .0) (search needs) (start .pre .0 .2) (at-loop c .loop .l + 1) (omega arith),
+      cost-most (x .links .now) (x .share) (x .flows .now) (start .pre .0 .0) (search needs) (start .pre .0 .2) (at-loop c .loop .l + 1) (omega arith),
     )
 
 add-l : tie.Need-add-l Inv-loop μ-loop
@@ -89,8 +75,9 @@ loop-again c = (search needs, turn c)
 
 returns : tie.Need-returns Inv-loop μ-loop
 returns c =
-    let end : c .before .loop .l ≡ c .before .before .args .m = omega arith in
-    rw end at (c .before .loop .inv .1)
+    let x = c .before .before .args in
+    let end : c .before .loop .l ≡ length (x .links .now) = omega arith in
+    rw end at (c .before .loop .inv .1) ∙ cost-all (x .links .now) (x .share) (x .flows .now)
 
 pub cost-spec : {M : Type 1} → statement M
 cost-spec =
@@ -100,13 +87,9 @@ cost-spec =
     μ-loop
     loop-holds
     mul-link-cost
-    element-copy-out-link-cost
+    shared-slice-copy-out-link-cost
     mul-link-cost-2
-    element-copy-out-link-cost-2
-    mul-link-cost-3
-    element-copy-out-link-cost-3
-    mul-link-cost-4
-    element-copy-out-link-cost-4
+    element-copy-out-link-cost
     link-cost-requires
     add-area
     add-l

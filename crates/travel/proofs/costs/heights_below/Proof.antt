@@ -7,8 +7,8 @@ use mathlib.Core.Path.{_≡_, refl, sym, _∙_, ap, ap₂}
 use lib.ListN.{getD}
 use borrow.Author.Needs.{needs}
 use Rattle.theory.specs.Finite.{sum}
-use Rattle.theory.specs.Flows.{stepTime}
 use Rattle.theory.specs.Laws.Finite.{sum-suc}
+use Rattle.travel.specs.Links.{rowTime}
 use Rattle.travel.specs.Ranges.{mostTime}
 use Rattle.travel.specs.Laws.Costs.{heights-most}
 use Rattle.travel.specs.Laws.Powers.{risenAt, power-below, rise-at, risen-most, heights-risen}
@@ -16,36 +16,43 @@ use Rattle.travel.proofs.costs.heights_below.Statement.{statement}
 use Rattle.travel.proofs.costs.heights_below.Tie as tie
 
 abbrev Inv-loop : tie.InvT-loop
-Inv-loop free rise step powers risen₀ r₀ risen r = (r ≤ step) × (risen ≡ sum r (risenAt rise))
+Inv-loop step powers link rise risen₀ r₀ risen r = (r ≤ step) × (risen ≡ sum r (risenAt (getD link 3 0)))
 
 abbrev μ-loop : tie.MeasureT-loop
-μ-loop free rise step powers risen₀ r₀ risen r = step - r
+μ-loop step powers link rise risen₀ r₀ risen r = step - r
 
 -- The power that a turn reads.
 low : (c : tie.After-risen Inv-loop μ-loop) → getD (c .before .before .before .args .powers .now) (c .before .before .loop .r) 0 ≤ 4228250625
 low c =
     let at-loop = c .before .before in
-    power-below (at-loop .before .args .powers .now) (at-loop .before .pre .1) (at-loop .loop .r) (omega arith)
+    power-below (at-loop .before .args .powers .now) (at-loop .before .pre .2) (at-loop .loop .r) (omega arith)
 
 -- After a turn the sum is that of one tread more.
 turn : (c : tie.After-risen Inv-loop μ-loop) →
-    c .before .before .loop .risen + c .before .before .before .args .rise * getD (c .before .before .before .args .powers .now) (c .before .before .loop .r) 0 / 16777216 ≡ sum (c .before .before .loop .r + 1) (risenAt (c .before .before .before .args .rise))
+    c .before .before .loop .risen + getD (c .before .before .before .args .t1) 3 0 * getD (c .before .before .before .args .powers .now) (c .before .before .loop .r) 0 / 16777216 ≡ sum (c .before .before .loop .r + 1) (risenAt (getD (c .before .before .before .args .t1) 3 0))
 turn c =
     let at-loop = c .before .before in
     let x = at-loop .before .args in
-    ap₂ _+_ (at-loop .loop .inv .1) (rise-at (x .powers .now) (at-loop .before .pre .1) (at-loop .loop .r) (x .rise) (omega arith))
-    ∙ sym (sum-suc (at-loop .loop .r) (risenAt (x .rise)))
+    let b = getD (x .t1) 3 0 in
+    ap₂ _+_ (at-loop .loop .inv .1) (rise-at (x .powers .now) (at-loop .before .pre .2) (at-loop .loop .r) b (omega arith))
+    ∙ sym (sum-suc (at-loop .loop .r) (risenAt b))
 
 -- What the code adds up at the end is the sum of the heights.
 same : (c : tie.After-loop Inv-loop μ-loop) →
-    c .before .before .args .free * c .before .before .args .step + c .before .loop .risen ≡ sum (c .before .before .args .step) (stepTime (c .before .before .args .free) (c .before .before .args .rise))
+    getD (c .before .before .args .t1) 2 0 * c .before .before .args .step + c .before .loop .risen ≡ sum (c .before .before .args .step) (rowTime (c .before .before .args .t1))
 same c =
     let x = c .before .before .args in
     let end : c .before .loop .r ≡ x .step = omega arith in
-    ap (λ y. x .free * x .step + y) (rw end at (c .before .loop .inv .1)) ∙ heights-risen (x .free) (x .rise) (x .step)
+    ap (λ y. getD (x .t1) 2 0 * x .step + y) (rw end at (c .before .loop .inv .1)) ∙ heights-risen (getD (x .t1) 2 0) (getD (x .t1) 3 0) (x .step)
 
-most : (c : tie.Start Inv-loop μ-loop) → sum (c .args .step) (stepTime (c .args .free) (c .args .rise)) ≤ c .args .step * mostTime
-most c = heights-most (c .args .free) (c .args .rise) (c .args .step) (search needs) (search needs) (search needs)
+most : (c : tie.Start Inv-loop μ-loop) → sum (c .args .step) (rowTime (c .args .t1)) ≤ c .args .step * mostTime
+most c = heights-most (c .args .t1) (c .args .step) (c .pre .0) (search needs)
+
+array-read-rise : tie.Need-array-read-rise Inv-loop μ-loop
+array-read-rise c = search needs
+
+cast-rise : tie.Need-cast-rise Inv-loop μ-loop
+cast-rise c = search needs
 
 loop-holds : tie.Need-loop-holds Inv-loop μ-loop
 unfolding sum
@@ -64,7 +71,7 @@ cast-risen-2 : tie.Need-cast-risen-2 Inv-loop μ-loop
 cast-risen-2 c = omega (arith, low c)
 
 mul-risen-2 : tie.Need-mul-risen-2 Inv-loop μ-loop
-mul-risen-2 c = omega (arith, mul-le-mul {n₁ = c .before .before .before .args .rise} {n₂ = 16383} (search needs) (low c))
+mul-risen-2 c = omega (arith, mul-le-mul {n₂ = 16383} (c .before .before .before .pre .0 .rise-fits) (low c))
 
 add-risen : tie.Need-add-risen Inv-loop μ-loop
 add-risen c =
@@ -72,7 +79,7 @@ add-risen c =
     omega (
       arith,
       turn c,
-      risen-most (at-loop .before .args .rise) (at-loop .loop .r + 1) (search needs) (omega arith),
+      risen-most (getD (at-loop .before .args .t1) 3 0) (at-loop .loop .r + 1) (at-loop .before .pre .0 .rise-fits) (omega arith),
     )
 
 add-r : tie.Need-add-r Inv-loop μ-loop
@@ -84,10 +91,14 @@ loop-less c = search needs
 loop-again : tie.Need-loop-again Inv-loop μ-loop
 loop-again c = (search needs, turn c)
 
+array-read-result : tie.Need-array-read-result Inv-loop μ-loop
+array-read-result c = search needs
+
+cast-result : tie.Need-cast-result Inv-loop μ-loop
+cast-result c = search needs
+
 mul-result : tie.Need-mul-result Inv-loop μ-loop
-mul-result c =
-    let x = c .before .before .args in
-    omega (arith, heights-risen (x .free) (x .rise) (x .step), most (c .before .before))
+mul-result c = omega (arith, same c, most (c .before .before))
 
 add-result : tie.Need-add-result Inv-loop μ-loop
 add-result c = omega (arith, same c, most (c .before .before))
@@ -101,6 +112,8 @@ heights-below-spec =
     (tie.spec
     Inv-loop
     μ-loop
+    array-read-rise
+    cast-rise
     loop-holds
     mul-risen
     element-copy-out-risen
@@ -111,6 +124,8 @@ heights-below-spec =
     add-r
     loop-less
     loop-again
+    array-read-result
+    cast-result
     mul-result
     add-result
     returns)

@@ -2,9 +2,12 @@
 use Prim.Native.Nat.{ℕ, _+_, _*_, _-_, _≤_}
 use native.Mathlib.Omega.{arith}
 use mathlib.Core.Path.{_≡_}
+use lib.ListN.{getD}
+use mir.Syntax.{w16}
+use mir.Val.{Fits}
 use borrow.Author.Needs.{needs}
-use Rattle.theory.specs.Flows.{stepTime}
 use Rattle.theory.specs.Cost.{linkCost}
+use Rattle.travel.specs.Links.{rowTime}
 use Rattle.travel.specs.Ranges.{mostTime}
 use Rattle.travel.specs.Laws.Times.{width-most}
 use Rattle.travel.specs.Laws.Costs.{treads-within, whole-most, rest-most, treads-cost, cost-of-most}
@@ -14,33 +17,46 @@ use Rattle.travel.proofs.costs.link_cost.Tie as tie
 abbrev start : tie.After-time-at → tie.Start
 start c = c .before .before .before
 
--- The width of a tread, and the cost.
+-- The capacity, the width of a tread, and the cost.
+abbrev capacity : tie.Start → ℕ
+capacity c = getD (c .args .t1) 4 0
+
+capacity-most : (c : tie.Start) → capacity c ≤ 65535
+capacity-most c = let fits : Fits w16 (capacity c) = search needs in omega arith
+
 abbrev width : tie.Start → ℕ
-width c = c .args .capacity * c .args .share
+width c = capacity c * c .args .share
 
 abbrev cost-of : tie.Start → ℕ
-cost-of c = linkCost (stepTime (c .args .free) (c .args .rise)) (c .args .capacity) (c .args .share) (c .args .flow)
+cost-of c = linkCost (rowTime (c .args .t1)) (capacity c) (c .args .share) (c .args .flow)
 
 -- The treads below the step are within 64·S.
 within : (c : tie.After-time-at) → c .before .before .step-of .result * width (start c) ≤ 64 * start c .args .flow
 within c =
     let x = start c .args in
-    treads-within (x .capacity) (x .share) (x .flow) _ (c .before .before .step-of .ensures .0)
+    treads-within (capacity (start c)) (x .share) (x .flow) _ (c .before .before .step-of .ensures .0)
 
 -- What the code adds up is the cost.
 same : (c : tie.After-time-at) →
     c .before .heights-below .result * width (start c) + c .time-at .result * (64 * start c .args .flow - c .before .before .step-of .result * width (start c)) ≡ cost-of (start c)
 same c =
     let x = start c .args in
-    treads-cost (x .capacity) (x .share) (x .flow) _ (c .before .before .step-of .ensures .0) (x .free) (x .rise) _ _ (search needs) (search needs) (c .before .heights-below .ensures .0) (c .time-at .ensures .0)
+    treads-cost (capacity (start c)) (x .share) (x .flow) _ (c .before .before .step-of .ensures .0) (rowTime (x .t1)) _ _ (start c .pre .0 .some-capacity) (search needs) (c .before .heights-below .ensures .0) (c .time-at .ensures .0)
 
 most : (c : tie.Start) → cost-of c ≤ 64 * c .args .flow * mostTime
-most c =
-    let x = c .args in
-    cost-of-most (x .free) (x .rise) (x .capacity) (x .share) (x .flow) (c .pre .0 .0) (search needs)
+most c = cost-of-most (c .args .t1) (c .args .share) (c .args .flow) (c .pre .0) (search needs)
+
+array-read-width : tie.Need-array-read-width
+array-read-width c = search needs
+
+cast-width : tie.Need-cast-width
+cast-width c = search needs
 
 mul-width : tie.Need-mul-width
-mul-width c = omega (arith, width-most (c .args .capacity) (c .args .share) (search needs) (search needs))
+mul-width c = omega (arith, width-most (capacity c) (c .args .share) (capacity-most c) (search needs))
+
+array-read-step-of : tie.Need-array-read-step-of
+array-read-step-of c = search needs
 
 step-of-requires : tie.Need-step-of-requires
 step-of-requires c κs = search needs
@@ -53,7 +69,7 @@ mul-whole c =
     let x = c .before .before .args in
     omega (
       arith,
-      whole-most (x .capacity) (x .share) (x .flow) _ (c .before .step-of .ensures .0) (c .heights-below .result) (search needs),
+      whole-most (capacity (c .before .before)) (x .share) (x .flow) _ (c .before .step-of .ensures .0) (c .heights-below .result) (search needs),
     )
 
 time-at-requires : tie.Need-time-at-requires
@@ -73,7 +89,7 @@ mul-result-3 c =
     let x = start c .args in
     omega (
       arith,
-      rest-most (x .capacity) (x .share) (x .flow) _ (c .before .before .step-of .ensures .0) (c .time-at .result) (search needs),
+      rest-most (capacity (start c)) (x .share) (x .flow) _ (c .before .before .step-of .ensures .0) (c .time-at .result) (search needs),
     )
 
 add-result : tie.Need-add-result
@@ -86,7 +102,10 @@ pub link-cost-spec : {M : Type 1} → statement M
 link-cost-spec =
     tie.close
     (tie.spec
+    array-read-width
+    cast-width
     mul-width
+    array-read-step-of
     step-of-requires
     heights-below-requires
     mul-whole

@@ -18,8 +18,20 @@ abbrev μ-loop : tie.MeasureT-loop
 loop-holds : tie.Need-loop-holds Inv-loop μ-loop
 loop-holds c = (search needs, raised-none)
 
+cast-square : tie.Need-cast-square Inv-loop μ-loop
+cast-square c = omega arith
+
+cast-square-2 : tie.Need-cast-square-2 Inv-loop μ-loop
+cast-square-2 c = omega arith
+
 mul-square : tie.Need-mul-square Inv-loop μ-loop
 mul-square c = omega (arith, square-most (c .before .loop .r) (omega arith))
+
+cast-powers : tie.Need-cast-powers Inv-loop μ-loop
+cast-powers c = omega (arith, square-most (c .before .loop .r) (omega arith))
+
+cast-powers-2 : tie.Need-cast-powers-2 Inv-loop μ-loop
+cast-powers-2 c = omega (arith, square-most (c .before .loop .r) (omega arith))
 
 mul-powers : tie.Need-mul-powers Inv-loop μ-loop
 mul-powers c = omega (arith, fourth-most (c .before .loop .r) (omega arith))
@@ -51,7 +63,11 @@ fourth-powers-spec =
     Inv-loop
     μ-loop
     loop-holds
+    cast-square
+    cast-square-2
     mul-square
+    cast-powers
+    cast-powers-2
     mul-powers
     mul-powers-2
     array-write-powers

@@ -3,6 +3,7 @@
 use Prim.Native.Nat.{_-_, _≤_}
 use native.Mathlib.Omega.{arith}
 use mathlib.Core.Path.{_≡_}
+use lib.ListN.{length}
 use borrow.Author.Needs.{needs}
 use Rattle.travel.specs.Links.{padded, listTime}
 use Rattle.travel.specs.Laws.Padded.{Filled, getD-padded, filled-none, filled-more, filled-all}
@@ -11,45 +12,31 @@ use Rattle.travel.proofs.steps.times.Statement.{statement}
 use Rattle.travel.proofs.steps.times.Tie as tie
 
 abbrev Inv-loop : tie.InvT-loop
-Inv-loop free rises capacities totals m share powers times₀ l₀ times l = (l ≤ m) × Filled l m (listTime free rises capacities share totals) times
+Inv-loop links flows share powers times₀ l₀ times l = (l ≤ length links) × Filled l (length links) (listTime links share flows) times
 
 abbrev μ-loop : tie.MeasureT-loop
-μ-loop free rises capacities totals m share powers times₀ l₀ times l = m - l
+μ-loop links flows share powers times₀ l₀ times l = length links - l
 
 loop-holds : tie.Need-loop-holds Inv-loop μ-loop
-loop-holds c = (search needs, filled-none (c .args .m) _ (c .args .times .now) (c .pre .1 .1))
+loop-holds c = (search needs, filled-none (length (c .args .links .now)) _ (c .args .times .now) (c .pre .1 .1))
 
 mul-link-time : tie.Need-mul-link-time Inv-loop μ-loop
 mul-link-time c = search needs
 
-element-copy-out-link-time : tie.Need-element-copy-out-link-time Inv-loop μ-loop
-element-copy-out-link-time c = search needs
+shared-slice-copy-out-link-time : tie.Need-shared-slice-copy-out-link-time Inv-loop μ-loop
+shared-slice-copy-out-link-time c = search needs
 
 mul-link-time-2 : tie.Need-mul-link-time-2 Inv-loop μ-loop
 mul-link-time-2 c = search needs
 
-element-copy-out-link-time-2 : tie.Need-element-copy-out-link-time-2 Inv-loop μ-loop
-element-copy-out-link-time-2 c = search needs
-
-mul-link-time-3 : tie.Need-mul-link-time-3 Inv-loop μ-loop
-mul-link-time-3 c = search needs
-
-element-copy-out-link-time-3 : tie.Need-element-copy-out-link-time-3 Inv-loop μ-loop
-element-copy-out-link-time-3 c = search needs
-
-mul-link-time-4 : tie.Need-mul-link-time-4 Inv-loop μ-loop
-mul-link-time-4 c = search needs
-
-element-copy-out-link-time-4 : tie.Need-element-copy-out-link-time-4 Inv-loop μ-loop
-element-copy-out-link-time-4 c = search needs
+element-copy-out-link-time : tie.Need-element-copy-out-link-time Inv-loop μ-loop
+element-copy-out-link-time c = search needs
 
 link-time-requires : tie.Need-link-time-requires Inv-loop μ-loop
 link-time-requires c κs =
-    let at-loop = c .before .before .before .before .before in
-    let pre = at-loop .before .pre in (
-      (pre .0 .0 .link (at-loop .loop .l) (omega arith), search needs, pre .0 .2 (at-loop .loop .l) (omega arith)),
-      pre .1 .0,
-    )
+    let at-loop = c .before .before .before in
+    let pre = at-loop .before .pre in
+    (pre .0 .0 .link (at-loop .loop .l) (omega arith), search needs, pre .0 .2 (at-loop .loop .l) (omega arith), pre .1 .0)
 
 cast-times : tie.Need-cast-times Inv-loop μ-loop
 cast-times c = search needs
@@ -69,19 +56,20 @@ loop-less c = search needs
 loop-again : tie.Need-loop-again Inv-loop μ-loop
 unfolding listTime
 loop-again c =
-    let at-loop = c .before .before .before .before .before .before in
+    let at-loop = c .before .before .before .before in
     (search needs, filled-more _ _ _ (at-loop .loop .l) _ (omega arith) (at-loop .before .pre .0 .0 .few) (at-loop .loop .inv .1) (c .link-time .ensures .0))
 
 returns : tie.Need-returns Inv-loop μ-loop
 returns c =
     let x = c .before .before .args in
-    let end : c .before .loop .l ≡ x .m = omega arith in
+    let m = length (x .links .now) in
+    let end : c .before .loop .l ≡ m = omega arith in
     let fit = c .before .before .pre .0 .0 in
-    let same : c .before .loop .times ≡ padded (x .m) (listTime (x .free .now) (x .rises .now) (x .capacities .now) (x .share) (x .totals .now)) = filled-all (x .m) _ _ (fit .few) (rw end at (c .before .loop .inv .1)) in (
+    let same : c .before .loop .times ≡ padded m (listTime (x .links .now) (x .share) (x .flows .now)) = filled-all m _ _ (fit .few) (rw end at (c .before .loop .inv .1)) in (
       same,
       rw same (record {
-        some-time = λ l p. rw (getD-padded (x .m) _ l p) (listTime-least (x .m) _ _ _ fit (x .share) _ l p);
-        times-fit = λ l p. rw (getD-padded (x .m) _ l p) (listTime-most (x .m) _ _ _ fit (x .share) _ l p);
+        some-time = λ l p. rw (getD-padded m _ l p) (listTime-least _ fit (x .share) _ l p);
+        times-fit = λ l p. rw (getD-padded m _ l p) (listTime-most _ fit (x .share) _ l p);
       }),
     )
 
@@ -93,13 +81,9 @@ times-spec =
     μ-loop
     loop-holds
     mul-link-time
-    element-copy-out-link-time
+    shared-slice-copy-out-link-time
     mul-link-time-2
-    element-copy-out-link-time-2
-    mul-link-time-3
-    element-copy-out-link-time-3
-    mul-link-time-4
-    element-copy-out-link-time-4
+    element-copy-out-link-time
     link-time-requires
     cast-times
     mul-times

@@ -1,0 +1,78 @@
+-- A least-time search, as the marks of the nodes stand in a list. A node is scanned: each link into it is relaxed, which lowers its tail's
+-- mark to the link's time plus the node's mark, where that is less.
+use Prim.Native.Nat.{ℕ, _+_, _-_, _*_, _≤_, _<_, min}
+use mathlib.Core.Path.{_≡_}
+use mathlib.Core.Bool.{cond}
+use mathlib.Core.List.{List}
+use mathlib.Core.Option.{Option, none, some}
+use lib.ListN.{length, getD, set, replicate}
+use lib.Dec.{ltb}
+use Rattle.theory.specs.Finite.{sum}
+use Rattle.theory.specs.Study.{tail, head}
+use Rattle.search.specs.Search.{unreached}
+use Rattle.search.specs.Given.{longest}
+use Rattle.search.specs.Chains.{Passed}
+
+-- What a search sets out from: all of up to 128 nodes are marked unreached.
+unfoldable pub allUnreached : List ℕ
+allUnreached = replicate 128 unreached
+
+-- The distance that a mark stands for.
+unfoldable pub distanceOf : ℕ → Option ℕ
+distanceOf x = cond (ltb x unreached) (some x) none
+
+-- The sum of all marks.
+unfoldable pub total : List ℕ → ℕ
+total d = sum 128 (λ j. getD d j 0)
+
+-- 1 for a mark that is reached.
+abbrev pub reach : ℕ → ℕ
+reach x = min 1 (unreached - x)
+
+-- How many nodes are reached.
+unfoldable pub reached : List ℕ → ℕ
+reached d = sum 128 (λ j. reach (getD d j 0))
+
+-- The marks after a link out of node t is relaxed, whose head has the mark `ahead`.
+unfoldable pub relaxed : List ℕ → ℕ → ℕ → ℕ → List ℕ
+relaxed d t ahead time = cond (ltb (time + ahead) (getD d t 0)) (set d t (time + ahead)) d
+
+module _ (nodes : ℕ) (links : List (List ℕ)) (times : List ℕ) where
+  -- A node's mark is at least what a link out of it gives, and that link's head is reached.
+  pub record Attained (d : List ℕ) (j : ℕ) : Type 0 where
+    pub link : ℕ
+    pub below : link < length links
+    pub leaves : tail links link ≡ j
+    pub head-reached : getD d (head links link) 0 < unreached
+    pub at-least : getD times link 0 + getD d (head links link) 0 ≤ getD d j 0
+
+  -- The marks of a search under way.
+  pub record Searching (s : ℕ) (d : List ℕ) : Type 0 where
+    pub size : length d ≡ 128
+    pub destination : getD d s 0 ≡ 0
+    pub marked : (j : ℕ) → j < 128 → getD d j 0 ≤ unreached
+    pub outside : (j : ℕ) → nodes ≤ j → j < 128 → getD d j 0 ≡ unreached
+    pub attained : (j : ℕ) → j < nodes → (j ≡ s → ⊥) → getD d j 0 < unreached → Attained d j
+    -- a reached mark is at most the longest time for each other node that is reached
+    pub bounded : (j : ℕ) → j < 128 → getD d j 0 < unreached → getD d j 0 + longest ≤ longest * reached d
+
+  -- No link into node k that is passed gives its tail less than its mark; the scan began with the marks d₀.
+  pub record Scanning (s k : ℕ) (d₀ d : List ℕ) (l : ℕ) : Type 0 where
+    pub searching : Searching s d
+    pub no-more : (j : ℕ) → getD d j 0 ≤ getD d₀ j 0
+    pub kept : getD d k 0 ≡ getD d₀ k 0
+    pub settled : Passed links 1 k (λ i. getD d (tail links i) 0 ≤ getD times i 0 + getD d k 0) l
+
+  -- After the scan of node k, none does.
+  pub record Scanned (s k : ℕ) (d₀ d : List ℕ) : Type 0 where
+    pub searching : Searching s d
+    pub no-more : (j : ℕ) → getD d j 0 ≤ getD d₀ j 0
+    pub kept : getD d k 0 ≡ getD d₀ k 0
+    pub settled : (l : ℕ) → l < length links → head links l ≡ k → getD d (tail links l) 0 ≤ getD times l 0 + getD d k 0
+
+  -- The marks d of a search, and the marks p that the nodes had when they were last scanned.
+  pub record Scans (s : ℕ) (d p : List ℕ) : Type 0 where
+    pub searching : Searching s d
+    pub size : length p ≡ 128
+    pub above : (j : ℕ) → j < 128 → getD d j 0 ≤ getD p j 0
+    pub settled : (l : ℕ) → l < length links → getD d (tail links l) 0 ≤ getD times l 0 + getD p (head links l) 0

@@ -1,0 +1,72 @@
+//! The calls of an earlier build, whose static library ILSTROVAN_BEFORE names.
+//! `build.rs` renames what it exports: `ilstrovan_run` is `before_run`.
+
+use std::hint::black_box;
+
+unsafe extern "C" {
+    fn before_check(file: *const u8, file_length: usize) -> u8;
+    fn before_pass(
+        file: *const u8,
+        file_length: usize,
+        table: *mut u32,
+        table_length: usize,
+        share: u32,
+        answer: *mut [u64; 4],
+    ) -> u8;
+    fn before_run(
+        file: *const u8,
+        file_length: usize,
+        table: *mut u32,
+        table_length: usize,
+        budget: u32,
+        excess: u16,
+        answer: *mut [u64; 5],
+    ) -> u8;
+    fn before_audit(
+        file: *const u8,
+        file_length: usize,
+        table: *const u32,
+        table_length: usize,
+        share: u32,
+        answer: *mut [u64; 2],
+    ) -> u8;
+}
+
+pub fn check(file: &[u8]) {
+    // SAFETY: pointer and length are those of a slice.
+    black_box(unsafe { before_check(file.as_ptr(), file.len()) });
+}
+
+pub fn pass(file: &[u8], table: &mut [u32], share: u32) {
+    let mut answer = [0; 4];
+    let (bytes, size) = (file.as_ptr(), file.len());
+    // SAFETY: pointers and lengths are those of slices, and the answer has four numbers.
+    unsafe {
+        before_pass(
+            bytes,
+            size,
+            table.as_mut_ptr(),
+            table.len(),
+            share,
+            &mut answer,
+        )
+    };
+    black_box(answer);
+}
+
+pub fn run(file: &[u8], table: &mut [u32], budget: u32, excess: u16) {
+    let mut answer = [0; 5];
+    let (bytes, size) = (file.as_ptr(), file.len());
+    let (flows, length) = (table.as_mut_ptr(), table.len());
+    // SAFETY: as in `pass`, and the answer has five numbers.
+    unsafe { before_run(bytes, size, flows, length, budget, excess, &mut answer) };
+    black_box(answer);
+}
+
+pub fn audit(file: &[u8], table: &[u32], share: u32) {
+    let mut answer = [0; 2];
+    let (bytes, size) = (file.as_ptr(), file.len());
+    // SAFETY: as in `pass`, and the answer has two numbers.
+    unsafe { before_audit(bytes, size, table.as_ptr(), table.len(), share, &mut answer) };
+    black_box(answer);
+}
