@@ -24,6 +24,14 @@ pub fn decode(
     ensures { λ r. ⌜ Decoded (now (file .entry)) r (now (links .exit)) (now (destinations .exit)) (now (trips .exit)) ⌝ }
 {
     let refusal = study::refusal(file);
+    if refusal != 0 {
+        return Opening {
+            refusal,
+            nodes: 0,
+            links: 0,
+            destinations: 0,
+        };
+    }
     let n = study::node_count(file);
     let m = study::link_count(file);
     let p = study::destination_count(file);

@@ -150,6 +150,17 @@ decoded file opening {linkBytes} {destinationBytes} {tripBytes} {linkArray} {nod
       entries-held = held-front 4096 (opening .destinations * opening .nodes) t-held (entries-length tripBytes (opening .nodes) (opening .destinations)) ∙ rw (t-are, known .nodes-are, known .destinations-are);
     }
 
+-- A refused file counts nothing, so every array holds what it has.
+pub decoded-refused :
+    (file : List ℕ) (number : ℕ) {linkArray : List (List ℕ)} {nodeArray entryArray : List ℕ} → number ≡ refusal file → (number ≡ 0 → ⊥) →
+    (length linkArray ≡ 512) × (length nodeArray ≡ 32) × (length entryArray ≡ 4096) →
+    Decoded file (record { refusal = number; nodes = 0; links = 0; destinations = 0 }) linkArray nodeArray entryArray
+unfolding linkRowsIn nodesIn entriesIn tabulate rows
+decoded-refused file number number-is refused (links-long, nodes-long, entries-long) =
+    let no : refusal file ≡ 0 → ⊥ = λ e. refused (number-is ∙ e) in
+    decoded file _ number-is (counts file (sym (nodes-refused file no)) (sym (links-refused file no)) (sym (destinations-refused file no))) refl refl refl
+    (holds-none 512 links-long) (holds-none 32 nodes-long) (holds-none 4096 entries-long)
+
 -- What decoding leaves is lent on in parts: the places are there, each part has its count, and together they are a study of allowed size.
 module _ {file : List ℕ} {opening : Opening} {linkArray : List (List ℕ)} {nodeArray entryArray : List ℕ} (d : Decoded file opening linkArray nodeArray entryArray) where
   pub decoded-counts : Counts file (opening .nodes) (opening .links) (opening .destinations)

@@ -2,12 +2,15 @@
 use borrow.Author.Needs.{needs}
 use denote.Ref.{now}
 use Rattle.network.specs.Decoded.{Counts}
-use Rattle.network.specs.Laws.Decoding.{counts, entries-fit, links-there, destinations-there, trips-there, decoded}
+use Rattle.network.specs.Laws.Decoding.{counts, entries-fit, links-there, destinations-there, trips-there, decoded, decoded-refused}
 use Rattle.network.proofs.decoding.decode.Statement.{statement}
 use Rattle.network.proofs.decoding.decode.Tie as tie
 
 refusal-requires : tie.Need-refusal-requires
 refusal-requires c κs = search needs
+
+returns : tie.Need-returns
+returns c = decoded-refused _ _ (c .before .refusal .ensures) (c .if1 .taken) (c .before .before .before .pre)
 
 node-count-requires : tie.Need-node-count-requires
 node-count-requires c κs = search needs
@@ -20,7 +23,7 @@ destination-count-requires c κs = search needs
 
 -- From where the counts are known back to the entry.
 abbrev start : tie.After-destination-count → tie.Start
-start c = c .before .before .before .before .before
+start c = c .before .before .before .before .before .before
 
 -- The counts of the file.
 counted : (c : tie.After-destination-count) → Counts (now (start c .args .file)) (c .before .before .node-count .result) (c .before .link-count .result) (c .destination-count .result)
@@ -53,11 +56,11 @@ decode-trips-requires c κs =
     let after = parted .before .before .before in
     (entries-fit (counted after .nodes-most) (counted after .destinations-most), trips-there (counted after) (parted .trips .ensures), start after .pre .2)
 
-returns : tie.Need-returns
-returns c =
+returns-2 : tie.Need-returns-2
+returns-2 c =
     let parted = c .before .before .before .before .before .before in
     let after = parted .before .before .before in
-    decoded _ _ (after .before .before .before .refusal .ensures) (counted after) (parted .before .before .links .ensures)
+    decoded _ _ (after .before .before .before .before .refusal .ensures) (counted after) (parted .before .before .links .ensures)
     (parted .before .destinations .ensures) (parted .trips .ensures) (c .before .before .before .before .decode-links .ensures)
     (c .before .before .decode-destinations .ensures) (c .decode-trips .ensures)
 
@@ -66,6 +69,7 @@ decode-spec =
     tie.close
     (tie.spec
     refusal-requires
+    returns
     node-count-requires
     link-count-requires
     destination-count-requires
@@ -75,4 +79,4 @@ decode-spec =
     decode-links-requires
     decode-destinations-requires
     decode-trips-requires
-    returns)
+    returns-2)
