@@ -17,11 +17,10 @@ fn head_of(links: &[[u16; 5]], l: u16) -> usize
     index(links[index(l)][HEAD])
 }
 
-// How many next links lead to each node.
-fn counts_into(nodes: usize, links: &[[u16; 5]], next: &[u16; 128]) -> [u16; 128]
+// Counts how many next links lead to each node.
+fn count_into(counts: &mut [u16; 128], nodes: usize, links: &[[u16; 5]], next: &[u16; 128])
     requires { ⌜ Followable nodes (now links) (now next) ⌝ }
 {
-    let mut counts = [0u16; 128];
     let mut j: usize = 0;
     while j < nodes {
         let l = next[j];
@@ -31,7 +30,6 @@ fn counts_into(nodes: usize, links: &[[u16; 5]], next: &[u16; 128]) -> [u16; 128
         }
         j += 1;
     }
-    counts
 }
 
 // 1 where nothing is counted, and 0 otherwise.
@@ -96,7 +94,8 @@ fn send_in_order(
     requires { ⌜ Sending nodes (now links) (now next) (now waiting) (now volumes) ⌝ }
     ensures { λ _. ⌜ Sent nodes (now (links .entry)) (now (next .entry)) (now (waiting .entry)) (now (volumes .entry)) (now (waiting .exit)) (now (volumes .exit)) ⌝ }
 {
-    let mut counts = counts_into(nodes, links, next);
+    let mut counts = [0u16; 128];
+    count_into(&mut counts, nodes, links, next);
     let mut order = [0u16; 128];
     let mut joined = begin_order(nodes, &counts, &mut order);
     let mut turn: usize = 0;

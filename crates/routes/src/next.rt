@@ -25,17 +25,15 @@ fn low(x: u32) -> u16
 }
 
 // The last 16 bits of the marks of the nodes.
-fn low_marks(nodes: usize, marks: &[[u32; 8]; 128]) -> [[u16; 8]; 128]
-    requires { ⌜ nodes ≤ 128 ⌝ }
-    ensures { λ r. ⌜ Lows nodes (now (marks .entry)) r ⌝ }
+fn put_lows(lows: &mut [[u16; 8]; 128], nodes: usize, marks: &[[u32; 8]; 128])
+    requires { ⌜ (nodes ≤ 128) × (length (now lows) ≡ 128) ⌝ }
+    ensures { λ _. ⌜ Lows nodes (now (marks .entry)) (now (lows .exit)) ⌝ }
 {
-    let mut lows = [[0u16; 8]; 128];
     let mut j: usize = 0;
     while j < nodes {
         lows[j] = low_row(marks[j]);
         j += 1;
     }
-    lows
 }
 
 // The last 16 bits of eight marks.
@@ -176,7 +174,8 @@ fn put_group(
     requires { ⌜ (first ≤ past) × (past ≤ first + 8) × (past ≤ 32) ⌝ }
     ensures { λ _. ⌜ GroupPut nodes (now (links .entry)) (now (times .entry)) (now (group .entry)) (now (table .entry)) first past (now (table .exit)) ⌝ }
 {
-    let lows = low_marks(nodes, marks);
+    let mut lows = [[0u16; 8]; 128];
+    put_lows(&mut lows, nodes, marks);
     let mut j: usize = 0;
     while j < nodes {
         put_node(

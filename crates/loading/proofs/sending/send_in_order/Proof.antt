@@ -16,15 +16,15 @@ Inv-loop waiting₀ volumes₀ nodes links next counts₀ order₀ joined₀ tur
 abbrev μ-loop : tie.MeasureT-loop
 μ-loop waiting₀ volumes₀ nodes links next counts₀ order₀ joined₀ turn₀ waiting volumes counts order joined turn = 128 - turn
 
-counts-into-requires : tie.Need-counts-into-requires Inv-loop μ-loop
-counts-into-requires c κs = c .pre .0
+count-into-requires : tie.Need-count-into-requires Inv-loop μ-loop
+count-into-requires c κs = c .before .pre .0
 
 begin-order-requires : tie.Need-begin-order-requires Inv-loop μ-loop
 unfolding allZero
-begin-order-requires c κs = (c .before .before .before .pre .0 .few-nodes, nodes-begin _)
+begin-order-requires c κs = (c .before .before .before .before .pre .0 .few-nodes, nodes-begin _)
 
 loop-holds : tie.Need-loop-holds Inv-loop μ-loop
-loop-holds c = let given = c .before .before .before .before .pre in
+loop-holds c = let given = c .before .before .before .before .before .pre in
     (omega (arith, given .0 .few-nodes, c .begin-order .ensures .0), omega (arith, c .begin-order .ensures .0), c .begin-order .ensures .1, sent-none (given .1))
 
 mul-index : tie.Need-mul-index Inv-loop μ-loop
@@ -38,7 +38,7 @@ index-requires c κs = search needs
 
 -- The beginning, and what stands in the order is a node.
 abbrev start : tie.After-index Inv-loop μ-loop → tie.Start Inv-loop μ-loop
-start c = c .before .before .before .before .before .before .before
+start c = c .before .before .before .before .before .before .before .before
 
 node-at : (c : tie.After-index Inv-loop μ-loop) → c .index .result < start c .args .nodes
 node-at c =
@@ -100,7 +100,7 @@ send-in-order-spec =
     (tie.spec
     Inv-loop
     μ-loop
-    counts-into-requires
+    count-into-requires
     begin-order-requires
     loop-holds
     mul-index

@@ -1,6 +1,7 @@
 -- `next::put_group` meets its contract. The loop's invariant: the next links of the nodes below `j` are written. The measure is what is left of the
 -- nodes.
 use Prim.Native.Nat.{_-_, _≤_}
+use mathlib.Core.Path.{refl}
 use native.Mathlib.Omega.{arith}
 use borrow.Author.Needs.{needs}
 use Rattle.routes.specs.Laws.Table.{Putting, put-none, put-more, put-all}
@@ -16,12 +17,12 @@ abbrev μ-loop : tie.MeasureT-loop
 few-nodes : (c : tie.Start Inv-loop μ-loop) → c .args .nodes ≤ 128
 few-nodes c = c .pre .0 .0 0 (omega arith) .roads .few-nodes
 
-low-marks-requires : tie.Need-low-marks-requires Inv-loop μ-loop
-low-marks-requires c κs = few-nodes c
+put-lows-requires : tie.Need-put-lows-requires Inv-loop μ-loop
+put-lows-requires c κs = (few-nodes (c .before), refl)
 
 loop-holds : tie.Need-loop-holds Inv-loop μ-loop
 loop-holds c =
-    let start = c .before in
+    let start = c .before .before in
     let given = start .pre in
     (search needs, put-none (start .args .group .now) (given .0 .0) (given .1 .0 .1) (given .1 .0 .2))
 
@@ -29,8 +30,8 @@ put-node-requires : tie.Need-put-node-requires Inv-loop μ-loop
 put-node-requires c κs =
     let turn = c .before .before .before in
     let after-lows = turn .before in
-    let given = after-lows .before .pre in
-    (given .0, ((given .1 .0 .0, after-lows .low-marks .ensures, c .before .before .loop-test .taken), (given .1 .1 .0, given .1 .1 .1, given .1 .1 .2, turn .loop .inv .1 .size)))
+    let given = after-lows .before .before .pre in
+    (given .0, ((given .1 .0 .0, after-lows .put-lows .ensures, c .before .before .loop-test .taken), (given .1 .1 .0, given .1 .1 .1, given .1 .1 .2, turn .loop .inv .1 .size)))
 
 add-j : tie.Need-add-j Inv-loop μ-loop
 add-j c = search needs
@@ -41,12 +42,12 @@ loop-less c = search needs
 loop-again : tie.Need-loop-again Inv-loop μ-loop
 loop-again c =
     let turn = c .before .before .before .before in
-    let start = turn .before .before in
+    let start = turn .before .before .before in
     (search needs, put-more (start .args .group .now) (start .pre .0 .0) (turn .loop .inv .1) (omega (arith, few-nodes start, c .before .before .before .loop-test .taken)) (c .put-node .ensures))
 
 returns : tie.Need-returns Inv-loop μ-loop
 returns c =
-    let start = c .before .before .before in
+    let start = c .before .before .before .before in
     put-all (start .args .group .now) (start .pre .0 .0) (c .before .loop .inv .1) (start .pre .1 .1 .1) (omega arith)
 
 pub put-group-spec : {M : Type 1} → statement M
@@ -55,7 +56,7 @@ put-group-spec =
     (tie.spec
     Inv-loop
     μ-loop
-    low-marks-requires
+    put-lows-requires
     loop-holds
     put-node-requires
     add-j

@@ -1,16 +1,16 @@
--- `counts_into` is safe and ends. The measure is what is left of the nodes.
+-- `count_into` is safe and ends. The measure is what is left of the nodes.
 use Prim.Native.Nat.{_-_, _≤_, _<_}
 use native.Mathlib.Omega.{arith}
 use borrow.Author.Needs.{needs}
 use Rattle.loading.specs.Laws.Leaves.{head-few}
-use Rattle.loading.proofs.sending.counts_into.Statement.{statement}
-use Rattle.loading.proofs.sending.counts_into.Tie as tie
+use Rattle.loading.proofs.sending.count_into.Statement.{statement}
+use Rattle.loading.proofs.sending.count_into.Tie as tie
 
 abbrev Inv-loop : tie.InvT-loop
-Inv-loop nodes links next counts₀ j₀ counts j = j ≤ nodes
+Inv-loop counts₀ nodes links next j₀ counts j = j ≤ nodes
 
 abbrev μ-loop : tie.MeasureT-loop
-μ-loop nodes links next counts₀ j₀ counts j = nodes - j
+μ-loop counts₀ nodes links next j₀ counts j = nodes - j
 
 loop-holds : tie.Need-loop-holds Inv-loop μ-loop
 loop-holds c = search needs
@@ -34,17 +34,17 @@ head-node c =
 mul-wrapping-add-u16 : tie.Need-mul-wrapping-add-u16 Inv-loop μ-loop
 mul-wrapping-add-u16 c = omega (arith, head-node c)
 
-array-read-wrapping-add-u16 : tie.Need-array-read-wrapping-add-u16 Inv-loop μ-loop
-array-read-wrapping-add-u16 c = head-node c
+element-copy-out-wrapping-add-u16 : tie.Need-element-copy-out-wrapping-add-u16 Inv-loop μ-loop
+element-copy-out-wrapping-add-u16 c = head-node c
 
 wrapping-add-u16-requires : tie.Need-wrapping-add-u16-requires Inv-loop μ-loop
 wrapping-add-u16-requires c κs = search needs
 
 mul-counts : tie.Need-mul-counts Inv-loop μ-loop
-mul-counts c = omega (arith, head-node (c .before))
+mul-counts c = omega (arith, head-node (c .before .before))
 
-array-write-counts : tie.Need-array-write-counts Inv-loop μ-loop
-array-write-counts c = head-node (c .before)
+element-write-counts : tie.Need-element-write-counts Inv-loop μ-loop
+element-write-counts c = head-node (c .before .before)
 
 add-j : tie.Need-add-j Inv-loop μ-loop
 add-j c = search needs
@@ -58,8 +58,8 @@ loop-again c = search needs
 returns : tie.Need-returns Inv-loop μ-loop
 returns c = search needs
 
-pub counts-into-spec : {M : Type 1} → statement M
-counts-into-spec =
+pub count-into-spec : {M : Type 1} → statement M
+count-into-spec =
     tie.close
     (tie.spec
     Inv-loop
@@ -69,10 +69,10 @@ counts-into-spec =
     element-copy-out-l
     head-of-requires
     mul-wrapping-add-u16
-    array-read-wrapping-add-u16
+    element-copy-out-wrapping-add-u16
     wrapping-add-u16-requires
     mul-counts
-    array-write-counts
+    element-write-counts
     add-j
     loop-less
     loop-again

@@ -1,4 +1,4 @@
--- `next::low_marks` meets its contract. The loop's invariant: the last 16 bits of the marks of the nodes below `j` are taken. The measure is what
+-- `next::put_lows` meets its contract. The loop's invariant: the last 16 bits of the marks of the nodes below `j` are taken. The measure is what
 -- is left of the nodes.
 use Prim.Native.Nat.{_-_, _≤_}
 use mathlib.Core.Path.{_≡_, refl}
@@ -6,17 +6,17 @@ use native.Mathlib.Omega.{arith}
 use borrow.Author.Needs.{needs}
 use Rattle.routes.specs.Next.{Lows}
 use Rattle.routes.specs.Laws.Candidates.{lows-none, lows-more}
-use Rattle.routes.proofs.next.low_marks.Statement.{statement}
-use Rattle.routes.proofs.next.low_marks.Tie as tie
+use Rattle.routes.proofs.next.put_lows.Statement.{statement}
+use Rattle.routes.proofs.next.put_lows.Tie as tie
 
 abbrev Inv-loop : tie.InvT-loop
-Inv-loop nodes marks lows₀ j₀ lows j = (j ≤ nodes) × Lows j marks lows
+Inv-loop lows₀ nodes marks j₀ lows j = (j ≤ nodes) × Lows j marks lows
 
 abbrev μ-loop : tie.MeasureT-loop
-μ-loop nodes marks lows₀ j₀ lows j = nodes - j
+μ-loop lows₀ nodes marks j₀ lows j = nodes - j
 
 loop-holds : tie.Need-loop-holds Inv-loop μ-loop
-loop-holds c = (search needs, lows-none refl)
+loop-holds c = (search needs, lows-none (c .pre .1))
 
 mul-low-row : tie.Need-mul-low-row Inv-loop μ-loop
 mul-low-row c = search needs
@@ -27,11 +27,11 @@ element-copy-out-low-row c = search needs
 low-row-requires : tie.Need-low-row-requires Inv-loop μ-loop
 low-row-requires c κs = search needs
 
-mul-lows : tie.Need-mul-lows Inv-loop μ-loop
-mul-lows c = search needs
+mul-t11 : tie.Need-mul-t11 Inv-loop μ-loop
+mul-t11 c = search needs
 
-array-set-from-lows : tie.Need-array-set-from-lows Inv-loop μ-loop
-array-set-from-lows c = search needs
+element-set-from-lows : tie.Need-element-set-from-lows Inv-loop μ-loop
+element-set-from-lows c = search needs
 
 add-j : tie.Need-add-j Inv-loop μ-loop
 add-j c = search needs
@@ -45,8 +45,8 @@ loop-again c = (search needs, lows-more (c .low-row .result) (omega arith) (c .l
 returns : tie.Need-returns Inv-loop μ-loop
 returns c = let all : c .before .loop .j ≡ c .before .before .args .nodes = omega arith in rw all at (c .before .loop .inv .1)
 
-pub low-marks-spec : {M : Type 1} → statement M
-low-marks-spec =
+pub put-lows-spec : {M : Type 1} → statement M
+put-lows-spec =
     tie.close
     (tie.spec
     Inv-loop
@@ -55,8 +55,8 @@ low-marks-spec =
     mul-low-row
     element-copy-out-low-row
     low-row-requires
-    mul-lows
-    array-set-from-lows
+    mul-t11
+    element-set-from-lows
     add-j
     loop-less
     loop-again
