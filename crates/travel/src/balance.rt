@@ -19,8 +19,10 @@ pub fn row_balances(
     requires { ⌜ RowFits nodes (now links) (now trips) (now row) × (share ≤ 1024) ⌝ }
     ensures { λ r. ⌜ r ≡ rowBalances nodes (now (links .entry)) destination (now (trips .entry)) share (now (row .entry)) ⌝ }
 {
-    let out = sums_at(links, TAIL, row);
-    let into = sums_at(links, HEAD, row);
+    let mut out = [0; 128];
+    let mut into = [0; 128];
+    add_at(&mut out, links, TAIL, row);
+    add_at(&mut into, links, HEAD, row);
     let mut j = 0;
     while j < nodes {
         if j != destination {
@@ -34,17 +36,15 @@ pub fn row_balances(
     true
 }
 
-// The flow at each node: of the links whose end (tail or head) it is.
-fn sums_at(links: &[[u16; 5]], end: usize, row: &[u32]) -> [u64; 128]
-    requires { ⌜ EndsFit (now links) end × (length (now row) ≡ length (now links)) ⌝ }
-    ensures { λ r. ⌜ SumsAt (length (now (links .entry))) (now (links .entry)) end (now (row .entry)) r ⌝ }
+// Adds to sums that are 0, at each node, the flow of the links whose end (tail or head) it is.
+fn add_at(sums: &mut [u64; 128], links: &[[u16; 5]], end: usize, row: &[u32])
+    requires { ⌜ EndsFit (now links) end × (length (now row) ≡ length (now links)) × SumsAt 0 (now links) end (now row) (now sums) ⌝ }
+    ensures { λ _. ⌜ SumsAt (length (now (links .entry))) (now (links .entry)) end (now (row .entry)) (now (sums .exit)) ⌝ }
 {
-    let mut sums = [0u64; 128];
     let mut l = 0;
     while l < links.len() {
         let node = links[l][end] as usize;
         sums[node] += row[l] as u64;
         l += 1;
     }
-    sums
 }

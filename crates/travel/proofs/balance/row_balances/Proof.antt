@@ -1,16 +1,17 @@
 -- `row_balances` meets its contract. The invariant: the nodes passed balance. The measure is what is left of the nodes.
 -- Assumes nothing.
-use Prim.Native.Nat.{_*_, _-_, _≤_, _<_}
+use Prim.Native.Nat.{ℕ, _*_, _-_, _≤_, _<_}
 use native.Mathlib.Nat.{mul-le-mul}
 use native.Mathlib.Omega.{arith}
+use mathlib.Core.List.{List}
 use mathlib.Core.Path.{_≡_, sym}
 use mathlib.Core.Bool.{true}
 use mathlib.Core.Logic.{⊎-elim}
 use lib.ListN.{length, getD}
 use borrow.Author.Needs.{needs}
 use Rattle.travel.specs.Links.{rowBalances}
-use Rattle.travel.specs.Ranges.{mostFlow}
-use Rattle.travel.specs.Laws.Sums.{sums-most}
+use Rattle.travel.specs.Ranges.{mostFlow, SumsAt}
+use Rattle.travel.specs.Laws.Sums.{sums-none, sums-most}
 use Rattle.travel.specs.Laws.Balance.{balances-none, balances-there, balances-more, balances-fails}
 use Rattle.travel.proofs.balance.row_balances.Statement.{statement}
 use Rattle.travel.proofs.balance.row_balances.Tie as tie
@@ -22,7 +23,7 @@ abbrev μ-loop : tie.MeasureT-loop
 μ-loop nodes links destination trips row share out into j₀ j = nodes - j
 
 abbrev start : tie.At-loop Inv-loop μ-loop → tie.Start Inv-loop μ-loop
-start c = c .before .before .before .before .before
+start c = c .before .before .before .before .before .before .before
 
 -- D(j,s), W × D(j,s), and the flow into a node.
 trips-most : (c : tie.After-shared-slice-known3 Inv-loop μ-loop) →
@@ -33,25 +34,27 @@ sent-most : (c : tie.After-shared-slice-known3 Inv-loop μ-loop) →
     start (c .before .before .before) .args .share * getD (start (c .before .before .before) .args .trips .now) (c .before .before .before .loop .j) 0 ≤ mostFlow
 sent-most c = mul-le-mul {n₂ = 1024} (search needs) (trips-most c)
 
-into-most : (c : tie.At-loop Inv-loop μ-loop) → c .loop .j < 128 → getD (c .before .sums-at2 .result) (c .loop .j) 0 ≤ 512 * 4294967295
-into-most c p =
+into-most : (c : tie.At-loop Inv-loop μ-loop) {sums : List ℕ} →
+    SumsAt (length (start c .args .links .now)) (start c .args .links .now) 1 (start c .args .row .now) sums → c .loop .j < 128 →
+    getD sums (c .loop .j) 0 ≤ 512 * 4294967295
+into-most c ins p =
     let x = start c .args in
-    let row-most = c .before .before .before .shared-slice-known2 .given in
+    let row-most = c .before .before .before .before .before .shared-slice-known2 .given in
     omega (
       arith,
-      c .before .sums-at2 .ensures .at (c .loop .j) p,
+      ins .at (c .loop .j) p,
       sums-most (x .links .now) 1 (x .row .now) (length (x .links .now)) 4294967295 (c .loop .j) (λ i. omega (arith, row-most i)),
     )
 
-sums-at-requires : tie.Need-sums-at-requires Inv-loop μ-loop
-sums-at-requires c κs =
-    let fit = c .before .before .pre .0 in
-    (record { is-end = omega arith; few-links = fit .few-links; end-node = λ l p. omega (arith, fit .tail-node l p) }, fit .row-long)
-
-sums-at-requires-2 : tie.Need-sums-at-requires-2 Inv-loop μ-loop
-sums-at-requires-2 c κs =
+add-at-requires : tie.Need-add-at-requires Inv-loop μ-loop
+add-at-requires c κs =
     let fit = c .before .before .before .pre .0 in
-    (record { is-end = omega arith; few-links = fit .few-links; end-node = λ l p. omega (arith, fit .head-node l p) }, fit .row-long)
+    (record { is-end = omega arith; few-links = fit .few-links; end-node = λ l p. omega (arith, fit .tail-node l p) }, fit .row-long, sums-none _ _ _)
+
+add-at-requires-2 : tie.Need-add-at-requires-2 Inv-loop μ-loop
+add-at-requires-2 c κs =
+    let fit = c .before .before .before .before .before .pre .0 in
+    (record { is-end = omega arith; few-links = fit .few-links; end-node = λ l p. omega (arith, fit .head-node l p) }, fit .row-long, sums-none _ _ _)
 
 loop-holds : tie.Need-loop-holds Inv-loop μ-loop
 loop-holds c = (search needs, balances-none _ _ _ _ _)
@@ -81,13 +84,14 @@ array-read-if2-2 : tie.Need-array-read-if2-2 Inv-loop μ-loop
 array-read-if2-2 c = search needs
 
 add-if2 : tie.Need-add-if2 Inv-loop μ-loop
-add-if2 c = omega (arith, sent-most c, trips-most c, into-most (c .before .before .before) (omega arith))
+add-if2 c = let at-loop = c .before .before .before in
+    omega (arith, sent-most c, trips-most c, into-most at-loop (at-loop .before .add-at2 .ensures) (omega arith))
 
 returns : tie.Need-returns Inv-loop μ-loop
 returns c =
     let at-loop = c .before .before .before .before in
-    let outs = at-loop .before .before .sums-at .ensures in
-    let ins = at-loop .before .sums-at2 .ensures in
+    let outs = at-loop .before .before .before .add-at .ensures in
+    let ins = at-loop .before .add-at2 .ensures in
     sym (balances-fails _ _ _ _ _ _ _ outs ins (at-loop .loop .j) (omega arith) _ (omega arith) (c .before .before .if1 .taken) (c .if2 .taken))
 
 add-j : tie.Need-add-j Inv-loop μ-loop
@@ -99,8 +103,8 @@ loop-less c = search needs
 loop-again : tie.Need-loop-again Inv-loop μ-loop
 loop-again c =
     let at-loop = c .before .before in
-    let outs = at-loop .before .before .sums-at .ensures in
-    let ins = at-loop .before .sums-at2 .ensures in
+    let outs = at-loop .before .before .before .add-at .ensures in
+    let ins = at-loop .before .add-at2 .ensures in
     let so-far = at-loop .loop .inv .1 in (
       search needs,
       ⊎-elim (λ w. balances-more _ _ _ _ _ _ _ outs ins (at-loop .loop .j) (omega arith) so-far (w .2 .left)) (λ w. balances-there _ _ _ _ _ (at-loop .loop .j) so-far (w .left)) (c .if1 .came),
@@ -117,8 +121,8 @@ row-balances-spec =
     (tie.spec
     Inv-loop
     μ-loop
-    sums-at-requires
-    sums-at-requires-2
+    add-at-requires
+    add-at-requires-2
     loop-holds
     mul-sent
     shared-slice-read-sent
