@@ -66,13 +66,13 @@ pub record RowFits (nodes : ℕ) (links : List (List ℕ)) (trips row : List ℕ
   pub trips-long : length trips ≡ nodes
   pub row-long : length row ≡ length links
 
--- One end of each link: 0 is the tail and 1 the head.
-pub record EndsFit (links : List (List ℕ)) (end : ℕ) : Type 0 where
-  pub is-end : end ≤ 1
+-- At most 512 links, whose ends are nodes of at most 128.
+pub record EndsFit (links : List (List ℕ)) : Type 0 where
   pub few-links : length links ≤ 512
-  pub end-node : (l : ℕ) → l < length links → column end links l < 128
+  pub tail-node : (l : ℕ) → l < length links → tail links l < 128
+  pub head-node : (l : ℕ) → l < length links → head links l < 128
 
--- The sums of a row's flows by node: over those of the first m links whose end is that node.
+-- The sums of a row's flows by node: over those of the first m links whose end is that node. End 0 is the tail and 1 the head.
 pub record SumsAt (m : ℕ) (links : List (List ℕ)) (end : ℕ) (row sums : List ℕ) : Type 0 where
   pub size : length sums ≡ 128
   pub at : (j : ℕ) → j < 128 → getD sums j 0 ≡ sumAt m (column end links) j (λ l. getD row l 0)

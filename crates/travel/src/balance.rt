@@ -21,8 +21,7 @@ pub fn row_balances(
 {
     let mut out = [0; 128];
     let mut into = [0; 128];
-    add_at(&mut out, links, TAIL, row);
-    add_at(&mut into, links, HEAD, row);
+    add_at(&mut out, &mut into, links, row);
     let mut j = 0;
     while j < nodes {
         if j != destination {
@@ -36,15 +35,20 @@ pub fn row_balances(
     true
 }
 
-// Adds to sums that are 0, at each node, the flow of the links whose end (tail or head) it is.
-fn add_at(sums: &mut [u64; 128], links: &[[u16; 5]], end: usize, row: &[u32])
-    requires { ⌜ EndsFit (now links) end × (length (now row) ≡ length (now links)) × SumsAt 0 (now links) end (now row) (now sums) ⌝ }
-    ensures { λ _. ⌜ SumsAt (length (now (links .entry))) (now (links .entry)) end (now (row .entry)) (now (sums .exit)) ⌝ }
+// Adds to sums that are 0, at each node, the flow of the links out of it and that of the links into it.
+fn add_at(out: &mut [u64; 128], into: &mut [u64; 128], links: &[[u16; 5]], row: &[u32])
+    requires { ⌜ EndsFit (now links) × (length (now row) ≡ length (now links)) ⌝ }
+    requires { ⌜ SumsAt 0 (now links) 0 (now row) (now out) × SumsAt 0 (now links) 1 (now row) (now into) ⌝ }
+    ensures { λ _. ⌜ SumsAt (length (now (links .entry))) (now (links .entry)) 0 (now (row .entry)) (now (out .exit)) ⌝ }
+    ensures { λ _. ⌜ SumsAt (length (now (links .entry))) (now (links .entry)) 1 (now (row .entry)) (now (into .exit)) ⌝ }
 {
     let mut l = 0;
     while l < links.len() {
-        let node = links[l][end] as usize;
-        sums[node] += row[l] as u64;
+        let flow = row[l] as u64;
+        let tail = links[l][TAIL] as usize;
+        out[tail] += flow;
+        let head = links[l][HEAD] as usize;
+        into[head] += flow;
         l += 1;
     }
 }

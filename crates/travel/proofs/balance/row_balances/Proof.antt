@@ -23,7 +23,7 @@ abbrev μ-loop : tie.MeasureT-loop
 μ-loop nodes links destination trips row share out into j₀ j = nodes - j
 
 abbrev start : tie.At-loop Inv-loop μ-loop → tie.Start Inv-loop μ-loop
-start c = c .before .before .before .before .before .before .before
+start c = c .before .before .before .before .before .before
 
 -- D(j,s), W × D(j,s), and the flow into a node.
 trips-most : (c : tie.After-shared-slice-known3 Inv-loop μ-loop) →
@@ -39,7 +39,7 @@ into-most : (c : tie.At-loop Inv-loop μ-loop) {sums : List ℕ} →
     getD sums (c .loop .j) 0 ≤ 512 * 4294967295
 into-most c ins p =
     let x = start c .args in
-    let row-most = c .before .before .before .before .before .shared-slice-known2 .given in
+    let row-most = c .before .before .before .before .shared-slice-known2 .given in
     omega (
       arith,
       ins .at (c .loop .j) p,
@@ -48,13 +48,17 @@ into-most c ins p =
 
 add-at-requires : tie.Need-add-at-requires Inv-loop μ-loop
 add-at-requires c κs =
-    let fit = c .before .before .before .pre .0 in
-    (record { is-end = omega arith; few-links = fit .few-links; end-node = λ l p. omega (arith, fit .tail-node l p) }, fit .row-long, sums-none _ _ _)
-
-add-at-requires-2 : tie.Need-add-at-requires-2 Inv-loop μ-loop
-add-at-requires-2 c κs =
-    let fit = c .before .before .before .before .before .pre .0 in
-    (record { is-end = omega arith; few-links = fit .few-links; end-node = λ l p. omega (arith, fit .head-node l p) }, fit .row-long, sums-none _ _ _)
+    let fit = c .before .before .before .before .pre .0 in (
+      (
+        record {
+          few-links = fit .few-links;
+          tail-node = λ l p. omega (arith, fit .tail-node l p);
+          head-node = λ l p. omega (arith, fit .head-node l p);
+        },
+        fit .row-long,
+      ),
+      (sums-none _ _ _, sums-none _ _ _),
+    )
 
 loop-holds : tie.Need-loop-holds Inv-loop μ-loop
 loop-holds c = (search needs, balances-none _ _ _ _ _)
@@ -85,13 +89,13 @@ array-read-if2-2 c = search needs
 
 add-if2 : tie.Need-add-if2 Inv-loop μ-loop
 add-if2 c = let at-loop = c .before .before .before in
-    omega (arith, sent-most c, trips-most c, into-most at-loop (at-loop .before .add-at2 .ensures) (omega arith))
+    omega (arith, sent-most c, trips-most c, into-most at-loop (at-loop .before .add-at .ensures .1) (omega arith))
 
 returns : tie.Need-returns Inv-loop μ-loop
 returns c =
     let at-loop = c .before .before .before .before in
-    let outs = at-loop .before .before .before .add-at .ensures in
-    let ins = at-loop .before .add-at2 .ensures in
+    let outs = at-loop .before .add-at .ensures .0 in
+    let ins = at-loop .before .add-at .ensures .1 in
     sym (balances-fails _ _ _ _ _ _ _ outs ins (at-loop .loop .j) (omega arith) _ (omega arith) (c .before .before .if1 .taken) (c .if2 .taken))
 
 add-j : tie.Need-add-j Inv-loop μ-loop
@@ -103,8 +107,8 @@ loop-less c = search needs
 loop-again : tie.Need-loop-again Inv-loop μ-loop
 loop-again c =
     let at-loop = c .before .before in
-    let outs = at-loop .before .before .before .add-at .ensures in
-    let ins = at-loop .before .add-at2 .ensures in
+    let outs = at-loop .before .add-at .ensures .0 in
+    let ins = at-loop .before .add-at .ensures .1 in
     let so-far = at-loop .loop .inv .1 in (
       search needs,
       ⊎-elim (λ w. balances-more _ _ _ _ _ _ _ outs ins (at-loop .loop .j) (omega arith) so-far (w .2 .left)) (λ w. balances-there _ _ _ _ _ (at-loop .loop .j) so-far (w .left)) (c .if1 .came),
@@ -122,7 +126,6 @@ row-balances-spec =
     Inv-loop
     μ-loop
     add-at-requires
-    add-at-requires-2
     loop-holds
     mul-sent
     shared-slice-read-sent
