@@ -41,8 +41,8 @@ pub fn run(file: &[u8], table: &mut [u32], budget: u32, excess: u16) -> RunAnswe
     turns(file, n, links, destinations, trips, table, budget, excess)
 }
 
-// The turns of an accepted run, from the table that a start leaves until one ends it. Each guesses the j that the one before chose, by
-// which the share grew.
+// The turns of an accepted run, from the table that a start leaves until one ends it. Each guesses the j that the turn before the last
+// chose, by which the share grew then: choices tend to go up and down by turns.
 fn turns(
     file: &[u8],
     nodes: usize,
@@ -62,7 +62,9 @@ fn turns(
     let mut next = [[0u16; 128]; 32];
     let mut volumes = [[0u16; 128]; 32];
     let mut flows = [[0u64; 512]; 2];
-    let powers = travel::fourth_powers();
+    let mut curves = [0u64; 769];
+    travel::put_powers(&mut curves);
+    travel::put_reciprocals(&mut curves, links);
     let chains = search::link_chains(links);
     judging::start_table(
         nodes,
@@ -70,7 +72,7 @@ fn turns(
         destinations,
         trips,
         &chains,
-        &powers,
+        &curves,
         table,
         &mut times,
         &mut next,
@@ -81,6 +83,7 @@ fn turns(
     let mut judged = 0;
     let mut share = 1;
     let mut guess = 0;
+    let mut latest = 0;
     let mut known = false;
     loop {
         judged += 1;
@@ -97,7 +100,7 @@ fn turns(
             destinations,
             trips,
             &chains,
-            &powers,
+            &curves,
             &mut times,
             &mut next,
             &mut volumes,
@@ -107,10 +110,11 @@ fn turns(
         );
         let step = turn.step;
         let Step::Moved = step else {
-            let cost = travel::cost(links, &flows[TOTAL], share, &powers);
+            let cost = travel::cost(links, &flows[TOTAL], share, &curves);
             return ended(step, judged, share, turn.gap, cost);
         };
-        guess = std::num::wrapping_sub_u32(turn.share, share);
+        guess = latest;
+        latest = std::num::wrapping_sub_u32(turn.share, share);
         share = turn.share;
         known = turn.known;
     }

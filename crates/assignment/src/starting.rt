@@ -25,7 +25,8 @@ pub fn start(file: &[u8], table: &mut [u32]) -> u8
     let mut next = [[0u16; 128]; 32];
     let mut volumes = [[0u16; 128]; 32];
     let mut flows = [[0u64; 512]; 2];
-    let powers = travel::fourth_powers();
+    let mut curves = [0u64; 769];
+    travel::put_powers(&mut curves);
     let chains = search::link_chains(links);
     judging::start_table(
         n,
@@ -33,7 +34,7 @@ pub fn start(file: &[u8], table: &mut [u32]) -> u8
         destinations,
         trips,
         &chains,
-        &powers,
+        &curves,
         table,
         &mut times,
         &mut next,

@@ -9,8 +9,8 @@ use Rattle.theory.specs.Flows.{linkTotal}
 use Rattle.theory.specs.Cost.{cost, gap}
 use Rattle.theory.specs.Moves.{moves}
 use Rattle.calls.specs.Calls.{shareAfter, tableAfter}
-use Rattle.travel.specs.Links.{padded, fourthPowers, listTime, listProduct, totalOf, loadOf}
-use Rattle.travel.specs.Ranges.{Within, Clear, TimesFit, mostTime, mostFlow}
+use Rattle.travel.specs.Links.{padded, listTime, listProduct, totalOf, loadOf}
+use Rattle.travel.specs.Ranges.{Powers, Within, Clear, TimesFit, mostTime, mostFlow}
 use Rattle.search.specs.Chains.{Linked}
 use Rattle.routes.specs.Table.{Nexts}
 use Rattle.judging.specs.declared.Step.{Step}
@@ -22,9 +22,9 @@ use Rattle.judging.specs.Study.{Study, linkCount, destinationCount, move
 use Rattle.judging.specs.Loading.{loadingAlong, volumeRows}
 
 -- What a call computes once: the chains of a study's links, and the fourth powers of the steps.
-pub record Prepared (links chains : List (List ℕ)) (powers : List ℕ) : Type 0 where
+pub record Prepared (links chains : List (List ℕ)) (curves : List ℕ) : Type 0 where
   pub chains-are : Linked links chains
-  pub powers-are : powers ≡ fourthPowers
+  pub powers-are : Powers curves
 
 -- The arrays that are lent for judging a study of m links: times and loads are 0 past the links, next links and volumes have 32 rows, and
 -- totals S and loads Y are two arrays.

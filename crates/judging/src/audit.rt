@@ -18,12 +18,13 @@ pub fn audit_table(
 {
     let mut times = [0u32; 512];
     let m = links.len();
-    let powers = travel::fourth_powers();
+    let mut curves = [0u64; 769];
+    travel::put_powers(&mut curves);
     let totals = travel::totals(table, destinations.len(), m);
-    travel::times(links, &totals, share, &powers, &mut times);
+    travel::times(links, &totals, share, &curves, &mut times);
     let into = search::into_chain(links);
     let least = search::least_times(nodes, links, destinations, trips, &times, &into);
     let gap = travel::product(&times, &totals, m) - share as u64 * least;
-    let cost = travel::cost(links, &totals, share, &powers);
+    let cost = travel::cost(links, &totals, share, &curves);
     Sums { gap, cost }
 }

@@ -17,7 +17,7 @@ pub fn judge(
     destinations: &[u16],
     trips: &[u16],
     chains: &[[u16; 640]; 2],
-    powers: &[u64; 257],
+    curves: &[u64; 769],
     share: u32,
     known: bool,
     times: &mut [u32; 512],
@@ -25,7 +25,7 @@ pub fn judge(
     volumes: &mut [[u16; 128]; 32],
     flows: &mut [[u64; 512]; 2],
 )
-    requires { ⌜ Ready (studyOf nodes (now links) (now destinations) (now trips)) × ShareFits share × Prepared (now links) (now chains) (now powers) ⌝ }
+    requires { ⌜ Ready (studyOf nodes (now links) (now destinations) (now trips)) × ShareFits share × Prepared (now links) (now chains) (now curves) ⌝ }
     requires { ⌜ (known ≡ true → Known (studyOf nodes (now links) (now destinations) (now trips)) share (now times) (now next) (now volumes) (now flows)) ⌝ }
     requires { ⌜ Lent (length (now links)) (now times) (now next) (now volumes) (now flows) × TotalsFit (length (now links)) (now flows) ⌝ }
     ensures { λ _. ⌜ JudgedAt (studyOf nodes (now (links .entry)) (now (destinations .entry)) (now (trips .entry))) share (now (flows .entry)) (now (times .exit)) (now (next .exit)) (now (volumes .exit)) (now (flows .exit)) ⌝ }
@@ -33,7 +33,7 @@ pub fn judge(
     if known {
         return;
     }
-    travel::times(links, &flows[TOTAL], share, powers, times);
+    travel::times(links, &flows[TOTAL], share, curves, times);
     routes::next_table(nodes, links, destinations, trips, times, chains, next);
     load(
         nodes,

@@ -9,10 +9,8 @@ use crate::moves::can_move;
 use crate::moves::move_table;
 use travel::TOTAL;
 
-// No guess of j, which a pass has no turn before it to take from: no j is larger, so that the middle is tried first.
-const NO_GUESS: u32 = 64;
-
-// Pass: judges the table, then moves it.
+// Pass: judges the table, then moves it. With no turn before it to take a guess of j from, it guesses an eighth of the share, near which
+// the choices of runs often are.
 pub fn pass_table(
     nodes: usize,
     links: &[[u16; 5]],
@@ -31,15 +29,17 @@ pub fn pass_table(
     let m = links.len();
     let p = destinations.len();
     let chains = search::link_chains(links);
-    let powers = travel::fourth_powers();
-    flows[TOTAL] = travel::totals(table, p, m);
+    let mut curves = [0u64; 769];
+    travel::put_powers(&mut curves);
+    travel::put_reciprocals(&mut curves, links);
+    travel::write_totals(table, p, m, &mut flows[TOTAL]);
     judge(
         nodes,
         links,
         destinations,
         trips,
         &chains,
-        &powers,
+        &curves,
         share,
         false,
         &mut times,
@@ -48,8 +48,8 @@ pub fn pass_table(
         &mut flows,
     );
     let gap = gap_of(&times, &flows, m, share);
-    let cost = travel::cost(links, &flows[TOTAL], share, &powers);
-    let j = travel::chosen(links, &flows, share, NO_GUESS, gap, &powers);
+    let cost = travel::cost(links, &flows[TOTAL], share, &curves);
+    let j = travel::chosen(links, &flows, share, share / 8, gap, &curves);
     let moved = can_move(share, j);
     let after = move_table(table, nodes, m, p, &next, &volumes, share, j);
     Passed {

@@ -19,14 +19,14 @@ pub fn start_table(
     destinations: &[u16],
     trips: &[u16],
     chains: &[[u16; 640]; 2],
-    powers: &[u64; 257],
+    curves: &[u64; 769],
     table: &mut [u32],
     times: &mut [u32; 512],
     next: &mut [[u16; 128]; 32],
     volumes: &mut [[u16; 128]; 32],
     flows: &mut [[u64; 512]; 2],
 )
-    requires { ⌜ Ready (studyOf nodes (now links) (now destinations) (now trips)) × Prepared (now links) (now chains) (now powers) ⌝ }
+    requires { ⌜ Ready (studyOf nodes (now links) (now destinations) (now trips)) × Prepared (now links) (now chains) (now curves) ⌝ }
     requires { ⌜ length (now destinations) * length (now links) ≤ length (now table) ⌝ }
     requires { ⌜ Lent (length (now links)) (now times) (now next) (now volumes) (now flows) × (getD (now flows) 0 [] ≡ replicate 512 0) ⌝ }
     ensures { λ _. ⌜ now (table .exit) ≡ overwritten (started (network nodes (now (links .entry)) (now (destinations .entry)) (now (trips .entry))) .table) (now (table .entry)) ⌝ }
@@ -40,7 +40,7 @@ pub fn start_table(
         destinations,
         trips,
         chains,
-        powers,
+        curves,
         1,
         false,
         times,

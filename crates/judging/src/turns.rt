@@ -3,6 +3,7 @@
 ghost use mathlib.Core.Path.{_≡_};
 ghost use lib.ListN.{length};
 ghost use Rattle.theory.specs.Study.{network};
+ghost use Rattle.travel.specs.Ranges.{Curves};
 ghost use Rattle.judging.specs.Study.{studyOf, Judgeable};
 ghost use Rattle.judging.specs.Judged.{Prepared, Lent, Stands, Turned, Left, turnOf};
 use crate::Standing;
@@ -22,7 +23,7 @@ pub fn turn_table(
     destinations: &[u16],
     trips: &[u16],
     chains: &[[u16; 640]; 2],
-    powers: &[u64; 257],
+    curves: &[u64; 769],
     times: &mut [u32; 512],
     next: &mut [[u16; 128]; 32],
     volumes: &mut [[u16; 128]; 32],
@@ -30,7 +31,7 @@ pub fn turn_table(
     table: &mut [u32],
     standing: Standing,
 ) -> Turn
-    requires { ⌜ Judgeable (studyOf nodes (now links) (now destinations) (now trips)) (now table) (standing .share) × Prepared (now links) (now chains) (now powers) ⌝ }
+    requires { ⌜ Judgeable (studyOf nodes (now links) (now destinations) (now trips)) (now table) (standing .share) × Prepared (now links) (now chains) (now curves) × Curves (now links) (now curves) ⌝ }
     requires { ⌜ Lent (length (now links)) (now times) (now next) (now volumes) (now flows) ⌝ }
     requires { ⌜ Stands (studyOf nodes (now links) (now destinations) (now trips)) (now table) standing (now times) (now next) (now volumes) (now flows) ⌝ }
     ensures { λ r. ⌜ Turned (network nodes (now (links .entry)) (now (destinations .entry)) (now (trips .entry))) (now (table .entry)) standing r (now (table .exit)) ⌝ }
@@ -44,7 +45,7 @@ pub fn turn_table(
         destinations,
         trips,
         chains,
-        powers,
+        curves,
         share,
         standing.known,
         times,
@@ -56,7 +57,7 @@ pub fn turn_table(
     if gap <= standing.limit * share as u64 {
         return turned(Step::Reached, share, gap, false);
     }
-    let j = travel::chosen(links, flows, share, standing.guess, gap, powers);
+    let j = travel::chosen(links, flows, share, standing.guess, gap, curves);
     if !can_move(share, j) {
         return turned(Step::Finest, share, gap, false);
     }

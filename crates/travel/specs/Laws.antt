@@ -9,6 +9,7 @@ pub mod Balance
 -- times, the staircase and cost:
 pub mod Times
 pub mod Powers
+pub mod Reciprocals
 pub mod Staircase
 pub mod Costs
 -- the choice of j:

@@ -1,5 +1,5 @@
 -- Times, costs and sums over the links of a study, which are rows. Numbers by link stand in lists.
-use Prim.Native.Nat.{ℕ, _+_, _*_, _-_, _^_}
+use Prim.Native.Nat.{ℕ, _+_, _*_, _-_, _/_, min}
 use mathlib.Core.Bool.{Bool, _||_}
 use mathlib.Core.List.{List, [], _++_}
 use lib.ListN.{length, getD, replicate}
@@ -14,9 +14,20 @@ use Rattle.theory.specs.Study.{tail, head, capacity, network}
 unfoldable pub padded : ℕ → (ℕ → ℕ) → List ℕ
 padded m f = tabulate m f ++ replicate (512 - m) 0
 
--- The fourth powers of the steps 0 to 256.
-unfoldable pub fourthPowers : List ℕ
-fourthPowers = tabulate 257 (λ r. r ^ 4)
+-- What reciprocals are parts of: those of shares of 2⁴², and those of capacities of 2³⁸.
+abbrev pub shareParts : ℕ
+shareParts = 4398046511104
+
+abbrev pub capacityParts : ℕ
+capacityParts = 274877906944
+
+-- Dividing by d is multiplying by this and then dividing by p, a power of two: the same number, where the number that is divided is small.
+unfoldable pub reciprocal : ℕ → ℕ → ℕ
+reciprocal p d = p / d + 1
+
+-- The step of a flow, by the reciprocals of its link's capacity and of the share.
+unfoldable pub stepBy : ℕ → ℕ → ℕ → ℕ
+stepBy byCapacity byShare flow = min 256 (64 * flow * byShare / shareParts * byCapacity / capacityParts)
 
 -- The time of a link, by its row, at a step.
 abbrev pub rowTime : List ℕ → ℕ → ℕ

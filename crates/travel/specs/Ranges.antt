@@ -1,11 +1,11 @@
 -- What the functions of this crate ask of their arguments, and the largest numbers that they meet.
-use Prim.Native.Nat.{ℕ, _+_, _*_, _≤_, _<_}
+use Prim.Native.Nat.{ℕ, _+_, _*_, _^_, _≤_, _<_}
 use mathlib.Core.Path.{_≡_}
 use mathlib.Core.List.{List, []}
 use lib.ListN.{length, getD}
-use Rattle.theory.specs.Study.{column, tail, head}
+use Rattle.theory.specs.Study.{column, tail, head, capacity}
 use Rattle.theory.specs.Flows.{sumAt}
-use Rattle.travel.specs.Links.{totalOf, loadOf}
+use Rattle.travel.specs.Links.{capacityParts, reciprocal, totalOf, loadOf}
 
 -- No time is more than 16,383 + 16,383 × 256.
 abbrev pub mostTime : ℕ
@@ -30,6 +30,20 @@ pub record LinkFits (link : List ℕ) : Type 0 where
 pub record LinksFit (links : List (List ℕ)) : Type 0 where
   pub few : length links ≤ 512
   pub link : (l : ℕ) → l < length links → LinkFits (getD links l [])
+
+-- What a call works out once of the curves, in one array: the fourth powers of the steps 0 to 256, and after them the reciprocals of
+-- the capacities of the first m links.
+pub record Powers (curves : List ℕ) : Type 0 where
+  pub size : length curves ≡ 769
+  pub power : (r : ℕ) → r ≤ 256 → getD curves r 0 ≡ r ^ 4
+
+pub record Reciprocals (m : ℕ) (links : List (List ℕ)) (curves : List ℕ) : Type 0 where
+  pub reciprocal-at : (l : ℕ) → l < m → getD curves (257 + l) 0 ≡ reciprocal capacityParts (capacity links l)
+  pub capacity-fits : (l : ℕ) → l < m → capacity links l ≤ 65535
+
+pub record Curves (links : List (List ℕ)) (curves : List ℕ) : Type 0 where
+  pub powers : Powers curves
+  pub reciprocals : Reciprocals (length links) links curves
 
 -- A share is 1 to 1,024.
 pub record ShareFits (share : ℕ) : Type 0 where

@@ -2,12 +2,13 @@
 // W, and Y of the loading.
 ghost use Prim.Native.Nat.{_+_, _*_, _-_, _≤_, _<_, min};
 ghost use mathlib.Core.Path.{_≡_};
-ghost use lib.ListN.{getD};
-ghost use Rattle.theory.specs.Flows.{step};
 ghost use Rattle.theory.specs.Moves.{movedTimes, chosen as chosenOf};
-ghost use Rattle.travel.specs.Links.{roads, fourthPowers, rowTime, totalOf, loadOf};
-ghost use Rattle.travel.specs.Ranges.{LinkFits, MoveFits, mostTime};
-use crate::steps::link_time;
+ghost use Rattle.travel.specs.Links.{roads, totalOf, loadOf};
+ghost use Rattle.travel.specs.Ranges.{Curves, MoveFits};
+use crate::reciprocals::RECIPROCALS;
+use crate::reciprocals::share_reciprocal;
+use crate::reciprocals::step_by;
+use crate::steps::time_at;
 use crate::table::LOAD;
 use crate::table::TOTAL;
 
@@ -27,9 +28,9 @@ pub fn chosen(
     share: u32,
     guess: u32,
     gap: u64,
-    powers: &[u64; 257],
+    curves: &[u64; 769],
 ) -> u32
-    requires { ⌜ MoveFits (now links) (now flows) share × (now powers ≡ fourthPowers) ⌝ }
+    requires { ⌜ MoveFits (now links) (now flows) share × Curves (now links) (now curves) ⌝ }
     ensures { λ r. ⌜ r ≡ chosenOf (roads (now (links .entry))) share (totalOf (now (flows .entry))) (loadOf (now (flows .entry))) ⌝ }
 {
     let mut low = 0;
@@ -40,7 +41,7 @@ pub fn chosen(
     while low < high {
         let j = next_try(low, high, tries, guess, gap, below, above);
         tries = std::num::wrapping_add_u32(tries, 1);
-        let sums = sums_at(links, flows, share, j, powers);
+        let sums = sums_at(links, flows, share, j, curves);
         if sums.loaded <= sums.spent {
             low = j;
             below = sums.spent - sums.loaded;
@@ -134,31 +135,25 @@ fn sums_at(
     flows: &[[u64; 512]; 2],
     share: u32,
     j: u32,
-    powers: &[u64; 257],
+    curves: &[u64; 769],
 ) -> Sums
-    requires { ⌜ MoveFits (now links) (now flows) share × (share + j ≤ 1024) × (now powers ≡ fourthPowers) ⌝ }
+    requires { ⌜ MoveFits (now links) (now flows) share × (share + j ≤ 1024) × Curves (now links) (now curves) ⌝ }
     ensures { λ r. ⌜ r .loaded ≡ share * movedTimes (roads (now (links .entry))) share (totalOf (now (flows .entry))) (loadOf (now (flows .entry))) j (loadOf (now (flows .entry))) ⌝ }
     ensures { λ r. ⌜ r .spent ≡ movedTimes (roads (now (links .entry))) share (totalOf (now (flows .entry))) (loadOf (now (flows .entry))) j (totalOf (now (flows .entry))) ⌝ }
 {
+    let by_share = share_reciprocal(share + j);
     let mut loaded = 0;
     let mut spent = 0;
     let mut l = 0;
     while l < links.len() {
         let s = flows[TOTAL][l];
         let y = flows[LOAD][l];
-        let time = moved_time(links[l], share, s, y, j, powers);
+        let step = step_by(curves[RECIPROCALS + l], by_share, s + j as u64 * y);
+        let time = time_at(links[l], step, curves);
         loaded += y * time;
         spent += s * time;
         l += 1;
     }
     let loaded = share as u64 * loaded;
     Sums { loaded, spent }
-}
-
-// Time of a link at flow S + j·Y and share W + j.
-fn moved_time(link: [u16; 5], share: u32, s: u64, y: u64, j: u32, powers: &[u64; 257]) -> u64
-    requires { ⌜ LinkFits link × (1 ≤ share) × (share + j ≤ 1024) × (s ≤ share * 65535) × (y ≤ 65535) × (now powers ≡ fourthPowers) ⌝ }
-    ensures { λ r. ⌜ (r ≡ rowTime link (step (getD link 4 0) (share + j) (s + j * y))) × (r ≤ mostTime) ⌝ }
-{
-    link_time(link, share + j, s + j as u64 * y, powers)
 }

@@ -4,8 +4,8 @@ ghost use mathlib.Core.Path.{_≡_};
 ghost use lib.ListN.{length, getD};
 ghost use Rattle.theory.specs.Finite.{sum};
 ghost use Rattle.theory.specs.Cost.{linkCost};
-ghost use Rattle.travel.specs.Links.{fourthPowers, rowTime, listCost, listProduct};
-ghost use Rattle.travel.specs.Ranges.{LinkFits, LinksFit, ShareFits, Within, mostFlow, mostTime};
+ghost use Rattle.travel.specs.Links.{rowTime, listCost, listProduct};
+ghost use Rattle.travel.specs.Ranges.{LinkFits, LinksFit, Powers, ShareFits, Within, mostFlow, mostTime};
 use crate::steps::step_of;
 use crate::steps::time_at;
 use theory::CAPACITY;
@@ -13,15 +13,15 @@ use theory::FREE_TIME;
 use theory::RISE;
 
 // The cost of the links with the flows of an array, at a share.
-pub fn cost(links: &[[u16; 5]], flows: &[u64; 512], share: u32, powers: &[u64; 257]) -> u64
+pub fn cost(links: &[[u16; 5]], flows: &[u64; 512], share: u32, curves: &[u64; 769]) -> u64
     requires { ⌜ LinksFit (now links) × ShareFits share × Within (length (now links)) mostFlow (now flows) ⌝ }
-    requires { ⌜ now powers ≡ fourthPowers ⌝ }
+    requires { ⌜ Powers (now curves) ⌝ }
     ensures { λ r. ⌜ r ≡ listCost (now (links .entry)) share (now (flows .entry)) ⌝ }
 {
     let mut area = 0;
     let mut l = 0;
     while l < links.len() {
-        area += link_cost(links[l], share, flows[l], powers);
+        area += link_cost(links[l], share, flows[l], curves);
         l += 1;
     }
     area
@@ -29,27 +29,27 @@ pub fn cost(links: &[[u16; 5]], flows: &[u64; 512], share: u32, powers: &[u64; 2
 
 // The area of a link's staircase from 0 to 64·S: the treads below the step, each c·W wide, and what is
 // left at the height of the step.
-fn link_cost(link: [u16; 5], share: u32, flow: u64, powers: &[u64; 257]) -> u64
-    requires { ⌜ LinkFits link × ShareFits share × (flow ≤ mostFlow) × (now powers ≡ fourthPowers) ⌝ }
+fn link_cost(link: [u16; 5], share: u32, flow: u64, curves: &[u64; 769]) -> u64
+    requires { ⌜ LinkFits link × ShareFits share × (flow ≤ mostFlow) × Powers (now curves) ⌝ }
     ensures { λ r. ⌜ (r ≡ linkCost (rowTime link) (getD link 4 0) share flow) × (r ≤ 64 * flow * mostTime) ⌝ }
 {
     let width = link[CAPACITY] as u64 * share as u64;
     let step = step_of(link[CAPACITY], share, flow);
-    let whole = heights_below(link, step, powers) * width;
-    whole + time_at(link, step, powers) * (64 * flow - step * width)
+    let whole = heights_below(link, step, curves) * width;
+    whole + time_at(link, step, curves) * (64 * flow - step * width)
 }
 
 // The sum of the heights of the treads below a step. A power below the 256th has 32 bits, so the cast
 // to them keeps it; the compiler then multiplies several at once.
-fn heights_below(link: [u16; 5], step: u64, powers: &[u64; 257]) -> u64
-    requires { ⌜ LinkFits link × (step ≤ 256) × (now powers ≡ fourthPowers) ⌝ }
+fn heights_below(link: [u16; 5], step: u64, curves: &[u64; 769]) -> u64
+    requires { ⌜ LinkFits link × (step ≤ 256) × Powers (now curves) ⌝ }
     ensures { λ r. ⌜ (r ≡ sum step (rowTime link)) × (r ≤ step * mostTime) ⌝ }
 {
     let rise = link[RISE] as u64;
     let mut risen = 0;
     let mut r = 0;
     while r < step {
-        risen += rise * powers[r as usize] as u32 as u64 / 16777216;
+        risen += rise * curves[r as usize] as u32 as u64 / 16777216;
         r += 1;
     }
     link[FREE_TIME] as u64 * step + risen

@@ -4,6 +4,7 @@
 mod balance;
 mod choice;
 mod costs;
+mod reciprocals;
 mod steps;
 mod table;
 
@@ -11,7 +12,8 @@ pub use balance::row_balances;
 pub use choice::chosen;
 pub use costs::cost;
 pub use costs::product;
-pub use steps::fourth_powers;
+pub use reciprocals::put_reciprocals;
+pub use steps::put_powers;
 pub use steps::times;
 pub use table::LOAD;
 pub use table::TOTAL;

@@ -3,8 +3,8 @@ ghost use Prim.Native.Nat.{_≤_};
 ghost use mathlib.Core.Path.{_≡_};
 ghost use lib.ListN.{length, getD};
 ghost use Rattle.theory.specs.Flows.{step};
-ghost use Rattle.travel.specs.Links.{padded, fourthPowers, rowTime, listTime};
-ghost use Rattle.travel.specs.Ranges.{LinkFits, LinksFit, ShareFits, Within, Clear, TimesFit, mostFlow, mostTime};
+ghost use Rattle.travel.specs.Links.{padded, rowTime, listTime};
+ghost use Rattle.travel.specs.Ranges.{LinkFits, LinksFit, Powers, ShareFits, Within, Clear, TimesFit, mostFlow, mostTime};
 use theory::CAPACITY;
 use theory::FREE_TIME;
 use theory::RISE;
@@ -22,34 +22,33 @@ pub fn step_of(capacity: u16, share: u32, flow: u64) -> u64
     256
 }
 
-// The fourth power of each step, 0 to 256.
-pub fn fourth_powers() -> [u64; 257]
-    ensures { λ r. ⌜ r ≡ fourthPowers ⌝ }
+// Writes the fourth power of each step, 0 to 256.
+pub fn put_powers(curves: &mut [u64; 769])
+    requires { ⌜ length (now curves) ≡ 769 ⌝ }
+    ensures { λ _. ⌜ Powers (now (curves .exit)) ⌝ }
 {
-    let mut powers = [0u64; 257];
     let mut r: usize = 0;
     while r < 257 {
         let square = r as u32 * r as u32;
-        powers[r] = square as u64 * square as u64;
+        curves[r] = square as u64 * square as u64;
         r += 1;
     }
-    powers
 }
 
 // Time at a step: a + floor(b·r⁴ / 2²⁴).
-pub fn time_at(link: [u16; 5], step: u64, powers: &[u64; 257]) -> u64
-    requires { ⌜ LinkFits link × (step ≤ 256) × (now powers ≡ fourthPowers) ⌝ }
+pub fn time_at(link: [u16; 5], step: u64, curves: &[u64; 769]) -> u64
+    requires { ⌜ LinkFits link × (step ≤ 256) × Powers (now curves) ⌝ }
     ensures { λ r. ⌜ (r ≡ rowTime link step) × (r ≤ mostTime) ⌝ }
 {
-    link[FREE_TIME] as u64 + link[RISE] as u64 * powers[step as usize] / 16777216
+    link[FREE_TIME] as u64 + link[RISE] as u64 * curves[step as usize] / 16777216
 }
 
 // Time of a link with a flow, at a share.
-pub fn link_time(link: [u16; 5], share: u32, flow: u64, powers: &[u64; 257]) -> u64
-    requires { ⌜ LinkFits link × ShareFits share × (flow ≤ mostFlow) × (now powers ≡ fourthPowers) ⌝ }
+pub fn link_time(link: [u16; 5], share: u32, flow: u64, curves: &[u64; 769]) -> u64
+    requires { ⌜ LinkFits link × ShareFits share × (flow ≤ mostFlow) × Powers (now curves) ⌝ }
     ensures { λ r. ⌜ (r ≡ rowTime link (step (getD link 4 0) share flow)) × (r ≤ mostTime) ⌝ }
 {
-    time_at(link, step_of(link[CAPACITY], share, flow), powers)
+    time_at(link, step_of(link[CAPACITY], share, flow), curves)
 }
 
 // Writes the times of the links with the flows of an array, at a share, in place of the first numbers of
@@ -58,17 +57,17 @@ pub fn times(
     links: &[[u16; 5]],
     flows: &[u64; 512],
     share: u32,
-    powers: &[u64; 257],
+    curves: &[u64; 769],
     times: &mut [u32; 512],
 )
     requires { ⌜ LinksFit (now links) × ShareFits share × Within (length (now links)) mostFlow (now flows) ⌝ }
-    requires { ⌜ (now powers ≡ fourthPowers) × Clear (length (now links)) (now times) ⌝ }
+    requires { ⌜ Powers (now curves) × Clear (length (now links)) (now times) ⌝ }
     ensures { λ _. ⌜ now (times .exit) ≡ padded (length (now (links .entry))) (listTime (now (links .entry)) share (now (flows .entry))) ⌝ }
     ensures { λ _. ⌜ TimesFit (length (now (links .entry))) (now (times .exit)) ⌝ }
 {
     let mut l = 0;
     while l < links.len() {
-        let time = link_time(links[l], share, flows[l], powers);
+        let time = link_time(links[l], share, flows[l], curves);
         times[l] = time as u32;
         l += 1;
     }

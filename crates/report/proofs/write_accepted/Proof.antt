@@ -1,5 +1,7 @@
 -- `report::write_accepted` meets its contract: the arrays of totals and times hold what the definitions say of the study's network.
+use Prim.Native.Nat.{ℕ}
 use mathlib.Core.Path.{refl}
+use lib.ListN.{length-replicate}
 use borrow.Author.Needs.{needs}
 use Rattle.network.specs.Laws.Decoding.{links-within, links-counted}
 use Rattle.travel.specs.Laws.Padded.{zeros-clear}
@@ -18,26 +20,26 @@ decode-requires c κs = search needs
 totals-requires : tie.Need-totals-requires
 totals-requires c κs = rows-there _ _ _ (entry c .pre .0) (c .decode .ensures)
 
-fourth-powers-requires : tie.Need-fourth-powers-requires
-fourth-powers-requires c κs = search needs
+put-powers-requires : tie.Need-put-powers-requires
+put-powers-requires c κs = length-replicate {A = ℕ} 769 0
 
 array-share-prefix-rows : tie.Need-array-share-prefix-rows
-array-share-prefix-rows c = links-within (c .before .before .decode .ensures)
+array-share-prefix-rows c = links-within (c .before .before .before .decode .ensures)
 
 slice-aggregate-times : tie.Need-slice-aggregate-times
-slice-aggregate-times c = links-counted (c .before .before .before .decode .ensures)
+slice-aggregate-times c = links-counted (c .before .before .before .before .decode .ensures)
 
 times-requires : tie.Need-times-requires
 times-requires c κs =
     let raised = c .before .before .before .before in
-    let read = raised .before .before in (
-      times-there _ _ _ (entry read .pre .0) (read .decode .ensures) (raised .before .totals .ensures .0),
-      (raised .fourth-powers .ensures, zeros-clear _),
+    let read = raised .before .before .before in (
+      times-there _ _ _ (entry read .pre .0) (read .decode .ensures) (raised .before .before .totals .ensures .0),
+      (raised .put-powers .ensures, zeros-clear _),
     )
 
 write-listing-requires : tie.Need-write-listing-requires
 write-listing-requires c κs =
-    let read = c .before .before .before .before .before .before .before .before .before .before in
+    let read = c .before .before .before .before .before .before .before .before .before .before .before in
     let pre = entry read .pre in
     (rows-there _ _ _ (pre .0) (read .decode .ensures) .1, pre .1)
 
@@ -47,7 +49,7 @@ same-length c = search needs
 returns : tie.Need-returns
 returns c =
     let timed = c .before .before .before .before .before .before in
-    let summed = timed .before .before .before .before .before .before in
+    let summed = timed .before .before .before .before .before .before .before in
     let read = summed .before in
     written-as
     (listed-same _ _ _ (entry read .pre .0) (read .decode .ensures) (summed .totals .ensures .0) _ refl (timed .times2 .ensures .0))
@@ -59,7 +61,7 @@ write-accepted-spec =
     (tie.spec
     decode-requires
     totals-requires
-    fourth-powers-requires
+    put-powers-requires
     array-share-prefix-rows
     slice-aggregate-times
     times-requires

@@ -20,9 +20,9 @@ use Rattle.travel.specs.Ranges.{LinksFit, mostTime, mostFlow}
 use Rattle.theory.specs.Laws.Times.{stepTime-least, stepTime-mono}
 use Rattle.travel.specs.Laws.Times.{step-most, rowTime-most}
 
--- What a move by j makes of a flow is a flow that an accepted table may have.
-pub moved-flow : (w s y j : ℕ) → w + j ≤ 1024 → s ≤ w * 65535 → y ≤ 65535 → s + j * y ≤ mostFlow
-moved-flow w s y j h hs hy = omega (arith, mul-le-mul-left j hy)
+-- What a move by j makes of a flow is a flow that an accepted table of the new share may have.
+pub moved-flow : (w s y j : ℕ) → s ≤ w * 65535 → y ≤ 65535 → s + j * y ≤ (w + j) * 65535
+moved-flow w s y j hs hy = omega (arith, mul-le-mul-left j hy)
 
 -- The links with one node at all their ends. The choice of j does not look at nodes, and the laws on it ask for some.
 joined : List (List ℕ) → Network

@@ -5,21 +5,21 @@ use native.Mathlib.Omega.{arith}
 use mathlib.Core.Path.{_≡_, sym, _∙_, ap}
 use mathlib.Core.List.{List}
 use mathlib.Core.Logic.{⊎-elim}
-use lib.ListN.{length, getD, set, replicate, length-set, length-replicate}
-use lib.Seq.{ext-getD, getD-set-same, getD-set-other}
-use Rattle.theory.specs.Finite.{sum, tabulate}
+use lib.ListN.{length, getD, set, length-set}
+use lib.Seq.{getD-set-same, getD-set-other}
+use Rattle.theory.specs.Finite.{sum}
 use Rattle.theory.specs.Flows.{stepTime}
-use Rattle.theory.specs.Laws.Finite.{sum-bound, length-tabulate, getD-tabulate, below-suc}
-use Rattle.travel.specs.Links.{fourthPowers}
+use Rattle.theory.specs.Laws.Finite.{sum-bound, below-suc}
+use Rattle.travel.specs.Ranges.{Powers}
 use Rattle.travel.specs.Laws.Times.{fourth-power, fourth-most}
 
--- The first r of 257 numbers are the fourth powers of their places.
+-- The first r of 769 numbers are the fourth powers of their places.
 pub record Raised (r : ℕ) (xs : List ℕ) : Type 0 where
-  pub size : length xs ≡ 257
+  pub size : length xs ≡ 769
   pub at : (i : ℕ) → i < r → getD xs i 0 ≡ i ^ 4
 
-pub raised-none : Raised 0 (replicate 257 0)
-raised-none = record { size = length-replicate {A = ℕ} 257 0; at = λ i p. omega arith }
+pub raised-none : (xs : List ℕ) → length xs ≡ 769 → Raised 0 xs
+raised-none xs long = record { size = long; at = λ i p. omega arith }
 
 pub raised-more : (r : ℕ) (xs : List ℕ) → r < 257 → Raised r xs → Raised (r + 1) (set xs r (r * r * (r * r)))
 raised-more r xs h so-far =
@@ -34,28 +34,17 @@ raised-more r xs h so-far =
     here : (i : ℕ) → i ≡ r → getD (set xs r x) i 0 ≡ i ^ 4
     here i e = rw e (getD-set-same xs r x 0 (omega (arith, so-far .size)) ∙ sym (fourth-power r))
 
--- For 257 stands an arbitrary number, so that nothing computes 257 powers.
-filled : (n : ℕ) (xs : List ℕ) → length xs ≡ n → ((i : ℕ) → i < n → getD xs i 0 ≡ i ^ 4) → xs ≡ tabulate n (λ i. i ^ 4)
-filled n xs long each =
-    ext-getD 0 xs (tabulate n (λ i. i ^ 4)) (long ∙ sym (length-tabulate n (λ i. i ^ 4))) (λ i p.
-    each i (omega (arith, long)) ∙ sym (getD-tabulate n (λ i. i ^ 4) 0 i (omega (arith, long))))
-
-pub raised-all : (xs : List ℕ) → Raised 257 xs → xs ≡ fourthPowers
-unfolding fourthPowers
-raised-all xs all = filled 257 xs (all .size) (all .at)
-
-pub getD-powers : (r : ℕ) → r ≤ 256 → getD fourthPowers r 0 ≡ r ^ 4
-unfolding fourthPowers
-getD-powers r h = getD-tabulate 257 (λ i. i ^ 4) 0 r (omega arith)
+pub raised-all : (xs : List ℕ) → Raised 257 xs → Powers xs
+raised-all xs all = record { size = all .size; power = λ r h. all .at r (omega arith) }
 
 -- What a tread rises above the free time, b·r⁴ / 2²⁴.
 abbrev pub risenAt : ℕ → ℕ → ℕ
 risenAt b r = b * r ^ 4 / 16777216
 
 -- A tread r as the array has it.
-module _ (powers : List ℕ) (all : powers ≡ fourthPowers) (r : ℕ) where
+module _ (powers : List ℕ) (all : Powers powers) (r : ℕ) where
   pub power-at : r ≤ 256 → getD powers r 0 ≡ r ^ 4
-  power-at h = rw all (getD-powers r h)
+  power-at h = all .power r h
 
   pub power-most : r ≤ 256 → getD powers r 0 ≤ 4294967296
   power-most h = rw (power-at h, fourth-power r) (fourth-most r h)

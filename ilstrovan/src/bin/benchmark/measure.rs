@@ -78,7 +78,7 @@ pub fn compare(table: &[u32], ways: &mut [Way<'_>]) -> Comparison {
         // Each of them is now the first, now the last.
         for place in 0..ways.len() {
             let way = (turn + place) % ways.len();
-            times[way].push(time(table, calls, &mut ways[way]));
+            times[way].push(deeper(turn, &mut || time(table, calls, &mut ways[way])));
         }
     }
     let ratio = |other: &Vec<f64>| {
@@ -93,6 +93,20 @@ pub fn compare(table: &[u32], ways: &mut [Way<'_>]) -> Comparison {
         proved: Spread::of(times[0].clone()),
         second: Spread::of(times[1].clone()),
     }
+}
+
+/// What a measurement gives that many kilobytes further down the stack. Where an
+/// array happens to lie in memory can make a call slower by a quarter, so that
+/// every turn has its arrays elsewhere.
+#[inline(never)]
+fn deeper(kilobytes: usize, measurement: &mut dyn FnMut() -> f64) -> f64 {
+    if kilobytes == 0 {
+        return measurement();
+    }
+    let room = black_box([0_u8; 1_024]);
+    let result = deeper(kilobytes - 1, measurement);
+    black_box(&room);
+    result
 }
 
 /// Microseconds a call.

@@ -8,7 +8,7 @@ use mathlib.Core.Path.{_≡_, refl, sym, _∙_, ap}
 use mathlib.Core.Bool.{true, true≢false}
 use mathlib.Core.List.{List}
 use mathlib.Core.Logic.{⊎-elim}
-use lib.ListN.{length}
+use lib.ListN.{length, length-replicate}
 use borrow.Author.Needs.{needs}
 use denote.Ref.{now}
 use Rattle.judging.specs.declared.Step.the-variants as step
@@ -29,7 +29,7 @@ use Rattle.assignment.proofs.running.turns.Statement.{statement}
 use Rattle.assignment.proofs.running.turns.Tie as tie
 
 abbrev Inv-loop : tie.InvT-loop
-Inv-loop file nodes links destinations trips table₀ budget excess limit times₀ next₀ volumes₀ flows₀ powers chains judged₀ share₀ guess₀ known₀ table times next volumes flows judged share guess known =
+Inv-loop file nodes links destinations trips table₀ budget excess limit times₀ next₀ volumes₀ flows₀ curves chains judged₀ share₀ guess₀ latest₀ known₀ table times next volumes flows judged share guess latest known =
     (length table ≡ length table₀)
     × ((before : List ℕ) → Begun file before budget table₀ → Running file before budget excess judged table share)
     × (known ≡ true → Known (studyOf nodes links destinations trips) share times next volumes flows)
@@ -37,12 +37,12 @@ Inv-loop file nodes links destinations trips table₀ budget excess limit times�
     × TotalsOf (studyOf nodes links destinations trips) table flows
 
 abbrev μ-loop : tie.MeasureT-loop
-μ-loop file nodes links destinations trips table₀ budget excess limit times₀ next₀ volumes₀ flows₀ powers chains judged₀ share₀ guess₀ known₀ table times next volumes flows judged share guess known =
+μ-loop file nodes links destinations trips table₀ budget excess limit times₀ next₀ volumes₀ flows₀ curves chains judged₀ share₀ guess₀ latest₀ known₀ table times next volumes flows judged share guess latest known =
     budget - judged
 
 -- The beginning, from the loop, and the loop, from a turn that is made and from its match.
 abbrev start-of : tie.At-loop Inv-loop μ-loop → tie.Start Inv-loop μ-loop
-start-of c = c .before .before .before .before .before .before .before .before .before .before .before .before .before .before .before .before .before .before .before .before .before
+start-of c = c .before .before .before .before .before .before .before .before .before .before .before .before .before .before .before .before .before .before .before .before .before .before .before .before
 
 abbrev loop-of : tie.After-turn-table Inv-loop μ-loop → tie.At-loop Inv-loop μ-loop
 loop-of c = c .before .before .before .before .before .before .before .before
@@ -55,7 +55,7 @@ abbrev chained-of : tie.At-loop Inv-loop μ-loop → tie.After-link-chains Inv-l
 chained-of c = first-of c .before .before .before .before .before .before .before .before
 
 abbrev counted-of : tie.At-loop Inv-loop μ-loop → tie.After-total-trips Inv-loop μ-loop
-counted-of c = chained-of c .before .before
+counted-of c = chained-of c .before .before .before .before .before
 
 abbrev turn-of : tie.At-match-keys2 Inv-loop μ-loop → tie.After-turn-table Inv-loop μ-loop
 turn-of c = c .before .before .before
@@ -70,25 +70,30 @@ mul-limit c =
     let given = c .before .before .before .before .before in
     omega (arith, limit-fits (given .pre .0) _ _ (given .args .excess) (given .pre .1) (c .total-trips .ensures) (omega (arith, given .fits .excess)))
 
-fourth-powers-requires : tie.Need-fourth-powers-requires Inv-loop μ-loop
-fourth-powers-requires c κs = search needs
+put-powers-requires : tie.Need-put-powers-requires Inv-loop μ-loop
+put-powers-requires c κs = length-replicate {A = ℕ} 769 0
+
+put-reciprocals-requires : tie.Need-put-reciprocals-requires Inv-loop μ-loop
+put-reciprocals-requires c κs =
+    let given = c .before .before .before .before .before .before .before .before .pre in
+    (links-fit (run-ready (given .0) _ _ 0 (given .1)), c .before .put-powers .ensures)
 
 link-chains-requires : tie.Need-link-chains-requires Inv-loop μ-loop
 link-chains-requires c κs =
-    let given = c .before .before .before .before .before .before .pre in
+    let given = c .before .before .before .before .before .before .before .before .before .pre in
     chainable (run-ready (given .0) _ _ 0 (given .1))
 
 start-table-requires : tie.Need-start-table-requires Inv-loop μ-loop
 start-table-requires c κs =
     let chained = c .before .before .before .before .before .before .before in
-    let given = chained .before .before .before .before .before .before .before .pre in (
-      (run-ready (given .0) _ _ 0 (given .1), record { chains-are = chained .link-chains .ensures; powers-are = chained .before .fourth-powers .ensures }),
+    let given = chained .before .before .before .before .before .before .before .before .before .before .pre in (
+      (run-ready (given .0) _ _ 0 (given .1), record { chains-are = chained .link-chains .ensures; powers-are = chained .before .put-reciprocals .ensures .powers }),
       (start-holds _ _ (given .0) (run-both _ _ _ (given .1) .0), (zeros-lent _ refl refl refl refl, refl)),
     )
 
 -- What the start left.
 abbrev from-start : tie.After-start-table Inv-loop μ-loop → tie.Start Inv-loop μ-loop
-from-start c = c .before .before .before .before .before .before .before .before .before .before .before .before .before .before .before
+from-start c = c .before .before .before .before .before .before .before .before .before .before .before .before .before .before .before .before .before .before
 
 begun :
     (c : tie.After-start-table Inv-loop μ-loop) →
@@ -118,7 +123,7 @@ write-totals-requires c κs =
       study .few-destinations,
       study .few-links,
       holds
-          (turn-judgeable (given .pre .0) _ _ (given .args .excess) (given .pre .1) _ 0 _ 1 (limit-there (first .before .before .before .before .before .before .before .before .before .before)) (begun-running _ _ _ _ (begun first))),
+          (turn-judgeable (given .pre .0) _ _ (given .args .excess) (given .pre .1) _ 0 _ 1 (limit-there (first .before .before .before .before .before .before .before .before .before .before .before .before .before)) (begun-running _ _ _ _ (begun first))),
       first .start-table .ensures .1 .1,
     )
 
@@ -164,11 +169,11 @@ turn-table-requires c κs =
     let given = start-of loop in
     let inv = loop .loop .inv in
     let chained = chained-of loop in (
-      (judgeable loop, record { chains-are = chained .link-chains .ensures; powers-are = chained .before .fourth-powers .ensures }),
+      (judgeable loop, record { chains-are = chained .link-chains .ensures; powers-are = chained .before .put-reciprocals .ensures .powers }, chained .before .put-reciprocals .ensures),
       (
         inv .3,
         record {
-          limit-fits = limit-fits (given .pre .0) _ _ _ (given .pre .1) (chained .before .before .total-trips .ensures) (omega (arith, given .fits .excess));
+          limit-fits = limit-fits (given .pre .0) _ _ _ (given .pre .1) (counted-of loop .total-trips .ensures) (omega (arith, given .fits .excess));
           totals-are = inv .4;
           known = inv .2;
         },
@@ -206,7 +211,7 @@ cost-requires c κs =
     let raised = chained-of (loop-of turn) .before in
     let known = still matched in (
       (links-fit (known .ready), share-fits known, totals-within known (turn .turn-table .ensures .1 .totals-are)),
-      raised .fourth-powers .ensures,
+      raised .put-reciprocals .ensures .powers,
     )
 
 ended-requires : tie.Need-ended-requires Inv-loop μ-loop
@@ -265,7 +270,8 @@ turns-spec =
     μ-loop
     total-trips-requires
     mul-limit
-    fourth-powers-requires
+    put-powers-requires
+    put-reciprocals-requires
     link-chains-requires
     start-table-requires
     index-1-write-totals

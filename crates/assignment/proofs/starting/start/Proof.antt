@@ -1,6 +1,8 @@
 -- `assignment::start` meets its contract: it fills a table that its questions accept, and leaves any other.
+use Prim.Native.Nat.{ℕ}
 use native.Mathlib.Omega.{arith}
 use mathlib.Core.Path.{_≡_, refl, sym, _∙_}
+use lib.ListN.{length-replicate}
 use borrow.Author.Needs.{needs}
 use denote.Ref.{now}
 use Rattle.calls.specs.Calls.{startNumber}
@@ -58,20 +60,20 @@ given c = read c .before .before .before .before .before .before
 accepted : (c : tie.Else1) → startNumber (now (given c .args .file)) (now (given c .args .table)) ≡ 0
 accepted c = sym (c .before .start-refusal .ensures) ∙ c .if1 .left
 
-fourth-powers-requires : tie.Need-fourth-powers-requires
-fourth-powers-requires c κs = search needs
+put-powers-requires : tie.Need-put-powers-requires
+put-powers-requires c κs = length-replicate {A = ℕ} 769 0
 
 link-chains-requires : tie.Need-link-chains-requires
 link-chains-requires c κs =
-    let else = c .before in
+    let else = c .before .before in
     chainable (start-ready _ _ (parts-decoded (read else .decode .ensures)) (accepted else))
 
 start-table-requires : tie.Need-start-table-requires
 start-table-requires c κs =
     let chained = c .before .before .before .before .before .before .before in
-    let else = chained .before .before in
+    let else = chained .before .before .before in
     let parts = parts-decoded (read else .decode .ensures) in (
-      (start-ready _ _ parts (accepted else), record { chains-are = chained .link-chains .ensures; powers-are = chained .before .fourth-powers .ensures }),
+      (start-ready _ _ parts (accepted else), record { chains-are = chained .link-chains .ensures; powers-are = chained .before .put-powers .ensures }),
       (start-holds _ _ parts (accepted else), (zeros-lent _ refl refl refl refl, refl)),
     )
 
@@ -80,7 +82,7 @@ same-length-2 c = search needs
 
 returns-2 : tie.Need-returns-2
 returns-2 c =
-    let else = c .before .before .before .before .before .before .before .before .before .before .before .before in
+    let else = c .before .before .before .before .before .before .before .before .before .before .before .before .before in
     (sym (accepted else), start-leaves _ _ (parts-decoded (read else .decode .ensures)) _ (accepted else) (c .before .before .start-table .ensures .0))
 
 pub start-spec : {M : Type 1} → statement M
@@ -98,7 +100,7 @@ start-spec =
     start-refusal-requires
     same-length
     returns
-    fourth-powers-requires
+    put-powers-requires
     link-chains-requires
     start-table-requires
     same-length-2

@@ -1,8 +1,8 @@
 -- `audit_table` meets its contract: the gap is that of the least times at the table's times, and the cost that of its totals.
-use Prim.Native.Nat.{_*_, _-_, _≤_}
+use Prim.Native.Nat.{ℕ, _*_, _-_, _≤_}
 use native.Mathlib.Omega.{arith}
 use mathlib.Core.Path.{_∙_, ap, ap₂}
-use lib.ListN.{length}
+use lib.ListN.{length, length-replicate}
 use borrow.Author.Needs.{needs}
 use Rattle.travel.specs.Laws.Padded.{zeros-clear}
 use Rattle.judging.specs.Laws.Study.{links-fit, chainable, searchable}
@@ -12,7 +12,7 @@ use Rattle.judging.proofs.audit.audit_table.Tie as tie
 
 -- The places at which totals, times, the chain, least times and the times spent are there, each with the one before.
 abbrev of-totals : tie.After-totals → tie.Start
-of-totals c = c .before .before .before .before .before
+of-totals c = c .before .before .before .before .before .before
 
 abbrev of-times : tie.After-times2 → tie.After-totals
 of-times c = c .before .before .before .before
@@ -23,11 +23,11 @@ of-least c = c .before .before .before
 abbrev of-spent : tie.After-product → tie.After-least-times
 of-spent c = c .before .before .before
 
-fourth-powers-requires : tie.Need-fourth-powers-requires
-fourth-powers-requires c κs = search needs
+put-powers-requires : tie.Need-put-powers-requires
+put-powers-requires c κs = length-replicate {A = ℕ} 769 0
 
 totals-requires : tie.Need-totals-requires
-totals-requires c κs = let given = c .before .before .before .before .pre in
+totals-requires c κs = let given = c .before .before .before .before .before .pre in
     (given .ready .few-destinations, given .ready .few-links, holds given)
 
 times-requires : tie.Need-times-requires
@@ -35,7 +35,7 @@ times-requires c κs = let at = c .before .before .before in
     let start = of-totals at in
     let given = start .pre in (
       (links-fit (given .ready), share-fits given, totals-within given (at .totals .ensures .0)),
-      (at .before .fourth-powers .ensures, zeros-clear (length (start .args .links .now))),
+      (at .before .put-powers .ensures, zeros-clear (length (start .args .links .now))),
     )
 
 into-chain-requires : tie.Need-into-chain-requires
@@ -77,7 +77,7 @@ cost-requires : tie.Need-cost-requires
 cost-requires c κs = let at = of-times (of-least (of-spent (c .before .before)) .before) in
     let given = of-totals at .pre in (
       (links-fit (given .ready), share-fits given, totals-within given (at .totals .ensures .0)),
-      at .before .fourth-powers .ensures,
+      at .before .put-powers .ensures,
     )
 
 returns : tie.Need-returns
@@ -98,7 +98,7 @@ pub audit-table-spec : {M : Type 1} → statement M
 audit-table-spec =
     tie.close
     (tie.spec
-    fourth-powers-requires
+    put-powers-requires
     totals-requires
     times-requires
     into-chain-requires

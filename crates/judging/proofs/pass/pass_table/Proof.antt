@@ -1,6 +1,7 @@
 -- `pass_table` meets its contract: the table is judged by what is computed of it, and moved by the chosen j.
+use Prim.Native.Nat.{ℕ}
 use mathlib.Core.Path.{refl, _∙_, ap}
-use lib.ListN.{length}
+use lib.ListN.{length, length-replicate}
 use borrow.Author.Needs.{needs}
 use Rattle.theory.specs.Laws.Cases.{true-false}
 use Rattle.calls.specs.Calls.{shareAfter, tableAfter}
@@ -9,14 +10,14 @@ use Rattle.judging.specs.Laws.Judged.{zeros-lent, share-fits, holds, tot
 use Rattle.judging.proofs.pass.pass_table.Statement.{statement}
 use Rattle.judging.proofs.pass.pass_table.Tie as tie
 
--- The places at which chains, fourth powers, totals, what judging computes, the gap, the cost and j are there, each with the one before.
-abbrev of-totals : tie.After-totals → tie.After-fourth-powers
-of-totals c = c .before .before
+-- The places at which chains, powers and reciprocals, totals, what judging computes, the gap, the cost and j are there, each with the one before.
+abbrev of-totals : tie.After-write-totals → tie.After-put-reciprocals
+of-totals c = c .before .before .before
 
-abbrev start : tie.After-totals → tie.Start
-start c = of-totals c .before .before .before .before .before
+abbrev start : tie.After-write-totals → tie.Start
+start c = of-totals c .before .before .before .before .before .before .before .before
 
-abbrev of-judge : tie.After-judge → tie.After-totals
+abbrev of-judge : tie.After-judge → tie.After-write-totals
 of-judge c = c .before .before .before .before .before .before .before
 
 abbrev of-gap : tie.After-gap-of → tie.After-judge
@@ -31,15 +32,20 @@ of-chosen c = c .before .before .before
 link-chains-requires : tie.Need-link-chains-requires
 link-chains-requires c κs = chainable (c .before .before .before .pre .ready)
 
-fourth-powers-requires : tie.Need-fourth-powers-requires
-fourth-powers-requires c κs = search needs
+put-powers-requires : tie.Need-put-powers-requires
+put-powers-requires c κs = length-replicate {A = ℕ} 769 0
 
-totals-requires : tie.Need-totals-requires
-totals-requires c κs = let given = c .before .before .before .before .before .before .pre in
-    (given .ready .few-destinations, given .ready .few-links, holds given)
+put-reciprocals-requires : tie.Need-put-reciprocals-requires
+put-reciprocals-requires c κs =
+    (links-fit (c .before .before .before .before .before .before .before .pre .ready), c .before .put-powers .ensures)
 
-array-set-from-flows : tie.Need-array-set-from-flows
-array-set-from-flows c = search needs
+index-1-write-totals : tie.Need-index-1-write-totals
+index-1-write-totals c = search needs
+
+write-totals-requires : tie.Need-write-totals-requires
+write-totals-requires c κs =
+    let given = c .before .before .before .before .before .before .before .before .before .before .pre in
+    (given .ready .few-destinations, given .ready .few-links, holds given, refl)
 
 judge-requires : tie.Need-judge-requires
 judge-requires c κs = let at = c .before .before .before .before .before .before in
@@ -47,18 +53,18 @@ judge-requires c κs = let at = c .before .before .before .before .before .befor
       (
         given .ready,
         share-fits given,
-        record { chains-are = of-totals at .before .link-chains .ensures; powers-are = of-totals at .fourth-powers .ensures },
+        record { chains-are = of-totals at .before .before .before .before .link-chains .ensures; powers-are = of-totals at .put-reciprocals .ensures .powers },
       ),
       (
         λ e. true-false e refl,
-        (zeros-lent (length (start at .args .links .now)) refl refl refl refl, totals-within given (at .totals .ensures .0)),
+        (zeros-lent (length (start at .args .links .now)) refl refl refl refl, totals-within given (at .write-totals .ensures .0)),
       ),
     )
 
 gap-of-requires : tie.Need-gap-of-requires
 gap-of-requires c κs = let judged = c .before .before in
     let at = of-judge judged in
-    gap-fits (start at .pre) (judged .judge .ensures) (at .totals .ensures .0)
+    gap-fits (start at .pre) (judged .judge .ensures) (at .write-totals .ensures .0)
 
 index-1-cost : tie.Need-index-1-cost
 index-1-cost c = search needs
@@ -67,12 +73,12 @@ cost-requires : tie.Need-cost-requires
 cost-requires c κs = let judged = of-gap (c .before .before) in
     let at = of-judge judged in
     let given = start at .pre in
-    ((links-fit (given .ready), share-fits given, totals-within given (totals-are given (judged .judge .ensures) (at .totals .ensures .0))), of-totals at .fourth-powers .ensures)
+    ((links-fit (given .ready), share-fits given, totals-within given (totals-are given (judged .judge .ensures) (at .write-totals .ensures .0))), of-totals at .put-reciprocals .ensures .powers)
 
 chosen-requires : tie.Need-chosen-requires
 chosen-requires c κs = let judged = of-gap (of-cost (c .before .before)) in
     let at = of-judge judged in
-    (move-fits (start at .pre) (judged .judge .ensures) (at .totals .ensures .0), of-totals at .fourth-powers .ensures)
+    (move-fits (start at .pre) (judged .judge .ensures) (at .write-totals .ensures .0), of-totals at .put-reciprocals .ensures)
 
 can-move-requires : tie.Need-can-move-requires
 can-move-requires c κs = start (of-judge (of-gap (of-cost (of-chosen c)))) .pre .share-most
@@ -81,7 +87,7 @@ move-table-requires : tie.Need-move-table-requires
 move-table-requires c κs = let chose = c .before .before .before .before in
     let judged = of-gap (of-cost (of-chosen chose)) in
     let at = of-judge judged in
-    movable (start at .pre) (judged .judge .ensures) (at .totals .ensures .0) (chose .chosen .ensures)
+    movable (start at .pre) (judged .judge .ensures) (at .write-totals .ensures .0) (chose .chosen .ensures)
 
 same-length : tie.Need-same-length
 same-length c = search needs
@@ -97,7 +103,7 @@ returns c = let moved = c .before .before in
     let begin = start at in
     let judgeable = begin .pre in
     let known = judged .judge .ensures in
-    let sums = at .totals .ensures .0 in
+    let sums = at .write-totals .ensures .0 in
     let next = move-is judgeable known sums (chose .chosen .ensures) in
     record {
       moved-is = can .can-move .ensures ∙ moves-is judgeable known sums (chose .chosen .ensures);
@@ -112,9 +118,10 @@ pass-table-spec =
     tie.close
     (tie.spec
     link-chains-requires
-    fourth-powers-requires
-    totals-requires
-    array-set-from-flows
+    put-powers-requires
+    put-reciprocals-requires
+    index-1-write-totals
+    write-totals-requires
     judge-requires
     gap-of-requires
     index-1-cost

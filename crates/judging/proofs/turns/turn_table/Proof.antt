@@ -72,7 +72,7 @@ can-move-yes c = was-yes (c .before .can-move .ensures) (c .if2 .left)
 
 judge-requires : tie.Need-judge-requires
 judge-requires c κs =
-    let ((judgeable, prepared), (lent, stands)) = c .before .before .before .before .before .before .before .pre in
+    let ((judgeable, prepared, curves), (lent, stands)) = c .before .before .before .before .before .before .before .pre in
     ((judgeable .ready, share-fits judgeable, prepared), (stands .known, (lent, totals-within judgeable (stands .totals-are))))
 
 gap-of-requires : tie.Need-gap-of-requires
@@ -106,7 +106,7 @@ returns c = let at = c .before .before .before in
 chosen-requires : tie.Need-chosen-requires
 chosen-requires c κs = let at = of-gap (of-above (c .before)) in
     let given = start at .pre in
-    (move-fits (given .0 .0) (at .judge .ensures) (given .1 .1 .totals-are), given .0 .1 .powers-are)
+    (move-fits (given .0 .0) (at .judge .ensures) (given .1 .1 .totals-are), given .0 .2)
 
 can-move-requires : tie.Need-can-move-requires
 can-move-requires c κs = start (judged c) .pre .0 .0 .share-most

@@ -18,11 +18,11 @@ abbrev qualifying : List (List ℕ) → List (List ℕ) → ℕ → ℕ → Bool
 qualifying links flows share j = qualifies (roads links) share (totalOf flows) (loadOf flows) j
 
 abbrev Inv-loop : tie.InvT-loop
-Inv-loop links flows share guess gap powers low₀ high₀ below₀ above₀ tries₀ low high below above tries =
+Inv-loop links flows share guess gap curves low₀ high₀ below₀ above₀ tries₀ low high below above tries =
     Between (min 64 (1024 - share)) (qualifying links flows share) low high
 
 abbrev μ-loop : tie.MeasureT-loop
-μ-loop links flows share guess gap powers low₀ high₀ below₀ above₀ tries₀ low high below above tries =
+μ-loop links flows share guess gap curves low₀ high₀ below₀ above₀ tries₀ low high below above tries =
     high - low
 
 last-requires : tie.Need-last-requires Inv-loop μ-loop

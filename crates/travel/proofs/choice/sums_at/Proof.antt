@@ -4,12 +4,14 @@ use Prim.Native.Nat.{ℕ, _+_, _*_, _-_, _≤_, _<_}
 use native.Mathlib.Nat.{mul-le-mul}
 use native.Mathlib.Omega.{arith}
 use mathlib.Core.Path.{_≡_, sym, _∙_, ap}
-use mathlib.Core.List.{List}
-use lib.ListN.{length}
+use mathlib.Core.List.{List, []}
+use lib.ListN.{length, getD}
 use borrow.Author.Needs.{needs}
-use Rattle.travel.specs.Links.{totalOf, loadOf}
+use Rattle.theory.specs.Study.{capacity}
+use Rattle.travel.specs.Links.{rowTime, totalOf, loadOf}
 use Rattle.travel.specs.Ranges.{mostFlow, mostTime}
-use Rattle.travel.specs.Laws.Choice.{movedAt, movedTo, moved-none, moved-more, moved-all, moved-most}
+use Rattle.travel.specs.Laws.Choice.{movedAt, movedTo, moved-flow, moved-none, moved-more, moved-all, moved-most}
+use Rattle.travel.specs.Laws.Reciprocals.{Divisible, share-product, capacity-product, step-by}
 use Rattle.travel.proofs.choice.sums_at.Statement.{statement}
 use Rattle.travel.proofs.choice.sums_at.Tie as tie
 
@@ -18,10 +20,10 @@ abbrev moved : List (List ℕ) → List (List ℕ) → ℕ → ℕ → (ℕ → 
 moved links flows share j amount l = movedTo links share (totalOf flows) (loadOf flows) j amount l
 
 abbrev Inv-loop : tie.InvT-loop
-Inv-loop links flows share j powers loaded₀ spent₀ l₀ loaded spent l = (l ≤ length links) × (loaded ≡ moved links flows share j (loadOf flows) l) × (spent ≡ moved links flows share j (totalOf flows) l)
+Inv-loop links flows share j curves by-share loaded₀ spent₀ l₀ loaded spent l = (l ≤ length links) × (loaded ≡ moved links flows share j (loadOf flows) l) × (spent ≡ moved links flows share j (totalOf flows) l)
 
 abbrev μ-loop : tie.MeasureT-loop
-μ-loop links flows share j powers loaded₀ spent₀ l₀ loaded spent l = length links - l
+μ-loop links flows share j curves by-share loaded₀ spent₀ l₀ loaded spent l = length links - l
 
 -- The same of a call's arguments.
 abbrev sum-of : tie.Start Inv-loop μ-loop → (ℕ → ℕ) → ℕ → ℕ
@@ -39,35 +41,78 @@ loaded-most c l p = sum-most c (loadOf (c .args .flows .now)) 65535 (c .pre .0 .
 spent-most : (c : tie.Start Inv-loop μ-loop) (l : ℕ) → l ≤ length (c .args .links .now) → sum-of c (totalOf (c .args .flows .now)) l ≤ l * (mostFlow * mostTime)
 spent-most c l p = sum-most c (totalOf (c .args .flows .now)) mostFlow (λ i q. omega (arith, c .pre .0 .totals-fit i q)) l p
 
-abbrev at-loop : tie.After-moved-time Inv-loop μ-loop → tie.At-loop Inv-loop μ-loop
-at-loop c = c .before .before .before .before .before
+abbrev at-loop : tie.After-time-at Inv-loop μ-loop → tie.At-loop Inv-loop μ-loop
+at-loop c = c .before .before .before .before .before .before .before
+
+-- The step of a turn's link after the move, by reciprocals.
+abbrev loop-of : tie.After-step-by-arg Inv-loop μ-loop → tie.At-loop Inv-loop μ-loop
+loop-of c = c .before .before .before .before
+
+abbrev start : tie.After-step-by-arg Inv-loop μ-loop → tie.Start Inv-loop μ-loop
+start c = loop-of c .before .before
+
+abbrev flow-of : tie.After-step-by-arg Inv-loop μ-loop → ℕ
+flow-of c = let x = start c .args in totalOf (x .flows .now) (loop-of c .loop .l) + x .j * loadOf (x .flows .now) (loop-of c .loop .l)
+
+divisible : (c : tie.After-step-by-arg Inv-loop μ-loop) →
+    let x = start c .args in
+    Divisible (capacity (x .links .now) (loop-of c .loop .l)) (x .share + x .j) (flow-of c) (getD (x .curves .now) (257 + loop-of c .loop .l) 0) (loop-of c .before .share-reciprocal .result)
+divisible c =
+    let l = loop-of c .loop .l in
+    let fit = start c .pre .0 in
+    let curves = start c .pre .2 .reciprocals in
+    record {
+      capacity-is = curves .reciprocal-at l (omega arith);
+      share-is = loop-of c .before .share-reciprocal .ensures;
+      some-capacity = fit .links-fit .link l (omega arith) .some-capacity;
+      capacity-most = curves .capacity-fits l (omega arith);
+      some-share = omega arith;
+      share-most = start c .pre .1;
+      flow-most = moved-flow (start c .args .share) _ _ (start c .args .j) (fit .totals-fit l (omega arith)) (fit .loads-fit l (omega arith));
+    }
+
+-- The time that a turn works out.
+time-is : (c : tie.After-time-at Inv-loop μ-loop) (amount : ℕ → ℕ) →
+    let x = at-loop c .before .before .args in
+    c .time-at .result ≡ movedAt (x .links .now) (x .share) (totalOf (x .flows .now)) (loadOf (x .flows .now)) (x .j) amount (at-loop c .loop .l)
+time-is c amount =
+    let at = c .before .before in
+    c .time-at .ensures .0
+    ∙ ap (rowTime (getD (start (at .before) .args .links .now) (at-loop c .loop .l) [])) (at .step-by .ensures .0 ∙ step-by _ _ _ (divisible (at .before)))
 
 -- After a turn each sum is that of one link more.
-turn : (c : tie.After-moved-time Inv-loop μ-loop) (amount : ℕ → ℕ) (sum : ℕ) →
-    sum ≡ sum-of (at-loop c .before) amount (at-loop c .loop .l) →
-    sum + amount (at-loop c .loop .l) * c .moved-time .result ≡ sum-of (at-loop c .before) amount (at-loop c .loop .l + 1)
+turn : (c : tie.After-time-at Inv-loop μ-loop) (amount : ℕ → ℕ) (sum : ℕ) →
+    sum ≡ sum-of (at-loop c .before .before) amount (at-loop c .loop .l) →
+    sum + amount (at-loop c .loop .l) * c .time-at .result ≡ sum-of (at-loop c .before .before) amount (at-loop c .loop .l + 1)
 turn c amount sum e =
     let l = at-loop c .loop .l in
-    let x = at-loop c .before .args in
+    let x = at-loop c .before .before .args in
     omega (
       arith,
       e,
-      ap (λ t. amount l * t) {y = movedAt (x .links .now) (x .share) (totalOf (x .flows .now)) (loadOf (x .flows .now)) (x .j) amount l} (c .moved-time .ensures .0),
+      ap (λ t. amount l * t) {y = movedAt (x .links .now) (x .share) (totalOf (x .flows .now)) (loadOf (x .flows .now)) (x .j) amount l} (time-is c amount),
       moved-more (x .links .now) (x .share) (totalOf (x .flows .now)) (loadOf (x .flows .now)) (x .j) amount l,
     )
 
-loaded-turn : (c : tie.After-moved-time Inv-loop μ-loop) →
-    at-loop c .loop .loaded + loadOf (at-loop c .before .args .flows .now) (at-loop c .loop .l) * c .moved-time .result ≡ sum-of (at-loop c .before) (loadOf (at-loop c .before .args .flows .now)) (at-loop c .loop .l + 1)
-loaded-turn c = turn c (loadOf (at-loop c .before .args .flows .now)) (at-loop c .loop .loaded) (at-loop c .loop .inv .1)
+loaded-turn : (c : tie.After-time-at Inv-loop μ-loop) →
+    at-loop c .loop .loaded + loadOf (at-loop c .before .before .args .flows .now) (at-loop c .loop .l) * c .time-at .result ≡ sum-of (at-loop c .before .before) (loadOf (at-loop c .before .before .args .flows .now)) (at-loop c .loop .l + 1)
+loaded-turn c = turn c (loadOf (at-loop c .before .before .args .flows .now)) (at-loop c .loop .loaded) (at-loop c .loop .inv .1)
 
-spent-turn : (c : tie.After-moved-time Inv-loop μ-loop) →
-    at-loop c .loop .spent + totalOf (at-loop c .before .args .flows .now) (at-loop c .loop .l) * c .moved-time .result ≡ sum-of (at-loop c .before) (totalOf (at-loop c .before .args .flows .now)) (at-loop c .loop .l + 1)
-spent-turn c = turn c (totalOf (at-loop c .before .args .flows .now)) (at-loop c .loop .spent) (at-loop c .loop .inv .2)
+spent-turn : (c : tie.After-time-at Inv-loop μ-loop) →
+    at-loop c .loop .spent + totalOf (at-loop c .before .before .args .flows .now) (at-loop c .loop .l) * c .time-at .result ≡ sum-of (at-loop c .before .before) (totalOf (at-loop c .before .before .args .flows .now)) (at-loop c .loop .l + 1)
+spent-turn c = turn c (totalOf (at-loop c .before .before .args .flows .now)) (at-loop c .loop .spent) (at-loop c .loop .inv .2)
+
+add-share-reciprocal : tie.Need-add-share-reciprocal Inv-loop μ-loop
+add-share-reciprocal c = search needs
+
+share-reciprocal-requires : tie.Need-share-reciprocal-requires Inv-loop μ-loop
+share-reciprocal-requires c κs = search needs
 
 loop-holds : tie.Need-loop-holds Inv-loop μ-loop
 loop-holds c =
-    let none : (amount : ℕ → ℕ) → 0 ≡ sum-of c amount 0 = λ amount. sym (moved-none (c .args .links .now) (c .args .share) (totalOf (c .args .flows .now)) (loadOf (c .args .flows .now)) (c .args .j) amount) in
-    (search needs, none (loadOf (c .args .flows .now)), none (totalOf (c .args .flows .now)))
+    let x = c .before .args in
+    let none : (amount : ℕ → ℕ) → 0 ≡ sum-of (c .before) amount 0 = λ amount. sym (moved-none (x .links .now) (x .share) (totalOf (x .flows .now)) (loadOf (x .flows .now)) (x .j) amount) in
+    (search needs, none (loadOf (x .flows .now)), none (totalOf (x .flows .now)))
 
 mul-s : tie.Need-mul-s Inv-loop μ-loop
 mul-s c = search needs
@@ -87,30 +132,48 @@ index-1-y c = search needs
 index-2-y : tie.Need-index-2-y Inv-loop μ-loop
 index-2-y c = search needs
 
-mul-moved-time : tie.Need-mul-moved-time Inv-loop μ-loop
-mul-moved-time c = search needs
+add-step-by : tie.Need-add-step-by Inv-loop μ-loop
+add-step-by c = search needs
 
-shared-slice-copy-out-moved-time : tie.Need-shared-slice-copy-out-moved-time Inv-loop μ-loop
-shared-slice-copy-out-moved-time c = search needs
+mul-step-by : tie.Need-mul-step-by Inv-loop μ-loop
+mul-step-by c = search needs
 
-moved-time-requires : tie.Need-moved-time-requires Inv-loop μ-loop
-moved-time-requires c κs =
-    let l = c .before .before .before .before .loop .l in
-    let pre = c .before .before .before .before .before .pre in
-    let fit = pre .0 in
-    (fit .links-fit .link l (omega arith), search needs, search needs, fit .totals-fit l (omega arith), fit .loads-fit l (omega arith), pre .2)
+element-copy-out-step-by : tie.Need-element-copy-out-step-by Inv-loop μ-loop
+element-copy-out-step-by c = search needs
+
+mul-step-by-2 : tie.Need-mul-step-by-2 Inv-loop μ-loop
+mul-step-by-2 c = omega (arith, divisible c .flow-most, divisible c .share-most)
+
+add-step-by-2 : tie.Need-add-step-by-2 Inv-loop μ-loop
+add-step-by-2 c = omega (arith, divisible c .flow-most, divisible c .share-most)
+
+step-by-requires : tie.Need-step-by-requires Inv-loop μ-loop
+step-by-requires c κs =
+    let d = divisible c in
+    ((omega (arith, d .flow-most, d .share-most), share-product _ _ _ d), capacity-product _ _ _ d)
+
+mul-time-at : tie.Need-mul-time-at Inv-loop μ-loop
+mul-time-at c = search needs
+
+shared-slice-copy-out-time-at : tie.Need-shared-slice-copy-out-time-at Inv-loop μ-loop
+shared-slice-copy-out-time-at c = search needs
+
+time-at-requires : tie.Need-time-at-requires Inv-loop μ-loop
+time-at-requires c κs =
+    let turn = c .before .before in
+    (start turn .pre .0 .links-fit .link (loop-of turn .loop .l) (omega arith), c .before .step-by .ensures .1, start turn .pre .2 .powers)
 
 mul-loaded : tie.Need-mul-loaded Inv-loop μ-loop
-mul-loaded c = omega (arith, loaded-turn c, loaded-most (at-loop c .before) (at-loop c .loop .l + 1) (omega arith))
+mul-loaded c = omega (arith, loaded-turn c, loaded-most (at-loop c .before .before) (at-loop c .loop .l + 1) (omega arith))
 
 add-loaded : tie.Need-add-loaded Inv-loop μ-loop
-add-loaded c = omega (arith, loaded-turn c, loaded-most (at-loop c .before) (at-loop c .loop .l + 1) (omega arith))
+add-loaded c = omega (arith, loaded-turn c, loaded-most (at-loop c .before .before) (at-loop c .loop .l + 1) (omega arith))
 
 mul-spent : tie.Need-mul-spent Inv-loop μ-loop
-mul-spent c = omega (arith, spent-turn c, spent-most (at-loop c .before) (at-loop c .loop .l + 1) (omega arith))
+mul-spent c = omega (arith, spent-turn c, spent-most (at-loop c .before .before) (at-loop c .loop .l + 1) (omega arith))
 
 add-spent : tie.Need-add-spent Inv-loop μ-loop
-add-spent c = omega (arith, spent-turn c, spent-most (at-loop c .before) (at-loop c .loop .l + 1) (omega arith))
+add-spent c = omega (arith, spent-turn c, spent-most (at-loop c .before .before) (at-loop c .loop .l + 1) (omega arith))
 
 add-l : tie.Need-add-l Inv-loop μ-loop
 add-l c = search needs
@@ -123,12 +186,12 @@ loop-again c = (search needs, loaded-turn c, spent-turn c)
 
 mul-loaded-2 : tie.Need-mul-loaded-2 Inv-loop μ-loop
 mul-loaded-2 c =
-    let low : c .before .loop .loaded ≤ 512 * (65535 * mostTime) = omega (arith, c .before .loop .inv .1, loaded-most (c .before .before) (c .before .loop .l) (omega arith)) in
-    omega (arith, mul-le-mul {n₁ = c .before .before .args .share} {n₂ = 1024} (search needs) low)
+    let low : c .before .loop .loaded ≤ 512 * (65535 * mostTime) = omega (arith, c .before .loop .inv .1, loaded-most (c .before .before .before) (c .before .loop .l) (omega arith)) in
+    omega (arith, mul-le-mul {n₁ = c .before .before .before .args .share} {n₂ = 1024} (search needs) low)
 
 returns : tie.Need-returns Inv-loop μ-loop
 returns c =
-    let x = c .before .before .args in
+    let x = c .before .before .before .args in
     let end : c .before .loop .l ≡ length (x .links .now) = omega arith in
     let all = moved-all (x .links .now) (x .share) (totalOf (x .flows .now)) (loadOf (x .flows .now)) (x .j) in (
       ap (λ sum. x .share * sum) (rw end at (c .before .loop .inv .1) ∙ all (loadOf (x .flows .now))),
@@ -141,6 +204,8 @@ sums-at-spec =
     (tie.spec
     Inv-loop
     μ-loop
+    add-share-reciprocal
+    share-reciprocal-requires
     loop-holds
     mul-s
     index-1-s
@@ -148,9 +213,15 @@ sums-at-spec =
     mul-y
     index-1-y
     index-2-y
-    mul-moved-time
-    shared-slice-copy-out-moved-time
-    moved-time-requires
+    add-step-by
+    mul-step-by
+    element-copy-out-step-by
+    mul-step-by-2
+    add-step-by-2
+    step-by-requires
+    mul-time-at
+    shared-slice-copy-out-time-at
+    time-at-requires
     mul-loaded
     add-loaded
     mul-spent

@@ -10,10 +10,10 @@ use Rattle.travel.proofs.costs.cost.Statement.{statement}
 use Rattle.travel.proofs.costs.cost.Tie as tie
 
 abbrev Inv-loop : tie.InvT-loop
-Inv-loop links flows share powers area₀ l₀ area l = (l ≤ length links) × (area ≡ costTo links share flows l)
+Inv-loop links flows share curves area₀ l₀ area l = (l ≤ length links) × (area ≡ costTo links share flows l)
 
 abbrev μ-loop : tie.MeasureT-loop
-μ-loop links flows share powers area₀ l₀ area l = length links - l
+μ-loop links flows share curves area₀ l₀ area l = length links - l
 
 -- The cost of the first l links of a call.
 abbrev cost-of : tie.Start Inv-loop μ-loop → ℕ → ℕ

@@ -16,25 +16,25 @@ use Rattle.travel.proofs.costs.heights_below.Statement.{statement}
 use Rattle.travel.proofs.costs.heights_below.Tie as tie
 
 abbrev Inv-loop : tie.InvT-loop
-Inv-loop step powers link rise risen₀ r₀ risen r = (r ≤ step) × (risen ≡ sum r (risenAt (getD link 3 0)))
+Inv-loop step curves link rise risen₀ r₀ risen r = (r ≤ step) × (risen ≡ sum r (risenAt (getD link 3 0)))
 
 abbrev μ-loop : tie.MeasureT-loop
-μ-loop step powers link rise risen₀ r₀ risen r = step - r
+μ-loop step curves link rise risen₀ r₀ risen r = step - r
 
 -- The power that a turn reads.
-low : (c : tie.After-risen Inv-loop μ-loop) → getD (c .before .before .before .args .powers .now) (c .before .before .loop .r) 0 ≤ 4228250625
+low : (c : tie.After-risen Inv-loop μ-loop) → getD (c .before .before .before .args .curves .now) (c .before .before .loop .r) 0 ≤ 4228250625
 low c =
     let at-loop = c .before .before in
-    power-below (at-loop .before .args .powers .now) (at-loop .before .pre .2) (at-loop .loop .r) (omega arith)
+    power-below (at-loop .before .args .curves .now) (at-loop .before .pre .2) (at-loop .loop .r) (omega arith)
 
 -- After a turn the sum is that of one tread more.
 turn : (c : tie.After-risen Inv-loop μ-loop) →
-    c .before .before .loop .risen + getD (c .before .before .before .args .t1) 3 0 * getD (c .before .before .before .args .powers .now) (c .before .before .loop .r) 0 / 16777216 ≡ sum (c .before .before .loop .r + 1) (risenAt (getD (c .before .before .before .args .t1) 3 0))
+    c .before .before .loop .risen + getD (c .before .before .before .args .t1) 3 0 * getD (c .before .before .before .args .curves .now) (c .before .before .loop .r) 0 / 16777216 ≡ sum (c .before .before .loop .r + 1) (risenAt (getD (c .before .before .before .args .t1) 3 0))
 turn c =
     let at-loop = c .before .before in
     let x = at-loop .before .args in
     let b = getD (x .t1) 3 0 in
-    ap₂ _+_ (at-loop .loop .inv .1) (rise-at (x .powers .now) (at-loop .before .pre .2) (at-loop .loop .r) b (omega arith))
+    ap₂ _+_ (at-loop .loop .inv .1) (rise-at (x .curves .now) (at-loop .before .pre .2) (at-loop .loop .r) b (omega arith))
     ∙ sym (sum-suc (at-loop .loop .r) (risenAt b))
 
 -- What the code adds up at the end is the sum of the heights.

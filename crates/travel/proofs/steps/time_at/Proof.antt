@@ -31,17 +31,17 @@ element-copy-out-result c = search needs
 mul-result-2 : tie.Need-mul-result-2
 mul-result-2 c =
     let x = c .before .args in
-    omega (arith, rise-most (x .powers .now) (c .before .pre .2) (x .step) (getD (x .t1) 3 0) (search needs) (search needs))
+    omega (arith, rise-most (x .curves .now) (c .before .pre .2) (x .step) (getD (x .t1) 3 0) (search needs) (search needs))
 
 add-result : tie.Need-add-result
 add-result c =
     let x = c .before .args in
-    omega (arith, rise-most (x .powers .now) (c .before .pre .2) (x .step) (getD (x .t1) 3 0) (search needs) (search needs))
+    omega (arith, rise-most (x .curves .now) (c .before .pre .2) (x .step) (getD (x .t1) 3 0) (search needs) (search needs))
 
 returns : tie.Need-returns
 returns c =
     let x = c .before .args in
-    let same : getD (x .t1) 2 0 + getD (x .t1) 3 0 * getD (x .powers .now) (x .step) 0 / 16777216 ≡ rowTime (x .t1) (x .step) = time-at (x .powers .now) (c .before .pre .2) (x .step) (getD (x .t1) 2 0) (getD (x .t1) 3 0) (search needs) in
+    let same : getD (x .t1) 2 0 + getD (x .t1) 3 0 * getD (x .curves .now) (x .step) 0 / 16777216 ≡ rowTime (x .t1) (x .step) = time-at (x .curves .now) (c .before .pre .2) (x .step) (getD (x .t1) 2 0) (getD (x .t1) 3 0) (search needs) in
     (same, rw same (rowTime-most (x .t1) (x .step) (c .before .pre .0) (search needs)))
 
 pub time-at-spec : {M : Type 1} → statement M

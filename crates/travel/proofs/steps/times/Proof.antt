@@ -12,10 +12,10 @@ use Rattle.travel.proofs.steps.times.Statement.{statement}
 use Rattle.travel.proofs.steps.times.Tie as tie
 
 abbrev Inv-loop : tie.InvT-loop
-Inv-loop links flows share powers times₀ l₀ times l = (l ≤ length links) × Filled l (length links) (listTime links share flows) times
+Inv-loop links flows share curves times₀ l₀ times l = (l ≤ length links) × Filled l (length links) (listTime links share flows) times
 
 abbrev μ-loop : tie.MeasureT-loop
-μ-loop links flows share powers times₀ l₀ times l = length links - l
+μ-loop links flows share curves times₀ l₀ times l = length links - l
 
 loop-holds : tie.Need-loop-holds Inv-loop μ-loop
 loop-holds c = (search needs, filled-none (length (c .args .links .now)) _ (c .args .times .now) (c .pre .1 .1))
