@@ -20,7 +20,7 @@ pub fn start_refusal(
     if opening != 0 {
         return opening;
     }
-    let refusal = network::study_refusal(nodes, links, destinations, trips);
+    let refusal = questions::study_refusal(nodes, links, destinations, trips);
     if refusal != 0 {
         return refusal;
     }
@@ -48,7 +48,7 @@ pub fn table_refusal(
     if refusal != 0 {
         return refusal;
     }
-    let total = network::total_trips(trips);
+    let total = questions::total_trips(trips);
     judging::table_refusal(nodes, links, destinations, trips, total, table, share)
 }
 

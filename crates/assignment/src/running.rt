@@ -57,7 +57,7 @@ fn turns(
     ensures { λ r. ⌜ r ≡ runAnswer (now (file .entry)) (now (table .entry)) budget excess ⌝ }
     ensures { λ _. ⌜ now (table .exit) ≡ runTable (now (file .entry)) (now (table .entry)) budget excess ⌝ }
 {
-    let limit = excess as u64 * network::total_trips(trips);
+    let limit = excess as u64 * questions::total_trips(trips);
     let mut times = [0u32; 512];
     let mut next = [[0u16; 128]; 32];
     let mut volumes = [[0u16; 128]; 32];

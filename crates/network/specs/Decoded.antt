@@ -40,13 +40,6 @@ HasRow tripBytes n k = (j : ℕ) → j < n → HasTrips tripBytes n k j
 unfoldable pub HasRows : List ℕ → ℕ → ℕ → Type 0
 HasRows tripBytes n p = (k : ℕ) → k < p → HasRow tripBytes n k
 
--- A study is of the size that questions 3 and 5 allow.
-pub record Sized (n : ℕ) (linkList : List (List ℕ)) (nodeList entries : List ℕ) : Type 0 where
-  pub few-nodes : n ≤ 128
-  pub few-links : length linkList ≤ 512
-  pub few-destinations : length nodeList ≤ 32
-  pub entries-long : length entries ≡ length nodeList * n
-
 -- What decoding makes of a file: the number of the first of questions 1 to 5 that refuses it, or 0; n, m and p; and its rows in the first
 -- places of three arrays.
 pub record Decoded (file : List ℕ) (opening : Opening) (linkArray : List (List ℕ)) (nodeArray entryArray : List ℕ) : Type 0 where

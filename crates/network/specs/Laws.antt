@@ -1,6 +1,4 @@
 -- The laws of the definitions above.
 pub mod Decoding
-pub mod Questions
-pub mod Bits
-pub mod Reach
+pub mod Checking
 pub mod Packing

@@ -1,6 +1,4 @@
 -- What the functions of this crate compute, over the decoded fields of a study.
 pub mod Decoded
-pub mod Destinations
-pub mod Reach
 pub mod Written
 pub mod Laws

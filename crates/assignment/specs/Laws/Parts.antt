@@ -16,7 +16,8 @@ use Rattle.calls.specs.Questions.{studyQuestions, tableHolds}
 use Rattle.calls.specs.Laws.Questions.{Passed, SharePassed}
 use Rattle.calls.specs.Laws.Networks.{share-range, holds-length, fields-fit, sound, few-trips}
 use Rattle.calls.specs.Laws.Reach.{reach-served}
-use Rattle.network.specs.Decoded.{Sized, Decoded}
+use Rattle.questions.specs.Sized.{Sized}
+use Rattle.network.specs.Decoded.{Decoded}
 use Rattle.network.specs.declared.decoding.Opening.{Opening}
 use Rattle.network.specs.Laws.Decoding.{links-length, sized}
 use Rattle.judging.specs.Study.{Study, studyOf, networkIn, Ready, Judgeable}

@@ -27,7 +27,7 @@ use Rattle.calls.specs.Laws.Questions.{Passed, check-passed, start-both, run-bo
 use Rattle.calls.specs.Laws.Calls.{run-accepted, run-written}
 use Rattle.calls.specs.Laws.Networks.{budget-range, holds-length, length-holds, few-trips}
 use Rattle.calls.specs.Laws.Tables.{run-length, run-passes, overwritten-front, overwritten-length, overwritten-passes}
-use Rattle.network.specs.Laws.Questions.{total-of}
+use Rattle.questions.specs.Laws.Questions.{total-of}
 use Rattle.judging.specs.Study.{Study, studyOf, Ready, Judgeable, moveOf, stepOf, shareAfterStep, tableAfterStep}
 use Rattle.judging.specs.Judged.{Turned}
 use Rattle.judging.specs.declared.Standing.{Standing}

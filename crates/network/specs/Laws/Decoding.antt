@@ -16,7 +16,9 @@ use Rattle.theory.specs.Laws.Cases.{on-equal}
 use Rattle.theory.specs.Laws.Finite.{length-tabulate, tabulate-suc, length-rows}
 use Rattle.calls.specs.Study.{linkRow, linkRows, destinationNodes, tripEntries}
 use Rattle.network.specs.declared.decoding.Opening.{Opening}
-use Rattle.network.specs.Decoded.{Holds, linkRowsIn, nodesIn, entriesIn, HasLinks, HasDestinations, HasRow, HasRows, Sized, Decoded, Counts}
+use Rattle.questions.specs.Sized.{Sized}
+use Rattle.questions.specs.Laws.Questions.{entries-fit}
+use Rattle.network.specs.Decoded.{Holds, linkRowsIn, nodesIn, entriesIn, HasLinks, HasDestinations, HasRow, HasRows, Decoded, Counts}
 
 module _ {A : Type 0} (size : ℕ) where
   -- Every array holds the list of no entries.
@@ -56,10 +58,6 @@ entries-length tripBytes n k = length-rows k n (λ i. tabulate n (trips tripByte
 pub entries-next : (tripBytes : List ℕ) (n k : ℕ) → entriesIn tripBytes n k ++ tabulate n (trips tripBytes n k) ≡ entriesIn tripBytes n (k + 1)
 unfolding entriesIn rows
 entries-next tripBytes n k = rw add-one
-
--- The entries of p rows of n fit into an array of 4096.
-pub entries-fit : {n p : ℕ} → n ≤ 128 → p ≤ 32 → p * n ≤ 4096
-entries-fit {n} {p} hn hp = mul-le-mul {n₁ = p} {m₁ = n} {n₂ = 32} {m₂ = 128} hp hn
 
 -- The counts of a file are within bounds: of a refused one they are 0.
 pub counts : (file : List ℕ) {n m p : ℕ} → n ≡ nodes file → m ≡ links file → p ≡ destinations file → Counts file n m p

@@ -17,7 +17,8 @@ use Rattle.calls.specs.Calls.{tableNumber}
 use Rattle.calls.specs.declared.RunAnswer.{RunAnswer}
 use Rattle.calls.specs.Laws.Questions.{Passed, SharePassed, check-passed, start-both, table-both}
 use Rattle.calls.specs.Laws.Networks.{share-range, holds-length, few-trips, fields-fit}
-use Rattle.network.specs.Decoded.{Sized, Decoded}
+use Rattle.questions.specs.Sized.{Sized}
+use Rattle.network.specs.Decoded.{Decoded}
 use Rattle.network.specs.Laws.Decoding.{sized, links-length, destinations-length}
 use Rattle.network.specs.declared.decoding.Opening.{Opening}
 use Rattle.travel.specs.Links.{padded, listTime}

@@ -5,7 +5,7 @@ use mathlib.Core.Path.{_≡_, sym, _∙_}
 use borrow.Author.Needs.{needs}
 use denote.Ref.{now}
 use Rattle.calls.specs.Calls.{startNumber}
-use Rattle.network.specs.Laws.Questions.{total-of}
+use Rattle.questions.specs.Laws.Questions.{total-of}
 use Rattle.assignment.specs.Laws.Parts.{parts-sized}
 use Rattle.assignment.specs.Laws.Numbers.{table-started}
 use Rattle.assignment.specs.Laws.Answers.{start-ready, table-asks, table-numbered}

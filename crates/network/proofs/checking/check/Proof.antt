@@ -3,7 +3,7 @@ use borrow.Author.Needs.{needs}
 use mathlib.Core.Path.{sym, _∙_}
 use native.Mathlib.Omega.{arith}
 use Rattle.network.specs.Laws.Decoding.{links-within, destinations-within, trips-within, links-counted, destinations-counted, trips-counted, decoded-sized}
-use Rattle.network.specs.Laws.Questions.{check-refused, check-opened}
+use Rattle.network.specs.Laws.Checking.{check-refused, check-opened}
 use Rattle.network.proofs.checking.check.Statement.{statement}
 use Rattle.network.proofs.checking.check.Tie as tie
 

@@ -1,8 +1,9 @@
 -- `network::decode` meets its contract: the sections of the file are decoded one by one.
 use borrow.Author.Needs.{needs}
 use denote.Ref.{now}
+use Rattle.questions.specs.Laws.Questions.{entries-fit}
 use Rattle.network.specs.Decoded.{Counts}
-use Rattle.network.specs.Laws.Decoding.{counts, entries-fit, links-there, destinations-there, trips-there, decoded, decoded-refused}
+use Rattle.network.specs.Laws.Decoding.{counts, links-there, destinations-there, trips-there, decoded, decoded-refused}
 use Rattle.network.proofs.decoding.decode.Statement.{statement}
 use Rattle.network.proofs.decoding.decode.Tie as tie
 

@@ -1,0 +1,5 @@
+-- What the functions of this crate compute, over a study in rows.
+pub mod Sized
+pub mod Destinations
+pub mod Reach
+pub mod Laws

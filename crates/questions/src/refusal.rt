@@ -1,0 +1,37 @@
+// Questions 6 to 11 of a study in rows, in order.
+ghost use mathlib.Core.Path.{_≡_};
+ghost use Rattle.study.specs.Questions.{firstNo};
+ghost use Rattle.calls.specs.Questions.{studyQuestions};
+ghost use Rattle.questions.specs.Sized.{Sized};
+use crate::fields::destinations_fit;
+use crate::fields::ends_fit;
+use crate::fields::no_trips_within;
+use crate::fields::times_fit;
+use crate::fields::total_fits;
+use crate::reach::trips_reach;
+
+// The number of the first of questions 6 to 11 that refuses a study, or 0.
+pub fn study_refusal(nodes: usize, links: &[[u16; 5]], destinations: &[u16], trips: &[u16]) -> u8
+    requires { ⌜ Sized nodes (now links) (now destinations) (now trips) ⌝ }
+    ensures { λ r. ⌜ r ≡ firstNo (studyQuestions nodes (now (links .entry)) (now (destinations .entry)) (now (trips .entry))) ⌝ }
+{
+    if !ends_fit(nodes, links) {
+        return 6;
+    }
+    if !times_fit(links) {
+        return 7;
+    }
+    if !destinations_fit(nodes, destinations) {
+        return 8;
+    }
+    if !no_trips_within(nodes, destinations, trips) {
+        return 9;
+    }
+    if !total_fits(trips) {
+        return 10;
+    }
+    if !trips_reach(nodes, links, destinations, trips) {
+        return 11;
+    }
+    0
+}
