@@ -49,7 +49,7 @@ pub fn table_refusal(
         return refusal;
     }
     let total = questions::total_trips(trips);
-    judging::table_refusal(nodes, links, destinations, trips, total, table, share)
+    questions::table_refusal(nodes, links, destinations, trips, total, table, share)
 }
 
 // Run's number: as start's, and then question 13.

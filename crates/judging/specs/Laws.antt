@@ -1,8 +1,6 @@
 -- The laws of the definitions above. Nothing here needs to be believed: the check proves it.
 pub mod Front
-pub mod Parts
 pub mod Tables
-pub mod Rows
 pub mod Loading
 pub mod Moves
 pub mod Totals
@@ -12,6 +10,5 @@ pub mod Routes
 pub mod Least
 pub mod Judged
 pub mod Doubled
-pub mod Questions
 pub mod Start
 pub mod Turns

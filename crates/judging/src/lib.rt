@@ -6,14 +6,12 @@ mod judge;
 mod loads;
 mod moves;
 mod pass;
-mod questions;
 mod start;
 mod turns;
 mod widths;
 
 pub use audit::audit_table;
 pub use pass::pass_table;
-pub use questions::table_refusal;
 pub use start::start_table;
 pub use turns::turn_table;
 

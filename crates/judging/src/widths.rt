@@ -6,9 +6,3 @@ pub fn wide(x: u32) -> u64
 {
     x as u64
 }
-
-pub fn index(x: u16) -> usize
-    ensures { λ r. ⌜ r ≡ x ⌝ }
-{
-    x as usize
-}

@@ -2,4 +2,5 @@
 pub mod Sized
 pub mod Destinations
 pub mod Reach
+pub mod Rows
 pub mod Laws

@@ -16,7 +16,7 @@ use Rattle.calls.specs.Laws.Networks.{holds-length}
 use Rattle.calls.specs.Laws.Questions.{check-passed, start-both, table-both, run-both}
 use Rattle.calls.specs.declared.AuditAnswer.{AuditAnswer}
 use Rattle.calls.specs.declared.PassAnswer.{PassAnswer}
-use Rattle.judging.specs.Rows.{TableFits}
+use Rattle.questions.specs.Rows.{TableFits}
 use Rattle.judging.specs.Study.{studyOf, Ready, Judgeable, moveOf}
 use Rattle.judging.specs.Laws.Study.{table-fits}
 use Rattle.judging.specs.declared.Passed.{Passed}

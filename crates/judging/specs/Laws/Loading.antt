@@ -21,7 +21,7 @@ use Rattle.loading.specs.Along.{walkAlong, flowAlong, volumeOver, scattered, Se
 use Rattle.loading.specs.Laws.Scattered.{volume-most}
 use Rattle.judging.specs.Loading.{rowAlong, loadingAlong, volumeRows, front, addedRows, AllFollowable, Addable}
 use Rattle.judging.specs.Laws.Front.{front-at, front-past, length-front, front-is, front-none}
-use Rattle.judging.specs.Laws.Parts.{part, replaced, row-within, part-at, length-part, length-replaced, replaced-before, replaced-within, replaced-past}
+use Rattle.theory.specs.Laws.Parts.{part, replaced, row-within, part-at, length-part, length-replaced, replaced-before, replaced-within, replaced-past}
 
 -- A row that volumes are added to is a row with its first numbers replaced.
 scattered-front :

@@ -12,7 +12,7 @@ use Rattle.search.specs.Given.{AllSearchable}
 use Rattle.search.specs.Chains.{Chainable}
 use Rattle.search.specs.Laws.Chains.{chainable as links-chain}
 use Rattle.judging.specs.Study.{Study, linkCount, destinationCount, networkIn, Ready}
-use Rattle.judging.specs.Rows.{TableFits}
+use Rattle.questions.specs.Rows.{TableFits}
 
 -- Step 0 adds nothing to the free time.
 free-time : (a b : ℕ) → stepTime a b 0 ≡ a

@@ -6,7 +6,7 @@ use borrow.Author.Needs.{needs}
 use lib.ListN.{length}
 use Rattle.judging.specs.Loading.{volumeRows, addedRows}
 use Rattle.judging.specs.Laws.Loading.{rows-none, rows-length, rows-within, row-scatterable, rows-more}
-use Rattle.judging.specs.Laws.Parts.{row-most}
+use Rattle.theory.specs.Laws.Parts.{row-most}
 use Rattle.judging.proofs.loads.add_loadings.Statement.{statement}
 use Rattle.judging.proofs.loads.add_loadings.Tie as tie
 

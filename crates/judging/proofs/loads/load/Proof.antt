@@ -12,7 +12,7 @@ use Rattle.travel.specs.Laws.Totals.{linkTotal-none}
 use Rattle.judging.specs.Loading.{loadingAlong}
 use Rattle.loading.specs.Laws.Scattered.{over-is-flow}
 use Rattle.judging.specs.Laws.Loading.{trips-within, row-sendable, row-over, totals-scatterable, totals-more, totals-widened, LoadedRows, loaded-none, loaded-more, loaded-all}
-use Rattle.judging.specs.Laws.Parts.{row-most}
+use Rattle.theory.specs.Laws.Parts.{row-most}
 use Rattle.judging.proofs.loads.load.Statement.{statement}
 use Rattle.judging.proofs.loads.load.Tie as tie
 

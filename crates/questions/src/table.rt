@@ -5,8 +5,8 @@ ghost use Rattle.study.specs.Questions.{firstNo};
 ghost use Rattle.theory.specs.Network.{totalTrips};
 ghost use Rattle.theory.specs.Study.{network};
 ghost use Rattle.calls.specs.Questions.{shareFits, shareQuestions};
-ghost use Rattle.judging.specs.Rows.{rowsConserve, TableFits};
-use crate::widths::index;
+ghost use Rattle.questions.specs.Rows.{rowsConserve, TableFits};
+use crate::numbers::node;
 
 // The number of the first of questions 14 to 16 that refuses, or 0. `total` is T.
 pub fn table_refusal(
@@ -62,7 +62,7 @@ fn rows_conserve(
         let end = start + m;
         let first = k * nodes;
         let past = first + nodes;
-        let s = index(destinations[k]);
+        let s = node(destinations[k]);
         if !travel::row_balances(
             nodes,
             links,

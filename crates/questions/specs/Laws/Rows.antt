@@ -10,8 +10,8 @@ use Rattle.theory.specs.Study.{tail, head}
 use Rattle.theory.specs.Flows.{entry, sumAt, balances}
 use Rattle.theory.specs.Laws.Finite.{sum-cong, all-cong, all-suc, both, all-refuted}
 use Rattle.travel.specs.Links.{rowBalances}
-use Rattle.judging.specs.Rows.{rowsConserve}
-use Rattle.judging.specs.Laws.Parts.{part, part-at}
+use Rattle.questions.specs.Rows.{rowsConserve}
+use Rattle.theory.specs.Laws.Parts.{part, part-at}
 
 -- A sum at a node goes by the flows of the links alone.
 sumAt-cong : (m : ℕ) (end : ℕ → ℕ) (j : ℕ) (f g : ℕ → ℕ) → ((l : ℕ) → l < m → f l ≡ g l) → sumAt m end j f ≡ sumAt m end j g

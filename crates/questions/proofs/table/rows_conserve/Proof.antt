@@ -6,10 +6,10 @@ use native.Mathlib.Omega.{arith}
 use borrow.Author.Needs.{needs}
 use borrow.Author.Tests.{not-true, not-false}
 use lib.ListN.{length}
-use Rattle.judging.specs.Laws.Rows.{rowsBefore, rows-none, rows-pass, rows-fail, rows-all}
-use Rattle.judging.specs.Laws.Parts.{row-within, row-most, length-part}
-use Rattle.judging.proofs.questions.rows_conserve.Statement.{statement}
-use Rattle.judging.proofs.questions.rows_conserve.Tie as tie
+use Rattle.questions.specs.Laws.Rows.{rowsBefore, rows-none, rows-pass, rows-fail, rows-all}
+use Rattle.theory.specs.Laws.Parts.{row-within, row-most, length-part}
+use Rattle.questions.proofs.table.rows_conserve.Statement.{statement}
+use Rattle.questions.proofs.table.rows_conserve.Tie as tie
 
 abbrev Inv-loop : tie.InvT-loop
 Inv-loop nodes links destinations trips table share m k₀ k = (k ≤ length destinations) × (rowsBefore nodes links destinations trips share table k ≡ true)
@@ -50,14 +50,14 @@ mul-first c = omega (arith, within c)
 add-past : tie.Need-add-past Inv-loop μ-loop
 add-past c = omega (arith, within c)
 
-mul-index : tie.Need-mul-index Inv-loop μ-loop
-mul-index c = search needs
+mul-node : tie.Need-mul-node Inv-loop μ-loop
+mul-node c = search needs
 
-shared-slice-read-index : tie.Need-shared-slice-read-index Inv-loop μ-loop
-shared-slice-read-index c = search needs
+shared-slice-read-node : tie.Need-shared-slice-read-node Inv-loop μ-loop
+shared-slice-read-node c = search needs
 
-index-requires : tie.Need-index-requires Inv-loop μ-loop
-index-requires c κs = search needs
+node-requires : tie.Need-node-requires Inv-loop μ-loop
+node-requires c κs = search needs
 
 mul-row-balances : tie.Need-mul-row-balances Inv-loop μ-loop
 mul-row-balances c = omega (arith, within (c .before .before))
@@ -102,7 +102,7 @@ row-balances-requires c κs = let turn = c .before .before .before .before in
 returns : tie.Need-returns Inv-loop μ-loop
 returns c = let turn = c .before .before .before .before .before .before in
     sym
-    (rows-fail _ _ _ _ _ _ (turn .before .loop .k) _ (c .before .before .before .before .index .ensures) (turn .loop-test .taken)
+    (rows-fail _ _ _ _ _ _ (turn .before .loop .k) _ (c .before .before .before .before .node .ensures) (turn .loop-test .taken)
     (sym (c .before .row-balances .ensures) ∙ not-true _ (c .if1 .taken)))
 
 add-k : tie.Need-add-k Inv-loop μ-loop
@@ -114,7 +114,7 @@ loop-less c = search needs
 loop-again : tie.Need-loop-again Inv-loop μ-loop
 loop-again c = let turn = c .before .before .before .before .before .before in (
   search needs,
-  rows-pass _ _ _ _ _ _ (turn .before .loop .k) _ (c .before .before .before .before .index .ensures) (turn .before .loop .inv .1)
+  rows-pass _ _ _ _ _ _ (turn .before .loop .k) _ (c .before .before .before .before .node .ensures) (turn .before .loop .inv .1)
       (sym (c .before .row-balances .ensures) ∙ not-false _ (c .if1 .left)),
 )
 
@@ -132,9 +132,9 @@ rows-conserve-spec =
     add-end
     mul-first
     add-past
-    mul-index
-    shared-slice-read-index
-    index-requires
+    mul-node
+    shared-slice-read-node
+    node-requires
     mul-row-balances
     sub-row-balances
     part-row-balances-start

@@ -15,7 +15,7 @@ use Rattle.theory.specs.Laws.Finite.{all-cong, and-right}
 use Rattle.calls.specs.Questions.{shareFits, shareQuestions}
 use Rattle.travel.specs.Links.{padded, listFits}
 use Rattle.travel.specs.Laws.Padded.{getD-padded}
-use Rattle.judging.specs.Rows.{rowsConserve}
+use Rattle.questions.specs.Rows.{rowsConserve}
 
 -- A share that passes question 14 is at most 1,024.
 pub share-most : (share : ℕ) → shareFits share ≡ true → share ≤ 1024

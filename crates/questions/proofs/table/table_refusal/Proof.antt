@@ -8,9 +8,9 @@ use lib.ListN.{length}
 use Rattle.study.proofs.Flags.{was-yes, was-no}
 use Rattle.calls.specs.Questions.{shareFits}
 use Rattle.travel.specs.Links.{listFits}
-use Rattle.judging.specs.Laws.Questions.{share-most, limit-fits, refused-14, refused-15, refused-16, accepted}
-use Rattle.judging.proofs.questions.table_refusal.Statement.{statement}
-use Rattle.judging.proofs.questions.table_refusal.Tie as tie
+use Rattle.questions.specs.Laws.Table.{share-most, limit-fits, refused-14, refused-15, refused-16, accepted}
+use Rattle.questions.proofs.table.table_refusal.Statement.{statement}
+use Rattle.questions.proofs.table.table_refusal.Tie as tie
 
 share-fits-requires : tie.Need-share-fits-requires
 share-fits-requires c κs = search needs

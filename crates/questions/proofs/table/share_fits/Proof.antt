@@ -3,8 +3,8 @@ use mathlib.Core.Path.{refl}
 use borrow.Author.Tests.{le-leb, lt-leb}
 use Rattle.study.proofs.Flags.{and-yes, and-no}
 use Rattle.calls.specs.Questions.{shareFits}
-use Rattle.judging.proofs.questions.share_fits.Statement.{statement}
-use Rattle.judging.proofs.questions.share_fits.Tie as tie
+use Rattle.questions.proofs.table.share_fits.Statement.{statement}
+use Rattle.questions.proofs.table.share_fits.Tie as tie
 
 returns : tie.Need-returns
 unfolding shareFits
