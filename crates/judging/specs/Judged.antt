@@ -19,7 +19,7 @@ use Rattle.judging.specs.declared.Passed.{Passed}
 use Rattle.judging.specs.declared.Standing.{Standing}
 use Rattle.judging.specs.declared.Turn.{Turn}
 use Rattle.judging.specs.Study.{Study, linkCount, destinationCount, moveOf, stepOf, shareAfterStep, tableAfterStep}
-use Rattle.judging.specs.Loading.{loadingAlong, volumeRows}
+use Rattle.moves.specs.Loading.{loadingAlong, volumeRows}
 
 -- What a call computes once: the chains of a study's links, and the fourth powers of the steps.
 pub record Prepared (links chains : List (List ℕ)) (curves : List ℕ) : Type 0 where

@@ -1,6 +1,4 @@
 -- What the functions of this crate ask and compute, over a decoded study.
 pub mod Study
-pub mod Loading
-pub mod Moves
 pub mod Judged
 pub mod Laws

@@ -5,7 +5,6 @@ ghost use lib.ListN.{length};
 ghost use Rattle.travel.specs.Ranges.{ShareFits};
 ghost use Rattle.judging.specs.Study.{studyOf, Ready};
 ghost use Rattle.judging.specs.Judged.{Prepared, Lent, TotalsFit, Known, JudgedAt};
-use crate::loads::load;
 use travel::LOAD;
 use travel::TOTAL;
 
@@ -35,7 +34,7 @@ pub fn judge(
     }
     travel::times(links, &flows[TOTAL], share, curves, times);
     routes::next_table(nodes, links, destinations, trips, times, chains, next);
-    load(
+    moves::load(
         nodes,
         links,
         destinations,

@@ -3,12 +3,9 @@
 mod audit;
 mod gaps;
 mod judge;
-mod loads;
-mod moves;
 mod pass;
 mod start;
 mod turns;
-mod widths;
 
 pub use audit::audit_table;
 pub use pass::pass_table;

@@ -5,8 +5,6 @@ ghost use Rattle.judging.specs.Judged.{PassedOn};
 use crate::Passed;
 use crate::gaps::gap_of;
 use crate::judge::judge;
-use crate::moves::can_move;
-use crate::moves::move_table;
 use travel::TOTAL;
 
 // Pass: judges the table, then moves it. With no turn before it to take a guess of j from, it guesses an eighth of the share, near which
@@ -50,8 +48,8 @@ pub fn pass_table(
     let gap = gap_of(&times, &flows, m, share);
     let cost = travel::cost(links, &flows[TOTAL], share, &curves);
     let j = travel::chosen(links, &flows, share, share / 8, gap, &curves);
-    let moved = can_move(share, j);
-    let after = move_table(table, nodes, m, p, &next, &volumes, share, j);
+    let moved = moves::can_move(share, j);
+    let after = moves::move_table(table, nodes, m, p, &next, &volumes, share, j);
     Passed {
         moved,
         share: after,

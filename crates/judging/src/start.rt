@@ -9,8 +9,6 @@ ghost use Rattle.calls.specs.Calls.{overwritten};
 ghost use Rattle.judging.specs.Study.{studyOf, Ready};
 ghost use Rattle.judging.specs.Judged.{Prepared, Lent};
 use crate::judge::judge;
-use crate::loads::add_loadings;
-use crate::moves::empty_flows;
 
 // Start: the table becomes the loading at empty roads, whatever it held before. It is judged in arrays that are lent, and can be lent again.
 pub fn start_table(
@@ -48,6 +46,6 @@ pub fn start_table(
         volumes,
         flows,
     );
-    empty_flows(table, p * m);
-    add_loadings(table, nodes, m, p, next, volumes, 1);
+    moves::empty_flows(table, p * m);
+    moves::add_loadings(table, nodes, m, p, next, volumes, 1);
 }

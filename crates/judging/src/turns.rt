@@ -11,9 +11,6 @@ use crate::Step;
 use crate::Turn;
 use crate::gaps::gap_of;
 use crate::judge::judge;
-use crate::moves::can_move;
-use crate::moves::move_table;
-use crate::moves::move_totals;
 
 // A turn of a run: judges the table, and moves it with its totals where the run goes on. The arrays hold what judging computes; they may be
 // known from the turn before, if it doubled the table. A right guess of j saves time; none decides anything.
@@ -58,14 +55,14 @@ pub fn turn_table(
         return turned(Step::Reached, share, gap, false);
     }
     let j = travel::chosen(links, flows, share, standing.guess, gap, curves);
-    if !can_move(share, j) {
+    if !moves::can_move(share, j) {
         return turned(Step::Finest, share, gap, false);
     }
     if standing.last {
         return turned(Step::Spent, share, gap, false);
     }
-    move_totals(flows, m, j);
-    let after = move_table(table, nodes, m, destinations.len(), next, volumes, share, j);
+    moves::move_totals(flows, m, j);
+    let after = moves::move_table(table, nodes, m, destinations.len(), next, volumes, share, j);
     turned(Step::Moved, after, gap, j == 0)
 }
 

@@ -13,12 +13,12 @@ use Rattle.calls.specs.Calls.{shareAfter}
 use Rattle.travel.specs.Links.{padded, listTime, totalOf}
 use Rattle.travel.specs.Laws.Padded.{padded-cong}
 use Rattle.judging.specs.Study.{Study, linkCount, destinationCount, Ready}
-use Rattle.judging.specs.Loading.{volumeRows, front}
-use Rattle.judging.specs.Moves.{canMove, moveAlong, totalAfter}
+use Rattle.moves.specs.Loading.{volumeRows, front}
+use Rattle.moves.specs.Moves.{canMove, moveAlong, totalAfter}
 use Rattle.judging.specs.Judged.{Known}
-use Rattle.judging.specs.Laws.Front.{front-at}
-use Rattle.judging.specs.Laws.Moves.{can-double, doubles}
-use Rattle.judging.specs.Laws.Totals.{movedTo}
+use Rattle.moves.specs.Laws.Front.{front-at}
+use Rattle.moves.specs.Laws.Moves.{can-double, doubles}
+use Rattle.moves.specs.Laws.Totals.{movedTo}
 use Rattle.judging.specs.Laws.Judged.{TwoRows, totals-set}
 
 -- 64·2S / (c·2W) is 64·S / (c·W).

@@ -31,13 +31,13 @@ use Rattle.travel.specs.Laws.Padded.{length-padded, getD-padded, getD-padded-re
 use Rattle.search.specs.Groups.{leastOver}
 use Rattle.judging.specs.declared.Step.{Step}
 use Rattle.judging.specs.Study.{Study, linkCount, destinationCount, networkIn, Ready, Judgeable, moveOf}
-use Rattle.judging.specs.Loading.{loadingAlong, volumeRows}
-use Rattle.judging.specs.Moves.{canMove, moveAlong, TotalsMovable, Movable}
+use Rattle.moves.specs.Loading.{loadingAlong, volumeRows}
+use Rattle.moves.specs.Moves.{canMove, moveAlong, TotalsMovable, Movable}
 use Rattle.judging.specs.Judged.{Lent, TotalsOf, Known, JudgedAt, GapFits, Left, turnOf}
 use Rattle.judging.specs.Laws.Study.{holds-rows, links-fit}
 use Rattle.judging.specs.Laws.Tables.{number-most}
-use Rattle.judging.specs.Laws.Moves.{moves-by}
-use Rattle.judging.specs.Laws.Totals.{movedTo, moved-totals}
+use Rattle.moves.specs.Laws.Moves.{moves-by}
+use Rattle.moves.specs.Laws.Totals.{movedTo, moved-totals}
 use Rattle.judging.specs.Laws.Routes.{TimesIn, timed, served, loading-is, load-most, next-links}
 use Rattle.judging.specs.Laws.Least.{least-over}
 

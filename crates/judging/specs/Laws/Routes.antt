@@ -24,7 +24,7 @@ use Rattle.theory.specs.Laws.Padded.{getD-default}
 use Rattle.search.specs.Laws.Groups.{searchable-to}
 use Rattle.judging.specs.Laws.Loaded.{followable, flow-along}
 use Rattle.judging.specs.Study.{Study, linkCount, destinationCount, networkIn, Ready}
-use Rattle.judging.specs.Loading.{rowAlong, loadingAlong, AllFollowable}
+use Rattle.moves.specs.Loading.{rowAlong, loadingAlong, AllFollowable}
 use Rattle.judging.specs.Laws.Study.{searchable}
 
 -- One destination: what its trips send along the next links over a link is the loading there.

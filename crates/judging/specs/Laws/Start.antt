@@ -17,10 +17,10 @@ use Rattle.travel.specs.Links.{listTime}
 use Rattle.travel.specs.Ranges.{Within, mostFlow}
 use Rattle.travel.specs.Laws.Padded.{getD-padded, getD-padded-rest, zeros-clear}
 use Rattle.judging.specs.Study.{Study, linkCount, destinationCount, networkIn, Ready}
-use Rattle.judging.specs.Loading.{loadingAlong, volumeRows, front, addedRows, Addable}
+use Rattle.moves.specs.Loading.{loadingAlong, volumeRows, front, addedRows, Addable}
 use Rattle.judging.specs.Judged.{Known}
-use Rattle.judging.specs.Laws.Front.{front-at, front-past, length-front, front-is}
-use Rattle.judging.specs.Laws.Loading.{length-along}
+use Rattle.moves.specs.Laws.Front.{front-at, front-past, length-front, front-is}
+use Rattle.moves.specs.Laws.Loading.{length-along}
 use Rattle.judging.specs.Laws.Tables.{number-most}
 use Rattle.judging.specs.Laws.Routes.{TimesIn, loading-is, load-most, next-links}
 

@@ -11,7 +11,7 @@ use Rattle.theory.specs.Cost.{gap}
 use Rattle.theory.specs.Moves.{moves}
 use Rattle.calls.specs.Calls.{shareAfter, tableAfter}
 use Rattle.judging.specs.Study.{Study, studyOf, networkIn, moveOf}
-use Rattle.judging.specs.Moves.{canMove}
+use Rattle.moves.specs.Moves.{canMove}
 use Rattle.judging.specs.Laws.Judged.{known-lent, totals-lent, share-fits, totals-within, left-still, gap-is, gap-fits, move-fits, movable, totals-movable, totals-moved, move-is, moves-is}
 use Rattle.judging.specs.Laws.Doubled.{known-moved}
 use Rattle.judging.specs.Laws.Turns.{reached, finest, spent, moved}

@@ -3,9 +3,9 @@ use Prim.Native.Nat.{_-_, _≤_}
 use mathlib.Core.Path.{_≡_, refl}
 use native.Mathlib.Omega.{arith}
 use borrow.Author.Needs.{needs}
-use Rattle.judging.specs.Laws.Totals.{movedTo, moved-none, total-fits, load-fits, moved-adds, moved-doubles}
-use Rattle.judging.proofs.moves.move_totals.Statement.{statement}
-use Rattle.judging.proofs.moves.move_totals.Tie as tie
+use Rattle.moves.specs.Laws.Totals.{movedTo, moved-none, total-fits, load-fits, moved-adds, moved-doubles}
+use Rattle.moves.proofs.moves.move_totals.Statement.{statement}
+use Rattle.moves.proofs.moves.move_totals.Tie as tie
 
 abbrev Inv-loop : tie.InvT-loop
 Inv-loop flows₀ m j l₀ flows l = (l ≤ m) × (flows ≡ movedTo l j flows₀)

@@ -19,8 +19,8 @@ use Rattle.travel.specs.Laws.Padded.{length-padded, getD-padded, getD-padded-re
 use Rattle.travel.specs.Laws.Totals.{linkTotal-more}
 use Rattle.loading.specs.Along.{walkAlong, flowAlong, volumeOver, scattered, Sendable, Scatterable}
 use Rattle.loading.specs.Laws.Scattered.{volume-most}
-use Rattle.judging.specs.Loading.{rowAlong, loadingAlong, volumeRows, front, addedRows, AllFollowable, Addable}
-use Rattle.judging.specs.Laws.Front.{front-at, front-past, length-front, front-is, front-none}
+use Rattle.moves.specs.Loading.{rowAlong, loadingAlong, volumeRows, front, addedRows, AllFollowable, Addable}
+use Rattle.moves.specs.Laws.Front.{front-at, front-past, length-front, front-is, front-none}
 use Rattle.theory.specs.Laws.Parts.{part, replaced, row-within, part-at, length-part, length-replaced, replaced-before, replaced-within, replaced-past}
 
 -- A row that volumes are added to is a row with its first numbers replaced.

@@ -9,12 +9,12 @@ use Rattle.theory.specs.Flows.{linkTotal}
 use Rattle.travel.specs.Links.{padded}
 use Rattle.travel.specs.Laws.Padded.{length-padded, padded-zeros}
 use Rattle.travel.specs.Laws.Totals.{linkTotal-none}
-use Rattle.judging.specs.Loading.{loadingAlong}
+use Rattle.moves.specs.Loading.{loadingAlong}
 use Rattle.loading.specs.Laws.Scattered.{over-is-flow}
-use Rattle.judging.specs.Laws.Loading.{trips-within, row-sendable, row-over, totals-scatterable, totals-more, totals-widened, LoadedRows, loaded-none, loaded-more, loaded-all}
+use Rattle.moves.specs.Laws.Loading.{trips-within, row-sendable, row-over, totals-scatterable, totals-more, totals-widened, LoadedRows, loaded-none, loaded-more, loaded-all}
 use Rattle.theory.specs.Laws.Parts.{row-most}
-use Rattle.judging.proofs.loads.load.Statement.{statement}
-use Rattle.judging.proofs.loads.load.Tie as tie
+use Rattle.moves.proofs.loads.load.Statement.{statement}
+use Rattle.moves.proofs.loads.load.Tie as tie
 
 abbrev Inv-loop : tie.InvT-loop
 Inv-loop nodes links destinations trips next volumes₀ loads m sums₀ k₀ volumes sums k =

@@ -13,7 +13,7 @@ use Rattle.calls.specs.Calls.{overwritten}
 use Rattle.travel.specs.Links.{padded}
 use Rattle.travel.specs.Ranges.{Clear}
 use Rattle.travel.specs.Laws.Padded.{padded-is}
-use Rattle.judging.specs.Loading.{front}
+use Rattle.moves.specs.Loading.{front}
 
 module _ (size : ℕ) (f : ℕ → ℕ) (table : List ℕ) where
   pub front-at : (i : ℕ) → i < size → getD (front size f table) i 0 ≡ f i

@@ -16,10 +16,10 @@ use Rattle.calls.specs.Calls.{tableAfter}
 use Rattle.travel.specs.Links.{padded, totalOf, loadOf}
 use Rattle.travel.specs.Ranges.{Clear, mostFlow}
 use Rattle.travel.specs.Laws.Padded.{getD-padded, padded-cong, padded-clear}
-use Rattle.judging.specs.Loading.{front, addedRows}
-use Rattle.judging.specs.Moves.{canMove, moveAlong, totalAfter, TotalsMovable}
-use Rattle.judging.specs.Laws.Front.{front-at, front-past, front-none, front-more, front-clear}
-use Rattle.judging.specs.Laws.Moves.{can-double, adds, doubles}
+use Rattle.moves.specs.Loading.{front, addedRows}
+use Rattle.moves.specs.Moves.{canMove, moveAlong, totalAfter, TotalsMovable}
+use Rattle.moves.specs.Laws.Front.{front-at, front-past, front-none, front-more, front-clear}
+use Rattle.moves.specs.Laws.Moves.{can-double, adds, doubles}
 
 module _ (p m : ℕ) (table : List ℕ) (l : ℕ) (h : l < m) where
   -- The totals of a doubled table are twice as large.

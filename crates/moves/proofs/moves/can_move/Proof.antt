@@ -1,8 +1,8 @@
 -- `can_move` meets its contract.
 use borrow.Author.Needs.{needs}
-use Rattle.judging.specs.Laws.Moves.{can-add, can-double}
-use Rattle.judging.proofs.moves.can_move.Statement.{statement}
-use Rattle.judging.proofs.moves.can_move.Tie as tie
+use Rattle.moves.specs.Laws.Moves.{can-add, can-double}
+use Rattle.moves.proofs.moves.can_move.Statement.{statement}
+use Rattle.moves.proofs.moves.can_move.Tie as tie
 
 returns : tie.Need-returns
 returns c = can-add _ _ (c .if1 .taken)

@@ -12,7 +12,7 @@ use Rattle.theory.specs.Laws.Local.{moveBy}
 use Rattle.travel.specs.Links.{totalOf, loadOf}
 use Rattle.travel.specs.Ranges.{mostFlow}
 use Rattle.theory.specs.Study.{noLink}
-use Rattle.judging.specs.Loading.{volumeRows}
+use Rattle.moves.specs.Loading.{volumeRows}
 
 -- There is a move where a j is chosen, or 2W is at most 1,024.
 unfoldable pub canMove : ℕ → ℕ → Bool

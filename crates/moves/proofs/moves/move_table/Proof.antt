@@ -2,9 +2,9 @@
 use native.Mathlib.Nat.{mul-le-mul}
 use native.Mathlib.Omega.{arith}
 use borrow.Author.Needs.{needs}
-use Rattle.judging.specs.Laws.Moves.{movable-adds, movable-doubles, moved-adds, moved-doubles, moved-rests}
-use Rattle.judging.proofs.moves.move_table.Statement.{statement}
-use Rattle.judging.proofs.moves.move_table.Tie as tie
+use Rattle.moves.specs.Laws.Moves.{movable-adds, movable-doubles, moved-adds, moved-doubles, moved-rests}
+use Rattle.moves.proofs.moves.move_table.Statement.{statement}
+use Rattle.moves.proofs.moves.move_table.Tie as tie
 
 add-loadings-requires : tie.Need-add-loadings-requires
 add-loadings-requires c κs = movable-adds (c .before .before .before .pre)

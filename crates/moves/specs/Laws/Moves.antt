@@ -14,9 +14,9 @@ use Rattle.theory.specs.Moves.{moves}
 use Rattle.theory.specs.Laws.Local.{moveBy}
 use Rattle.theory.specs.Laws.Finite.{order}
 use Rattle.calls.specs.Calls.{shareAfter, tableAfter}
-use Rattle.judging.specs.Loading.{volumeRows, front, addedRows, Addable}
-use Rattle.judging.specs.Moves.{canMove, moveAlong, Movable}
-use Rattle.judging.specs.Laws.Front.{overwritten-front}
+use Rattle.moves.specs.Loading.{volumeRows, front, addedRows, Addable}
+use Rattle.moves.specs.Moves.{canMove, moveAlong, Movable}
+use Rattle.moves.specs.Laws.Front.{overwritten-front}
 
 module _ (share j : ℕ) (more double : List ℕ) where
   by-adds : 0 < j → moveBy share j more double ≡ some (record { table = more; share = share + j })

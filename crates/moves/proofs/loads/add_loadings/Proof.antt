@@ -4,11 +4,11 @@ use mathlib.Core.Path.{_≡_}
 use native.Mathlib.Omega.{arith}
 use borrow.Author.Needs.{needs}
 use lib.ListN.{length}
-use Rattle.judging.specs.Loading.{volumeRows, addedRows}
-use Rattle.judging.specs.Laws.Loading.{rows-none, rows-length, rows-within, row-scatterable, rows-more}
+use Rattle.moves.specs.Loading.{volumeRows, addedRows}
+use Rattle.moves.specs.Laws.Loading.{rows-none, rows-length, rows-within, row-scatterable, rows-more}
 use Rattle.theory.specs.Laws.Parts.{row-most}
-use Rattle.judging.proofs.loads.add_loadings.Statement.{statement}
-use Rattle.judging.proofs.loads.add_loadings.Tie as tie
+use Rattle.moves.proofs.loads.add_loadings.Statement.{statement}
+use Rattle.moves.proofs.loads.add_loadings.Tie as tie
 
 abbrev Inv-loop : tie.InvT-loop
 Inv-loop table₀ n m p next volumes weight k₀ table k = (k ≤ p) × (table ≡ addedRows (k * m) weight (volumeRows n m p next volumes) table₀)

@@ -4,10 +4,10 @@ use mathlib.Core.Path.{_≡_}
 use native.Mathlib.Omega.{arith}
 use borrow.Author.Needs.{needs}
 use lib.ListN.{getD}
-use Rattle.judging.specs.Loading.{front}
-use Rattle.judging.specs.Laws.Front.{front-none, front-more, front-clear}
-use Rattle.judging.proofs.loads.widened.Statement.{statement}
-use Rattle.judging.proofs.loads.widened.Tie as tie
+use Rattle.moves.specs.Loading.{front}
+use Rattle.moves.specs.Laws.Front.{front-none, front-more, front-clear}
+use Rattle.moves.proofs.loads.widened.Statement.{statement}
+use Rattle.moves.proofs.loads.widened.Tie as tie
 
 abbrev Inv-loop : tie.InvT-loop
 Inv-loop sums m totals₀ l₀ totals l = (l ≤ m) × (totals ≡ front l (λ i. getD sums i 0) totals₀)

@@ -4,10 +4,10 @@ use mathlib.Core.Path.{_≡_, _∙_, ap}
 use native.Mathlib.Omega.{arith}
 use borrow.Author.Needs.{needs}
 use lib.ListN.{length, getD}
-use Rattle.judging.specs.Loading.{front}
-use Rattle.judging.specs.Laws.Front.{front-none, front-more, front-past, length-front}
-use Rattle.judging.proofs.moves.double_flows.Statement.{statement}
-use Rattle.judging.proofs.moves.double_flows.Tie as tie
+use Rattle.moves.specs.Loading.{front}
+use Rattle.moves.specs.Laws.Front.{front-none, front-more, front-past, length-front}
+use Rattle.moves.proofs.moves.double_flows.Statement.{statement}
+use Rattle.moves.proofs.moves.double_flows.Tie as tie
 
 abbrev Inv-loop : tie.InvT-loop
 Inv-loop table₀ size i₀ table i = (i ≤ size) × (table ≡ front i (λ j. 2 * getD table₀ j 0) table₀)

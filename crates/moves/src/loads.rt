@@ -5,7 +5,7 @@ ghost use lib.ListN.{length, getD};
 ghost use Rattle.theory.specs.Flows.{linkTotal};
 ghost use Rattle.travel.specs.Links.{padded};
 ghost use Rattle.travel.specs.Ranges.{Clear};
-ghost use Rattle.judging.specs.Loading.{loadingAlong, volumeRows, addedRows, AllFollowable, Addable};
+ghost use Rattle.moves.specs.Loading.{loadingAlong, volumeRows, addedRows, AllFollowable, Addable};
 use crate::widths::wide;
 
 // The volumes of each destination, by node, and Y's totals: what the trips of all destinations send over each link.

@@ -4,10 +4,10 @@ use mathlib.Core.Path.{_≡_, refl, _∙_, ap}
 use native.Mathlib.Omega.{arith}
 use borrow.Author.Needs.{needs}
 use lib.ListN.{length}
-use Rattle.judging.specs.Loading.{front}
-use Rattle.judging.specs.Laws.Front.{front-none, front-more, length-front}
-use Rattle.judging.proofs.moves.empty_flows.Statement.{statement}
-use Rattle.judging.proofs.moves.empty_flows.Tie as tie
+use Rattle.moves.specs.Loading.{front}
+use Rattle.moves.specs.Laws.Front.{front-none, front-more, length-front}
+use Rattle.moves.proofs.moves.empty_flows.Statement.{statement}
+use Rattle.moves.proofs.moves.empty_flows.Tie as tie
 
 abbrev Inv-loop : tie.InvT-loop
 Inv-loop table₀ size i₀ table i = (i ≤ size) × (table ≡ front i (λ j. 0) table₀)

@@ -1,0 +1,11 @@
+// The loading of all destinations, with its totals, and what a move makes of a table and its totals.
+mod loads;
+mod moves;
+mod widths;
+
+pub use loads::add_loadings;
+pub use loads::load;
+pub use moves::can_move;
+pub use moves::empty_flows;
+pub use moves::move_table;
+pub use moves::move_totals;
