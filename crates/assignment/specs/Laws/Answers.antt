@@ -6,7 +6,7 @@ use mathlib.Core.Option.{Option, none, some}
 use lib.ListN.{length}
 use Rattle.study.specs.Questions.{firstNo, refusal}
 use Rattle.theory.specs.Network.{Network}
-use Rattle.theory.specs.Moves.{Shared, tableSize, started, moves}
+use Rattle.theory.specs.Moves.{Shared, started, moves}
 use Rattle.theory.specs.Study.{network}
 use Rattle.calls.specs.Study.{networkOf}
 use Rattle.calls.specs.Questions.{shareQuestions}
@@ -18,7 +18,7 @@ use Rattle.calls.specs.declared.AuditAnswer.{AuditAnswer}
 use Rattle.calls.specs.declared.PassAnswer.{PassAnswer}
 use Rattle.questions.specs.Rows.{TableFits}
 use Rattle.judging.specs.Study.{studyOf, Ready, Judgeable, moveOf}
-use Rattle.judging.specs.Laws.Study.{table-fits}
+use Rattle.judging.specs.Laws.Study.{tail-node, head-node}
 use Rattle.judging.specs.declared.Passed.{Passed}
 use Rattle.judging.specs.declared.Sums.{Sums}
 use Rattle.judging.specs.Judged.{Audited, PassedOn}
@@ -60,15 +60,22 @@ module _ (file table : List ℕ) {opening n : ℕ} {linkList : List (List ℕ)} 
   pub start-ready : startNumber file table ≡ 0 → Ready (studyOf n linkList nodeList entries)
   start-ready e = rw (study-is parts) (ready file (check-passed file (start-both file table e .0)))
 
-  start-size : startNumber file table ≡ 0 → tableSize g ≤ length table
-  start-size e = rw (network-is parts) (holds-length (networkOf file) table (start-both file table e .1))
-
   pub start-holds : startNumber file table ≡ 0 → length nodeList * length linkList ≤ length table
   start-holds e = rw (size-is parts) (holds-length (networkOf file) table (start-both file table e .1))
 
   -- What the questions of its table ask.
   pub table-asks : startNumber file table ≡ 0 → TableFits n linkList nodeList entries table
-  table-asks e = table-fits (start-ready e) (start-size e)
+  table-asks e =
+      let ready = start-ready e in
+      record {
+        few-nodes = ready .few-nodes;
+        few-links = ready .few-links;
+        few-destinations = ready .few-destinations;
+        tail-node = tail-node ready;
+        head-node = head-node ready;
+        has-trips = ready .trips-long;
+        holds = start-holds e;
+      }
 
   -- The number of its questions is the file's.
   pub table-numbered : (share : ℕ) → startNumber file table ≡ 0 → firstNo (shareQuestions g table share) ≡ tableNumber file table share

@@ -12,7 +12,6 @@ use Rattle.search.specs.Given.{AllSearchable}
 use Rattle.search.specs.Chains.{Chainable}
 use Rattle.search.specs.Laws.Chains.{chainable as links-chain}
 use Rattle.judging.specs.Study.{Study, linkCount, destinationCount, networkIn, Ready}
-use Rattle.questions.specs.Rows.{TableFits}
 
 -- Step 0 adds nothing to the free time.
 free-time : (a b : ℕ) → stepTime a b 0 ≡ a
@@ -36,11 +35,11 @@ unit-fit m =
     }
 
 module _ {d : Study} (ready : Ready d) where
-  tail-node : (l : ℕ) → l < linkCount d → tail (d .links) l < d .nodes
+  pub tail-node : (l : ℕ) → l < linkCount d → tail (d .links) l < d .nodes
   unfolding network
   tail-node = ready .sound .tail-node
 
-  head-node : (l : ℕ) → l < linkCount d → head (d .links) l < d .nodes
+  pub head-node : (l : ℕ) → l < linkCount d → head (d .links) l < d .nodes
   unfolding network
   head-node = ready .sound .head-node
 
@@ -87,19 +86,6 @@ module _ {d : Study} (ready : Ready d) where
         destination-node = destination-node;
       }
 
-  -- they can be put into chains,
+  -- and they can be put into chains.
   pub chainable : Chainable (d .links)
   chainable = links-chain (searchable (unit-fit (linkCount d)) .roads)
-
-  -- and question 16 can be put to a table that holds p·m numbers.
-  pub table-fits : {table : List ℕ} → tableSize (networkIn d) ≤ length table → TableFits (d .nodes) (d .links) (d .destinations) (d .trips) table
-  table-fits {table} holds =
-      record {
-        few-nodes = ready .few-nodes;
-        few-links = ready .few-links;
-        few-destinations = ready .few-destinations;
-        tail-node = tail-node;
-        head-node = head-node;
-        has-trips = ready .trips-long;
-        holds = holds-rows d table holds;
-      }
