@@ -29,6 +29,8 @@
 
 #![warn(missing_docs)]
 
+#[macro_use]
+mod declare;
 mod refusal;
 pub mod sys;
 

@@ -1,40 +1,17 @@
 //! The calls of an earlier build, whose static library ILSTROVAN_BEFORE names.
-//! `build.rs` renames what it exports: `ilstrovan_run` is `before_run`.
+//! `build.rs` renames what it exports: its `ilstrovan_run` is linked as
+//! `before_run`.
 
 use std::hint::black_box;
 
-unsafe extern "C" {
-    fn before_check(file: *const u8, file_length: usize) -> u8;
-    fn before_pass(
-        file: *const u8,
-        file_length: usize,
-        table: *mut u32,
-        table_length: usize,
-        share: u32,
-        answer: *mut [u64; 4],
-    ) -> u8;
-    fn before_run(
-        file: *const u8,
-        file_length: usize,
-        table: *mut u32,
-        table_length: usize,
-        budget: u32,
-        excess: u16,
-        answer: *mut [u64; 5],
-    ) -> u8;
-    fn before_audit(
-        file: *const u8,
-        file_length: usize,
-        table: *const u32,
-        table_length: usize,
-        share: u32,
-        answer: *mut [u64; 2],
-    ) -> u8;
+mod sys {
+    #![allow(dead_code, reason = "not every call is timed")]
+    declare_calls!("before");
 }
 
 pub fn check(file: &[u8]) {
     // SAFETY: pointer and length are those of a slice.
-    black_box(unsafe { before_check(file.as_ptr(), file.len()) });
+    black_box(unsafe { sys::ilstrovan_check(file.as_ptr(), file.len()) });
 }
 
 pub fn pass(file: &[u8], table: &mut [u32], share: u32) {
@@ -42,7 +19,7 @@ pub fn pass(file: &[u8], table: &mut [u32], share: u32) {
     let (bytes, size) = (file.as_ptr(), file.len());
     // SAFETY: pointers and lengths are those of slices, and the answer has four numbers.
     unsafe {
-        before_pass(
+        sys::ilstrovan_pass(
             bytes,
             size,
             table.as_mut_ptr(),
@@ -59,7 +36,7 @@ pub fn run(file: &[u8], table: &mut [u32], budget: u32, excess: u16) {
     let (bytes, size) = (file.as_ptr(), file.len());
     let (flows, length) = (table.as_mut_ptr(), table.len());
     // SAFETY: as in `pass`, and the answer has five numbers.
-    unsafe { before_run(bytes, size, flows, length, budget, excess, &mut answer) };
+    unsafe { sys::ilstrovan_run(bytes, size, flows, length, budget, excess, &mut answer) };
     black_box(answer);
 }
 
@@ -67,6 +44,6 @@ pub fn audit(file: &[u8], table: &[u32], share: u32) {
     let mut answer = [0; 2];
     let (bytes, size) = (file.as_ptr(), file.len());
     // SAFETY: as in `pass`, and the answer has two numbers.
-    unsafe { before_audit(bytes, size, table.as_ptr(), table.len(), share, &mut answer) };
+    unsafe { sys::ilstrovan_audit(bytes, size, table.as_ptr(), table.len(), share, &mut answer) };
     black_box(answer);
 }

@@ -8,6 +8,11 @@
 //! its calls are timed in the same turns.
 
 #[cfg(before)]
+#[macro_use]
+#[path = "../../declare.rs"]
+mod declare;
+
+#[cfg(before)]
 mod before;
 mod measure;
 mod stack;

@@ -1,0 +1,66 @@
+//! How the calls of a static library are declared: once, for this library's and
+//! for those of an earlier build, beside which the benchmark times them.
+
+/// Declares the calls of a static library whose names begin with a prefix. Each
+/// returns the refusal number or 0, and writes all of `answer`.
+macro_rules! declare_calls {
+    ($prefix:literal) => {
+        unsafe extern "C" {
+            /// Check.
+            #[link_name = concat!($prefix, "_check")]
+            pub fn ilstrovan_check(file: *const u8, file_length: usize) -> u8;
+
+            /// Pack.
+            #[link_name = concat!($prefix, "_pack")]
+            pub fn ilstrovan_pack(
+                file: *const u8,
+                file_length: usize,
+                output: *mut u8,
+                output_length: usize,
+            ) -> u8;
+
+            /// Start.
+            #[link_name = concat!($prefix, "_start")]
+            pub fn ilstrovan_start(
+                file: *const u8,
+                file_length: usize,
+                table: *mut u32,
+                table_length: usize,
+            ) -> u8;
+
+            /// Pass: outcome, gap, cost, share.
+            #[link_name = concat!($prefix, "_pass")]
+            pub fn ilstrovan_pass(
+                file: *const u8,
+                file_length: usize,
+                table: *mut u32,
+                table_length: usize,
+                share: u32,
+                answer: *mut [u64; 4],
+            ) -> u8;
+
+            /// Run: ending, tables judged, share, gap, cost.
+            #[link_name = concat!($prefix, "_run")]
+            pub fn ilstrovan_run(
+                file: *const u8,
+                file_length: usize,
+                table: *mut u32,
+                table_length: usize,
+                budget: u32,
+                excess: u16,
+                answer: *mut [u64; 5],
+            ) -> u8;
+
+            /// Audit: gap, cost.
+            #[link_name = concat!($prefix, "_audit")]
+            pub fn ilstrovan_audit(
+                file: *const u8,
+                file_length: usize,
+                table: *const u32,
+                table_length: usize,
+                share: u32,
+                answer: *mut [u64; 2],
+            ) -> u8;
+        }
+    };
+}
