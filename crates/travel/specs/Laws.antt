@@ -15,5 +15,5 @@ pub mod Costs
 -- the choice of j:
 pub mod Choice
 pub mod Bisection
--- what all this says of a network:
+-- the times of a network:
 pub mod Network
