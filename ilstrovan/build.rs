@@ -7,6 +7,7 @@
 
 use std::env;
 use std::ffi::OsStr;
+use std::fs;
 use std::path::{Path, PathBuf};
 use std::process::Command;
 
@@ -35,7 +36,7 @@ fn main() {
     println!("cargo::rustc-link-search=native={}", folder.display());
     println!("cargo::rustc-link-lib=static=interface");
     println!("cargo::rustc-env=ILSTROVAN_ARCHIVE={}", archive.display());
-    println!("cargo::rustc-check-cfg=cfg(before)");
+    println!("cargo::rustc-check-cfg=cfg(before, before_page)");
     println!("cargo::rerun-if-env-changed={BEFORE}");
     if let Some(archive) = env::var_os(BEFORE) {
         link_before(&archive);
@@ -46,7 +47,7 @@ fn main() {
 fn link_before(archive: &OsStr) {
     let out = PathBuf::from(env::var_os("OUT_DIR").expect("cargo sets OUT_DIR"));
     let mut objcopy = Command::new("objcopy");
-    for call in ["check", "pack", "start", "pass", "run", "audit"] {
+    for call in ["check", "pack", "start", "pass", "run", "audit", "page"] {
         objcopy.arg(format!("--redefine-sym=ilstrovan_{call}=before_{call}"));
     }
     let copied = objcopy.arg(archive).arg(out.join("libbefore.a")).status();
@@ -57,4 +58,15 @@ fn link_before(archive: &OsStr) {
     println!("cargo::rustc-link-search=native={}", out.display());
     println!("cargo::rustc-link-lib=static=before");
     println!("cargo::rustc-cfg=before");
+    if names(archive, "ilstrovan_page") {
+        println!("cargo::rustc-cfg=before_page");
+    }
+}
+
+/// Whether an archive names this call: builds before the page lack it.
+fn names(archive: &OsStr, call: &str) -> bool {
+    let bytes = fs::read(archive).unwrap_or_default();
+    bytes
+        .windows(call.len())
+        .any(|part| part == call.as_bytes())
 }

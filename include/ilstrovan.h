@@ -1,25 +1,26 @@
 /*
  * Ilstrovan: equilibrium assignment of trips to a road network.
  *
- * Six calls over a study file in memory and a flow table that the caller
+ * Seven calls over a study file in memory and a flow table that the caller
  * lends. Every number they return or write is proved to be the one that
- * document 01 defines, for any bytes, any table and any numbers. Link with
- * target/staticlib/libinterface.a, which `rt staticlib interface` writes for
- * x86-64 Linux; it needs only the C library.
+ * documents 01 and 02 define, for any bytes, any table and any numbers. Link
+ * with target/staticlib/libinterface.a, which `rt staticlib interface` writes
+ * for x86-64 Linux; it needs only the C library.
  *
  * Returned by every call
  *   0 where the call is accepted, otherwise the number of the first question
  *   that refuses (ilstrovan_refusal below). A refused call writes 0 to each
- *   number of `answer` and leaves the table or the output as it was.
+ *   number of `answer` and leaves the table, the output and the page as they
+ *   were.
  *
  * Memory
  *   Everything belongs to the caller: nothing is allocated, kept or freed, and
  *   no pointer is used after the call returns. A pointer is never NULL, not
  *   even with a length of 0, is aligned for its type, and points to as many
  *   elements as the length after it says. What a call writes (output, table,
- *   answer) overlaps nothing else that the call is handed, and no other thread
- *   touches it meanwhile; what a call only reads may be shared. Calls on
- *   separate memory may run in any number of threads.
+ *   page, answer) overlaps nothing else that the call is handed, and no other
+ *   thread touches it meanwhile; what a call only reads may be shared. Calls
+ *   on separate memory may run in any number of threads.
  *
  * Stack
  *   A call needs at most 512 KiB of stack.
@@ -33,6 +34,8 @@
  *                          trip is W parts. Later numbers are never written.
  *   output, output_length  Room for a packed study, in bytes. Later bytes are
  *                          never written.
+ *   page, page_length      Room for a page, in bytes, at least 30 times links.
+ *                          Later bytes are never written.
  *   share                  The share W of the table, 1 to 1024.
  *   budget                 The most tables a run judges, 1 to 1024.
  *   excess                 The excess at which a run ends, 0 to 65535
@@ -53,7 +56,8 @@
 extern "C" {
 #endif
 
-/* The numbers of refusals, which are those of document 01's questions. */
+/* The numbers of refusals, which are those of the questions of documents 01
+   and 02. */
 enum ilstrovan_refusal {
     ILSTROVAN_ACCEPTED = 0,
     /* The file is shorter than 32 bytes or longer than 65536. */
@@ -94,7 +98,9 @@ enum ilstrovan_refusal {
        in and the trips that begin there. */
     ILSTROVAN_CONSERVATION = 16,
     /* The output is shorter than the packed study. */
-    ILSTROVAN_OUTPUT_LENGTH = 17
+    ILSTROVAN_OUTPUT_LENGTH = 17,
+    /* The page is shorter than 30 bytes a link. */
+    ILSTROVAN_PAGE_LENGTH = 18
 };
 
 /* What a pass did: answer[0] of ilstrovan_pass. A refused pass has 0. */
@@ -145,6 +151,16 @@ uint8_t ilstrovan_run(const uint8_t *file, size_t file_length,
 uint8_t ilstrovan_audit(const uint8_t *file, size_t file_length,
                         const uint32_t *table, size_t table_length,
                         uint32_t share, uint64_t answer[2]);
+
+/* Writes the page of `table`, whoever made it: 30 bytes for each link, in link
+   order, such as "  0   0   1     1.77     0.15" and a line feed. Columns 1 to
+   3 hold the link, 5 to 7 its tail, 9 to 11 its head, 13 to 20 its volume,
+   which is its total flow in trips, rounded down to hundredths, and 22 to 29
+   its time in minutes, each right-aligned; all else is spaces. Refusals 1 to
+   12, then 14 to 16, then 18. */
+uint8_t ilstrovan_page(const uint8_t *file, size_t file_length,
+                       const uint32_t *table, size_t table_length,
+                       uint32_t share, uint8_t *page, size_t page_length);
 
 #ifdef __cplusplus
 }

@@ -61,6 +61,18 @@ macro_rules! declare_calls {
                 share: u32,
                 answer: *mut [u64; 2],
             ) -> u8;
+
+            /// Page.
+            #[link_name = concat!($prefix, "_page")]
+            pub fn ilstrovan_page(
+                file: *const u8,
+                file_length: usize,
+                table: *const u32,
+                table_length: usize,
+                share: u32,
+                page: *mut u8,
+                page_length: usize,
+            ) -> u8;
         }
     };
 }

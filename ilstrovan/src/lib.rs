@@ -1,9 +1,9 @@
 //! Equilibrium assignment of trips to a road network.
 //!
-//! The calls are Rattle code, every one of them proved to answer what document
-//! 01 defines, for any bytes, tables and numbers. This package links the static
-//! library that holds them (`rt staticlib interface`) and gives them the types
-//! of Rust.
+//! The calls are Rattle code, every one of them proved to answer what documents
+//! 01 and 02 define, for any bytes, tables and numbers. This package links the
+//! static library that holds them (`rt staticlib interface`) and gives them the
+//! types of Rust.
 //!
 //! ```
 //! // The town of two roads: roads of 10 and 15 hundredths of a minute from
@@ -21,6 +21,15 @@
 //! assert_eq!(run.ending, ilstrovan::Ending::Reached);
 //! assert_eq!((run.judged, run.share, run.gap, run.cost), (5, 9, 0, 13_104));
 //! assert_eq!(table, [16, 2]);
+//!
+//! // The page of that table: link, tail, head, volume and minutes.
+//! let mut page = [0; 2 * ilstrovan::LINE_BYTES];
+//! ilstrovan::page(&file, &table, run.share, &mut page)?;
+//! let lines = [
+//!     "  0   0   1     1.77     0.15\n",
+//!     "  1   0   1     0.22     0.15\n",
+//! ];
+//! assert_eq!(page, lines.concat().as_bytes());
 //! # Ok::<(), ilstrovan::Refusal>(())
 //! ```
 //!
@@ -35,6 +44,9 @@ mod refusal;
 pub mod sys;
 
 pub use refusal::Refusal;
+
+/// Bytes of a link's line on a page.
+pub const LINE_BYTES: usize = 30;
 
 /// What a pass did.
 #[derive(Clone, Copy, Debug, PartialEq, Eq)]
@@ -197,4 +209,28 @@ pub fn audit(file: &[u8], table: &[u32], share: u32) -> Result<Audit, Refusal> {
     Refusal::of(number)?;
     let [gap, cost] = answer;
     Ok(Audit { gap, cost })
+}
+
+/// Writes the page of a table of this share, whoever made it, to the start of
+/// `page`: a line of [`LINE_BYTES`] for each link, in link order. Refusals 1 to
+/// 12, then 14 to 16, then 18.
+///
+/// Columns 1 to 3 of a line hold the link, 5 to 7 its tail, 9 to 11 its head, 13
+/// to 20 its volume, which is its total flow in trips, rounded down to
+/// hundredths, and 22 to 29 its time in minutes, each right-aligned. All else is
+/// spaces, and at the end is a line feed.
+pub fn page(file: &[u8], table: &[u32], share: u32, page: &mut [u8]) -> Result<(), Refusal> {
+    // SAFETY: as in `pack`.
+    let number = unsafe {
+        sys::ilstrovan_page(
+            file.as_ptr(),
+            file.len(),
+            table.as_ptr(),
+            table.len(),
+            share,
+            page.as_mut_ptr(),
+            page.len(),
+        )
+    };
+    Refusal::of(number)
 }

@@ -5,7 +5,7 @@ use std::fmt;
 use std::num::NonZeroU8;
 
 /// What the numbers mean, from 1 on.
-const WORDS: [&str; 17] = [
+const WORDS: [&str; 18] = [
     "the file is not 32 to 65,536 bytes long",
     "the version is not 1",
     "nodes are not 2 to 128, links 1 to 512 or destinations 1 to 32, or there are more destinations than nodes",
@@ -23,6 +23,7 @@ const WORDS: [&str; 17] = [
     "a link's total flow is above share times trips",
     "the table does not conserve",
     "the output is shorter than the packed study",
+    "the page slice is shorter than 30 bytes a link",
 ];
 
 /// The first question that refused a call. The call changed nothing.
@@ -38,7 +39,7 @@ impl Refusal {
         }
     }
 
-    /// The question's number in document 01.
+    /// The question's number in document 01 or 02.
     pub fn number(self) -> u8 {
         self.0.get()
     }

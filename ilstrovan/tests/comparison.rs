@@ -4,6 +4,7 @@
 mod common;
 
 use common::Proved;
+use ilstrovan::LINE_BYTES;
 use second::cases;
 use second::draft::{Dice, Draft, Plan, grid};
 use second::stream::{Call, Kind, Lent, Player, Reply, Second};
@@ -15,6 +16,8 @@ struct Pair {
     proved: Player,
     calls: u64,
     accepted: u64,
+    /// Pages by the number answered.
+    pages: [u64; 19],
 }
 
 impl Pair {
@@ -28,6 +31,9 @@ impl Pair {
         assert!(same, "what call {number}, a {kind:?}, left differs");
         self.calls += 1;
         self.accepted += u64::from(reply.refusal() == 0);
+        if let Reply::Page(number) = reply {
+            self.pages[usize::from(number)] += 1;
+        }
         reply
     }
 
@@ -68,6 +74,7 @@ fn recorded_calls() {
         pair.play(&call);
     }
     assert!(pair.calls > 4_000, "{} calls", pair.calls);
+    assert!(pair.pages[0] > 150, "{:?}", pair.pages);
 }
 
 /// Small studies, whole and damaged.
@@ -75,11 +82,15 @@ fn recorded_calls() {
 fn random_calls_on_small_studies() {
     let mut dice = Dice::new(2_026);
     let mut pair = Pair::default();
-    while pair.calls < 120_000 {
+    while pair.calls < 160_000 {
         let draft = Plan::small(&mut dice).draft(&mut dice);
         round(&mut pair, &mut dice, &draft, 1_024);
     }
     assert!(pair.accepted > pair.calls / 3, "{} accepted", pair.accepted);
+    // A page puts every question but those of a run and of a pack.
+    assert!(pair.pages[0] > 10_000, "{:?}", pair.pages);
+    let never = (0..=18).filter(|&number| pair.pages[number] == 0);
+    assert!(never.eq([13, 17]), "{:?}", pair.pages);
 }
 
 /// Studies up to every limit.
@@ -87,11 +98,12 @@ fn random_calls_on_small_studies() {
 fn random_calls_on_large_studies() {
     let mut dice = Dice::new(2_027);
     let mut pair = Pair::default();
-    while pair.calls < 4_000 {
+    while pair.calls < 5_000 {
         let draft = large(&mut dice);
         round(&mut pair, &mut dice, &draft, 40);
     }
     assert!(pair.accepted > pair.calls / 3, "{} accepted", pair.accepted);
+    assert!(pair.pages[0] > 300, "{:?}", pair.pages);
 }
 
 /// A study of 40 to 128 nodes, a street grid or any network.
@@ -133,10 +145,14 @@ fn round(pair: &mut Pair, dice: &mut Dice, draft: &Draft, budget: u64) {
         excess: dice.pick(&[0, 0, 1, 5, 80, 2_000, 65_535]),
         share: 0,
     };
-    pair.call(Kind::Run, &file, Lent::Table(garbage.clone()), run);
+    let reply = pair.call(Kind::Run, &file, Lent::Table(garbage.clone()), run);
+    if let Reply::Run(answer) = reply {
+        let lent = Lent::Page(None, paper(dice, draft));
+        pair.call(Kind::Page, &file, lent, Numbers::share(answer.share));
+    }
 
     pair.call(Kind::Start, &file, Lent::Table(garbage), Numbers::default());
-    follow(pair, dice, &file, 1);
+    follow(pair, dice, draft, &file, 1);
 
     let share = dice.pick(&[1, 2, 3, 10, 64, 100, 512, 960, 1_000, 1_023, 1_024]);
     let mut table = draft.wandering_table(dice, share);
@@ -151,23 +167,29 @@ fn round(pair: &mut Pair, dice: &mut Dice, draft: &Draft, budget: u64) {
     table.resize(length, 7);
     let given = Numbers::share(share);
     pair.call(Kind::Audit, &file, Lent::Table(table.clone()), given);
+    let lent = Lent::Page(Some(table.clone()), paper(dice, draft));
+    pair.call(Kind::Page, &file, lent, given);
     pair.call(Kind::Pass, &file, Lent::Table(table), given);
-    follow(pair, dice, &file, share);
+    follow(pair, dice, draft, &file, share);
 }
 
-/// Passes and audits of the table as the call before left it, most of them at
-/// the share reached.
-fn follow(pair: &mut Pair, dice: &mut Dice, file: &[u8], share: u32) {
+/// Passes, audits and pages of the table as the call before left it, most of
+/// them at the share reached.
+fn follow(pair: &mut Pair, dice: &mut Dice, draft: &Draft, file: &[u8], share: u32) {
     let mut reached = share;
-    for _ in 0..dice.between(1, 5) {
+    for _ in 0..dice.between(1, 6) {
         let share = if dice.once_in(4) {
             let any = dice.any_u32();
             dice.pick(&[0, reached + 1, 2 * reached, 1_025, any])
         } else {
             reached
         };
-        let kind = dice.pick(&[Kind::Pass, Kind::Pass, Kind::Audit]);
-        let reply = pair.call(kind, file, Lent::Same, Numbers::share(share));
+        let kind = dice.pick(&[Kind::Pass, Kind::Pass, Kind::Audit, Kind::Page]);
+        let lent = match kind {
+            Kind::Page => Lent::Page(None, paper(dice, draft)),
+            _ => Lent::Same,
+        };
+        let reply = pair.call(kind, file, lent, Numbers::share(share));
         if let Reply::Pass(answer) = reply
             && answer.refusal == 0
         {
@@ -215,4 +237,18 @@ fn table_length(dice: &mut Dice, draft: &Draft) -> usize {
         2 | 3 => length + dice.index(9),
         _ => length,
     }
+}
+
+/// A page slice that holds a pattern: one time in five too short.
+fn paper(dice: &mut Dice, draft: &Draft) -> Vec<u8> {
+    let lines = LINE_BYTES * draft.links.len();
+    let length = match dice.below(10) {
+        0 => 0,
+        1 => lines - 1,
+        2 => lines + 1,
+        3 => lines + dice.index(200),
+        _ => lines,
+    };
+    let first = dice.index(256);
+    (first..first + length).map(|byte| byte as u8).collect()
 }

@@ -98,5 +98,14 @@ fn expected() -> String {
         line(pass_words(second::pass(&file, &mut table, share)));
         line(table_words(&table));
     }
+
+    // A page slice a byte too short, then one just long enough.
+    assert_eq!(table[..2], [16, 2]);
+    for (length, shown) in [(59, "same 0, blank 64"), (60, "same 1, blank 4")] {
+        let refusal = second::page(&file, &table, 9, &mut vec![0; length]);
+        line(format!("page {refusal}"));
+        line(format!("{shown}, around it 238 238 238 238"));
+    }
+    line(table_words(&table));
     lines
 }

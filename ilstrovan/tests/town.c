@@ -12,6 +12,11 @@ static const uint8_t town[58] = {
     2, 0, 0, 0                                                   /* trips */
 };
 
+/* The page of flows 16 and 2 at share 9. */
+static const char lines[] =
+    "  0   0   1     1.77     0.15\n"
+    "  1   0   1     0.22     0.15\n";
+
 static void show(const char *name, unsigned refusal, const uint64_t *answer, size_t count)
 {
     printf("%s %u", name, refusal);
@@ -25,9 +30,20 @@ static void show_table(const uint32_t *table)
     printf("table %u %u %u\n", (unsigned)table[0], (unsigned)table[1], (unsigned)table[2]);
 }
 
+/* Shows whether the lines are there, from byte 2 on, and how many of the 64
+   bytes are blank. */
+static void show_page(const uint8_t *page)
+{
+    unsigned blank = 0;
+    for (size_t i = 0; i < 64; i++)
+        blank += page[i] == 0xEE;
+    printf("same %d, blank %u, around it %u %u %u %u\n", memcmp(page + 2, lines, 60) == 0, blank,
+           (unsigned)page[0], (unsigned)page[1], (unsigned)page[62], (unsigned)page[63]);
+}
+
 int main(void)
 {
-    uint8_t output[60];
+    uint8_t output[60], page[64];
     uint32_t table[3] = {7, 8, 9};
     uint64_t passed[4], ended[5], audited[2];
 
@@ -58,6 +74,13 @@ int main(void)
     show("pass", ilstrovan_pass(town, sizeof town, table, 3, 8, passed), passed, 4);
     show_table(table);
     show("pass", ilstrovan_pass(town, sizeof town, table, 3, 1025, passed), passed, 4);
+    show_table(table);
+
+    memset(page, 0xEE, sizeof page);
+    show("page", ilstrovan_page(town, sizeof town, table, 3, 9, page + 2, 59), NULL, 0);
+    show_page(page);
+    show("page", ilstrovan_page(town, sizeof town, table, 3, 9, page + 2, 60), NULL, 0);
+    show_page(page);
     show_table(table);
     return 0;
 }

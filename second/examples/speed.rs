@@ -1,13 +1,13 @@
 //! Times of the calls on a few studies: `cargo run --release --example speed`.
 //!
-//! Each time is the shortest of many tries, in microseconds. Passes and audits
-//! are of the table a run ends with.
+//! Each time is the shortest of many tries, in microseconds. Passes, audits
+//! and pages are of the table a run ends with.
 
 use std::hint::black_box;
 use std::time::{Duration, Instant};
 
 use second::draft::{Dice, Draft, DraftLink, Plan, grid};
-use second::{audit, check, pass, run, start};
+use second::{audit, check, page, pass, run, start};
 
 /// Shortest time of a call over half a second of tries, in microseconds.
 fn shortest<T>(mut call: impl FnMut() -> T) -> f64 {
@@ -37,9 +37,11 @@ fn show(name: &str, draft: &Draft) {
         pass(&file, &mut other, answer.share)
     });
     let auditing = shortest(|| audit(&file, &table, answer.share));
+    let mut bytes = vec![0; 30 * draft.links.len()];
+    let paging = shortest(|| page(&file, &table, answer.share, &mut bytes));
     let running = shortest(|| run(&file, &mut other, 1_024, 0));
     println!(
-        "{name:20} {:3} {:3} {:2} {:5} {checking:8.2} {starting:8.2} {:8.2} {auditing:8.2} {running:10.1} {:5} {:8.2}",
+        "{name:20} {:3} {:3} {:2} {:5} {checking:8.2} {starting:8.2} {:8.2} {auditing:8.2} {paging:8.2} {running:10.1} {:5} {:8.2}",
         draft.nodes,
         draft.links.len(),
         draft.destinations.len(),
@@ -71,8 +73,20 @@ fn study(dice: &mut Dice, nodes: u16, links: &[DraftLink], destinations: u64, tr
 
 fn main() {
     println!(
-        "{:20} {:>3} {:>3} {:>2} {:>5} {:>8} {:>8} {:>8} {:>8} {:>10} {:>5} {:>8}",
-        "study", "n", "m", "p", "T", "check", "start", "pass", "audit", "run", "judged", "a table"
+        "{:20} {:>3} {:>3} {:>2} {:>5} {:>8} {:>8} {:>8} {:>8} {:>8} {:>10} {:>5} {:>8}",
+        "study",
+        "n",
+        "m",
+        "p",
+        "T",
+        "check",
+        "start",
+        "pass",
+        "audit",
+        "page",
+        "run",
+        "judged",
+        "a table"
     );
     let mut dice = Dice::new(7);
     show("town", &Draft::town());

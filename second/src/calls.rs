@@ -1,9 +1,11 @@
-//! The six public calls.
+//! The seven public calls.
 
 use crate::assignment::{Assignment, Move};
+use crate::columns::{LINE_BYTES, Line};
 use crate::format::{MOST_LINKS, Sections};
-use crate::network::{Adjacency, Study};
+use crate::network::{Adjacency, ByLink, Study};
 use crate::questions::{LARGEST_BUDGET, LARGEST_SHARE, Question};
+use crate::staircase::{Gauge, Part};
 use crate::tables::{ask_conservation, ask_length, ask_totals};
 
 /// A pass moved the table.
@@ -125,8 +127,9 @@ fn try_pass(file: &[u8], table: &mut [u32], share: u32) -> Result<PassAnswer, Qu
     let used = ask_length(&study, table.len())?;
     let table = &mut table[..used];
     let adjacency = Adjacency::of(&study);
-    let mut assignment = accept(&study, &adjacency, table, share)?;
+    let totals = accept(&study, &adjacency, table, share)?;
 
+    let mut assignment = Assignment::new(&study, &adjacency, share, totals);
     assignment.find_times();
     assignment.find_loading();
     let gap = assignment.gap_from_loading();
@@ -144,17 +147,18 @@ fn try_pass(file: &[u8], table: &mut [u32], share: u32) -> Result<PassAnswer, Qu
     })
 }
 
-/// Puts questions 14 to 16 to a lent table of p·m numbers.
-fn accept<'a>(
-    study: &'a Study,
-    adjacency: &'a Adjacency,
+/// Puts questions 14 to 16 to a lent table of p·m numbers. Hands back each
+/// link's total.
+fn accept(
+    study: &Study,
+    adjacency: &Adjacency,
     table: &[u32],
     share: u32,
-) -> Result<Assignment<'a>, Question> {
+) -> Result<ByLink<u32>, Question> {
     Question::Share.ask((1..=LARGEST_SHARE).contains(&share))?;
     let totals = ask_totals(study, table, share)?;
     ask_conservation(study, adjacency, table, share)?;
-    Ok(Assignment::new(study, adjacency, share, totals))
+    Ok(totals)
 }
 
 /// Starts, then judges and moves until one of the three endings. Questions 1
@@ -227,11 +231,55 @@ fn try_audit(file: &[u8], table: &[u32], share: u32) -> Result<AuditAnswer, Ques
     let study = Study::read(file)?;
     let used = ask_length(&study, table.len())?;
     let adjacency = Adjacency::of(&study);
-    let mut assignment = accept(&study, &adjacency, &table[..used], share)?;
+    let totals = accept(&study, &adjacency, &table[..used], share)?;
+
+    let mut assignment = Assignment::new(&study, &adjacency, share, totals);
     assignment.find_times();
     Ok(AuditAnswer {
         refusal: 0,
         gap: assignment.gap_from_distances(),
         cost: assignment.cost(),
     })
+}
+
+/// Writes a line of 30 bytes for each link of a lent table, with its volume
+/// and its time. Questions 1 to 12, then 14 to 16, then 18.
+pub fn page(file: &[u8], table: &[u32], share: u32, page: &mut [u8]) -> u8 {
+    number(try_page(file, table, share, page))
+}
+
+fn try_page(file: &[u8], table: &[u32], share: u32, page: &mut [u8]) -> Result<(), Question> {
+    let study = Study::read(file)?;
+    let used = ask_length(&study, table.len())?;
+    let adjacency = Adjacency::of(&study);
+    let totals = accept(&study, &adjacency, &table[..used], share)?;
+    Question::PageLength.ask(page.len() >= LINE_BYTES * study.links)?;
+    write_lines(&study, &totals, share, page);
+    Ok(())
+}
+
+/// Writes the lines of an accepted table with this share and these totals over
+/// the first bytes of `page`, which holds at least 30 for each link.
+fn write_lines(study: &Study, totals: &ByLink<u32>, share: u32, page: &mut [u8]) {
+    // All volumes and times before any line: so they are found several at once.
+    let part = Part::of_trip(share);
+    let (mut volumes, mut times) = ([0; MOST_LINKS], [0; MOST_LINKS]);
+    let found = volumes.iter_mut().zip(&mut times);
+    let roads = &study.roads[..study.links];
+    for (((volume, time), &road), &total) in found.zip(roads).zip(totals) {
+        *volume = part.volume(total);
+        *time = Gauge::of(road).time(total, part);
+    }
+
+    let (lines, _) = page.as_chunks_mut::<LINE_BYTES>();
+    for (link, line) in lines[..study.links].iter_mut().enumerate() {
+        Line {
+            link,
+            tail: study.tails[link],
+            head: study.heads[link],
+            volume: volumes[link],
+            time: times[link],
+        }
+        .write(line);
+    }
 }

@@ -3,8 +3,9 @@
 //! The list covers the town of two roads, every question's boundary by every
 //! call that puts it, small studies of all kinds with tables of all kinds
 //! (made by passes, wandering, with cycles, damaged), and studies at every
-//! limit.
+//! limit; and after all these, pages of the same kinds of tables.
 
+use crate::calls::start;
 use crate::draft::{Dice, Draft, DraftLink, Plan, grid};
 use crate::stream::{Call, Kind, Lent, Player, Reply, Second};
 
@@ -24,6 +25,13 @@ pub fn all() -> Vec<Call> {
     long_line(&mut list);
     single_limits(&mut list);
     full_limits(&mut list);
+    pages_of_full_limits(&mut list);
+    pages_of_the_town(&mut list);
+    pages_and_questions(&mut list);
+    volumes_on_a_page(&mut list);
+    times_on_a_page(&mut list);
+    numbers_on_a_page(&mut list);
+    pages_of_small_studies(&mut list);
     list.calls
 }
 
@@ -98,12 +106,28 @@ impl List {
         self.call(Kind::Audit, file, Lent::Same, share, 0, 0);
     }
 
-    /// A run over the table as the call before left it.
-    fn run_on(&mut self, file: &[u8], budget: u32, excess: u16) {
-        self.call(Kind::Run, file, Lent::Same, 0, budget, excess);
+    /// A run over the table as the call before left it. Hands back the share
+    /// reached.
+    fn run_on(&mut self, file: &[u8], budget: u32, excess: u16) -> u32 {
+        match self.call(Kind::Run, file, Lent::Same, 0, budget, excess) {
+            Reply::Run(answer) => answer.share,
+            _ => 0,
+        }
     }
 
-    /// All six calls with one file, the last five with what they need.
+    /// A page of a table.
+    fn page(&mut self, file: &[u8], table: &[u32], share: u32, page: Vec<u8>) {
+        let lent = Lent::Page(Some(table.to_vec()), page);
+        self.call(Kind::Page, file, lent, share, 0, 0);
+    }
+
+    /// A page of the table as the call before left it.
+    fn page_on(&mut self, file: &[u8], share: u32, page: Vec<u8>) {
+        self.call(Kind::Page, file, Lent::Page(None, page), share, 0, 0);
+    }
+
+    /// Check, pack, start, pass, run and audit with one file, the last five
+    /// with what they need.
     fn each(&mut self, file: &[u8], table: &[u32], output: usize) {
         self.check(file);
         self.pack(file, vec![0xA5; output]);
@@ -871,5 +895,351 @@ fn full_limits(list: &mut List) {
             table.pop();
             list.audit(&file, table, share);
         }
+    }
+}
+
+/// A page slice before the call, without a byte of 0 in it.
+fn paper(length: usize) -> Vec<u8> {
+    (0..length).map(|byte| (byte % 255) as u8 + 1).collect()
+}
+
+/// A study whose links all lead from 0 to 1, with trips between them.
+fn side_by_side(roads: &[[u16; 3]], trips: u16) -> Draft {
+    Draft {
+        nodes: 2,
+        links: roads.iter().map(|&[a, b, c]| [0, 1, a, b, c]).collect(),
+        destinations: vec![1],
+        trips: vec![vec![trips, 0]],
+    }
+}
+
+/// Pages of studies with 128 nodes, 512 links and 32 destinations, and the
+/// longest file.
+fn pages_of_full_limits(list: &mut List) {
+    let mut dice = Dice::new(19);
+    // The table that the last call left serves here too, which spares the
+    // stream another one of its length.
+    assert_eq!(list.player.table.len(), 32 * 512);
+    for turn in 0..2 {
+        let plan = Plan {
+            nodes: (128, 128),
+            links: (512, 512),
+            destinations: 32,
+            time: dice.pick(&[500, 16_383]),
+            capacity: 700,
+            trips: 40,
+            tenths: 9,
+        };
+        let mut links = if turn == 0 {
+            grid(&mut dice, 16, 8, 512, plan.time, plan.capacity)
+        } else {
+            plan.draft(&mut dice).links
+        };
+        while links.len() < 512 {
+            links.push(dice.pick(&links));
+        }
+        let mut draft = plan.with_links(&mut dice, 128, links);
+        while draft.destinations.len() < 32 {
+            draft = plan.with_links(&mut dice, 128, draft.links);
+        }
+        let gap = vec![0x20; 65_536 - draft.packed_length()];
+        let file = if turn == 0 {
+            draft.file_with_gaps([&[], &gap, &[], &[]])
+        } else {
+            draft.file()
+        };
+        let mut share = list.run_on(&file, 4 + 50 * turn, 0);
+        list.page_on(&file, share, paper(15_360));
+        list.pass_on(&file, &mut share);
+        list.page_on(&file, share + 1, paper(40));
+        list.page_on(&file, share, paper(15_359 + 3 * turn as usize));
+        if turn == 0 {
+            let longer = [file.as_slice(), &[0]].concat();
+            list.page_on(&longer, share, paper(40));
+        }
+    }
+
+    // Every link as full as question 15 allows, at the longest time.
+    let mut links = vec![[0, 1, 16_383, 16_383, 1]; 256];
+    links.extend(vec![[1, 0, 16_383, 16_383, 1]; 255]);
+    links.push([1, 127, 16_383, 16_383, 65_535]);
+    let draft = Draft {
+        nodes: 128,
+        links,
+        destinations: vec![1],
+        trips: vec![
+            (0..128)
+                .map(|node| u16::MAX * u16::from(node == 0))
+                .collect(),
+        ],
+    };
+    let mut table = vec![1_024 * 65_535; 512];
+    table[511] = 0;
+    list.page(&draft.file(), &table, 1_024, paper(15_360));
+    table[510] += 1;
+    list.page(&draft.file(), &table, 1_024, paper(10));
+}
+
+/// Pages of the town of two roads.
+fn pages_of_the_town(list: &mut List) {
+    let file = Draft::town().file();
+    for length in [0, 1, 29, 30, 31, 59, 60, 61, 89, 90, 300] {
+        list.page(&file, &[16, 2], 9, paper(length));
+    }
+    for table in [
+        [16, 2, 0].as_slice(),
+        &[16, 2, u32::MAX, 7],
+        &[16, 2, 16, 2],
+    ] {
+        list.page(&file, table, 9, paper(60));
+        list.page(&file, table, 9, paper(59));
+    }
+    for (table, share) in [
+        ([2, 0], 1),
+        ([0, 2], 1),
+        ([1, 1], 1),
+        ([1, 3], 2),
+        ([1, 5], 3),
+        ([13, 1], 7),
+        ([16, 0], 8),
+        ([18, 0], 9),
+        ([0, 18], 9),
+        ([511, 1_537], 1_024),
+        ([10, 2_038], 1_024),
+        ([11, 2_037], 1_024),
+        ([1, 2_047], 1_024),
+        ([2_048, 0], 1_024),
+        ([2_045, 1], 1_023),
+    ] {
+        list.page(&file, &table, share, paper(60));
+    }
+    // Tables too short, shares, totals and conservation, each with a page
+    // slice that is long enough and with one that is not.
+    for (table, share) in [
+        ([].as_slice(), 9),
+        (&[16], 9),
+        (&[16], 0),
+        (&[16, 2], 0),
+        (&[16, 2], 1),
+        (&[16, 2], 10),
+        (&[16, 2], 1_025),
+        (&[16, 2], u32::MAX),
+        (&[19, 0], 0),
+        (&[19, 0], 9),
+        (&[0, 19], 9),
+        (&[16, 1], 9),
+        (&[18, 1], 9),
+        (&[u32::MAX, 3], 9),
+    ] {
+        list.page(&file, table, share, paper(60));
+        list.page(&file, table, share, paper(59));
+    }
+    // The table goes from call to call, through pages and refused pages too.
+    list.start(&file, vec![3, 4, 5]);
+    let mut share = 1;
+    for turn in 0..6 {
+        list.page_on(&file, share, paper(59 + turn % 3));
+        list.pass_on(&file, &mut share);
+    }
+    list.audit_on(&file, share);
+    list.page_on(&file, share, paper(60));
+    let share = list.run_on(&file, 10, 0);
+    list.page_on(&file, share, paper(64));
+    list.page_on(&file, share, paper(60));
+    list.audit_on(&file, share);
+}
+
+/// Every file at a boundary, and questions 12 to 18 with the sample study.
+fn pages_and_questions(list: &mut List) {
+    for (turn, file) in files_at_boundaries().iter().enumerate() {
+        let mut table = vec![0; 10];
+        if start(file, &mut table) == 0 {
+            list.page(file, &table, 1, paper(150));
+            continue;
+        }
+        // Behind the file's fault come none, or several.
+        match turn % 3 {
+            0 => list.page(file, &table, 1, paper(150)),
+            1 => list.page(file, &table, 0, paper(149)),
+            _ => list.page(file, &table[..9], 1, paper(0)),
+        }
+    }
+
+    let file = sample().file();
+    let mut table = vec![0; 10];
+    start(&file, &mut table);
+    let changed = |place: usize, number: u32| {
+        let mut other = table.clone();
+        other[place] = number;
+        other
+    };
+    for table in [
+        table[..9].to_vec(),
+        table.clone(),
+        changed(0, table[0] + 1),
+        changed(9, u32::MAX),
+        vec![0; 10],
+    ] {
+        for share in [0, 1, 1_024, 1_025] {
+            for length in [149, 150] {
+                list.page(&file, &table, share, paper(length));
+            }
+        }
+    }
+}
+
+/// Volumes of every number of digits, on both sides of every edge.
+fn volumes_on_a_page(list: &mut List) {
+    // All trips on one link, or all but one of their parts.
+    let file = side_by_side(&[[10, 10, 2_000], [15, 0, 1]], 65_535).file();
+    for share in [1, 100, 1_023, 1_024] {
+        let most = 65_535 * share;
+        for first in [0, 1, most - 1, most] {
+            list.page(&file, &[first, most - first], share, paper(60));
+        }
+    }
+    // As many hundredths as these, or one part of a trip less.
+    let volumes = [
+        1, 9, 10, 99, 100, 999, 1_000, 9_999, 10_000, 99_999, 100_000, 999_999, 1_000_000,
+    ];
+    let file = side_by_side(&[[7, 60, 900]; 14], 65_535).file();
+    for share in [3, 99, 100, 101, 1_000, 1_023, 1_024] {
+        for less in [0, 1] {
+            let mut table: Vec<u32> = volumes
+                .iter()
+                .map(|&volume: &u32| (volume * share).div_ceil(100) - less)
+                .collect();
+            table.push(65_535 * share - table.iter().sum::<u32>());
+            list.page(&file, &table, share, paper(420));
+        }
+    }
+    // The volume is that of all destinations together, and floored once.
+    let draft = Draft {
+        nodes: 3,
+        links: vec![[0, 1, 5, 5, 5], [1, 2, 5, 5, 5], [2, 0, 5, 5, 5]],
+        destinations: vec![0, 1, 2],
+        trips: vec![vec![0, 1, 0], vec![0, 0, 1], vec![1, 0, 0]],
+    };
+    let file = draft.file();
+    for share in [1, 3, 7, 1_024] {
+        let straight = [0, share, share, share, 0, share, share, share, 0];
+        list.page(&file, &straight, share, paper(90));
+        // One part more goes round for each destination.
+        list.page(&file, &straight.map(|flow| flow + 1), share, paper(90));
+    }
+}
+
+/// Times of every number of digits.
+fn times_on_a_page(list: &mut List) {
+    // Free times, and from four times capacity on a + 256·b.
+    let roads = [
+        [1, 0, 1],
+        [9, 0, 1],
+        [10, 0, 1],
+        [99, 0, 1],
+        [100, 0, 1],
+        [999, 0, 1],
+        [1_000, 0, 1],
+        [9_999, 0, 1],
+        [10_000, 0, 1],
+        [16_383, 0, 1],
+        [159, 390, 1],
+        [160, 390, 1],
+        [63, 3_906, 1],
+        [64, 3_906, 1],
+        [16_383, 16_382, 1],
+        [16_382, 16_383, 1],
+        [16_383, 16_383, 1],
+        [16_383, 16_383, 65_535],
+    ];
+    let file = side_by_side(&roads, 4 * 18).file();
+    for share in [1, 9, 1_024] {
+        list.page(&file, &[4 * share; 18], share, paper(540));
+        let mut table = [0; 18];
+        table[0] = 72 * share;
+        list.page(&file, &table, share, paper(540));
+    }
+    // Step by step, on both sides of each edge.
+    let file = side_by_side(&[[3, 16_383, 64], [16_383, 77, 3]], 300).file();
+    for step in [0, 1, 2, 3, 5, 31, 63, 64, 65, 127, 180, 255, 256, 257, 300] {
+        list.page(&file, &[step, 300 - step], 1, paper(60));
+        if step > 0 {
+            let first = 1_000 * step - 1;
+            list.page(&file, &[first, 300_000 - first], 1_000, paper(60));
+        }
+    }
+}
+
+/// Links and nodes with numbers of one, two and three digits.
+fn numbers_on_a_page(list: &mut List) {
+    let nodes = [0, 9, 10, 99, 100, 127];
+    let mut links: Vec<DraftLink> = Vec::new();
+    for (&tail, &head) in nodes.iter().zip(&nodes[1..]) {
+        links.push([tail, head, 100 + tail, head, 2]);
+        links.push([head, tail, 100 + head, tail, 2]);
+    }
+    let trips = |goal: u16| -> Vec<u16> {
+        (0..128)
+            .map(|node| u16::from(node != goal && nodes.contains(&node)) * (1 + node % 4))
+            .collect()
+    };
+    let draft = Draft {
+        nodes: 128,
+        links,
+        destinations: vec![9, 100],
+        trips: vec![trips(9), trips(100)],
+    };
+    let file = draft.file();
+    list.start(&file, vec![1; 20]);
+    let mut share = 1;
+    for _ in 0..3 {
+        list.page_on(&file, share, paper(300));
+        list.pass_on(&file, &mut share);
+    }
+    for count in [1, 10, 11, 100, 101] {
+        let roads: Vec<[u16; 3]> = (1..=count).map(|a| [a, 2 * a, a]).collect();
+        let draft = side_by_side(&roads, 1_000);
+        let table = draft.wandering_table(&mut Dice::new(20), 64);
+        list.page(&draft.file(), &table, 64, paper(30 * roads.len()));
+    }
+}
+
+/// Pages of small studies of all kinds, and of crowded street grids, where
+/// shares grow.
+fn pages_of_small_studies(list: &mut List) {
+    let mut dice = Dice::new(21);
+    for turn in 0..16 {
+        let plan = Plan::small(&mut dice);
+        let draft = if turn % 2 == 0 {
+            plan.draft(&mut dice)
+        } else {
+            let (wide, high) = (dice.between(2, 4) as u16, dice.between(2, 3) as u16);
+            let links = grid(&mut dice, wide, high, 512, 200, 40);
+            let crowd = Plan { trips: 25, ..plan };
+            crowd.with_links(&mut dice, wide * high, links)
+        };
+        let file = draft.file();
+        let length = 30 * draft.links.len();
+        let more = |dice: &mut Dice| length + dice.pick(&[0, 0, 1, 17]);
+
+        list.start(&file, vec![dice.any_u32(); draft.table_length()]);
+        let mut share = 1;
+        for _ in 0..dice.between(1, 3) {
+            list.pass_on(&file, &mut share);
+        }
+        list.page_on(&file, share, paper(more(&mut dice)));
+        let share = list.run_on(&file, dice.pick(&[5, 30, 1_024]), 0);
+        list.page_on(&file, share, paper(more(&mut dice)));
+
+        let share = dice.pick(&[1, 3, 10, 64, 513, 1_000, 1_023, 1_024]);
+        let mut table = draft.wandering_table(&mut dice, share);
+        list.page(&file, &table, share, paper(more(&mut dice)));
+        let amount = dice.pick(&[1, share, share * draft.total() as u32 / 3]);
+        if draft.add_cycle(&mut dice, &mut table, amount) {
+            list.page(&file, &table, share, paper(more(&mut dice)));
+        }
+        let place = dice.index(table.len());
+        table[place] = table[place].wrapping_add(dice.pick(&[1, u32::MAX]));
+        list.page(&file, &table, share, paper(length));
     }
 }

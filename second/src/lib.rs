@@ -1,14 +1,15 @@
 //! Equilibrium assignment of trips to a road network.
 //!
-//! The second implementation of document 01, the scope. Its answers are
-//! compared with the first implementation's, call by call, and its speed is
-//! the yardstick for the first one's.
+//! The second implementation of document 01, the scope, and of request A.1 of
+//! document 02, the page. Its answers are compared with the first
+//! implementation's, call by call, and its speed is the yardstick for the
+//! first one's.
 //!
 //! The layers, from the bottom up:
 //!
 //! | module          | what it knows                                         |
 //! |-----------------|-------------------------------------------------------|
-//! | [`questions`]   | the seventeen questions and their numbers             |
+//! | [`questions`]   | the eighteen questions and their numbers              |
 //! | [`mod@format`]  | the bytes of a study file (questions 1 to 5)          |
 //! | [`network`]     | the decoded study (questions 6 to 11), who meets whom |
 //! | [`staircase`]   | a link's time and the area under its staircase        |
@@ -16,8 +17,9 @@
 //! | [`least_times`] | distances and next links to one destination           |
 //! | [`loading`]     | sending trips along next links                        |
 //! | [`assignment`]  | judging a table and moving it                         |
-//! | [`calls`]       | the six public calls                                  |
-//! | [`mod@listing`] | what the program `assign` prints                      |
+//! | [`columns`]     | the lines of a page                                   |
+//! | [`calls`]       | the seven public calls                                |
+//! | [`mod@listing`] | what the programs `assign` and `page` print           |
 //!
 //! [`draft`], [`cases`] and [`stream`] make studies, lists of calls and
 //! recordings of them for comparison.
@@ -28,6 +30,7 @@
 pub mod assignment;
 pub mod calls;
 pub mod cases;
+pub mod columns;
 pub mod draft;
 pub mod format;
 pub mod least_times;
@@ -41,6 +44,6 @@ pub mod tables;
 
 pub use calls::{
     AuditAnswer, FINEST, MOVED, PassAnswer, REACHED, RUN_FINEST, RunAnswer, SPENT, audit, check,
-    pack, pass, run, start,
+    pack, page, pass, run, start,
 };
-pub use listing::listing;
+pub use listing::{listing, page_listing};

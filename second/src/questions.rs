@@ -1,6 +1,7 @@
 //! The questions a call puts before it does anything, and their numbers.
 
-/// The largest share a pass or an audit accepts, and a run ever reaches.
+/// The largest share a pass, an audit or a page accepts, and a run ever
+/// reaches.
 pub const LARGEST_SHARE: u32 = 1_024;
 
 /// The largest budget a run accepts.
@@ -47,6 +48,8 @@ pub enum Question {
     Conservation = 16,
     /// 17: is the output slice long enough?
     OutputLength = 17,
+    /// 18: is the page slice long enough?
+    PageLength = 18,
 }
 
 impl Question {

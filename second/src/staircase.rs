@@ -105,6 +105,18 @@ impl Part {
         const TRACE: f64 = 1.0 / (1_u64 << 40) as f64;
         Part((1.0 + TRACE) / f64::from(share))
     }
+
+    /// Volume, floor(100·S / W), for flows of at most share × 65,535 and
+    /// shares of at most 1,024.
+    ///
+    /// The whole part is the exact one for the reason that `Gauge::step`
+    /// gives, here with x = 100·S / W, a fraction over W, and with three
+    /// roundings: 100·S is below 2³³, so that what is too much is less than
+    /// x · 2⁻³⁹ < 1 / W.
+    #[inline(always)]
+    pub fn volume(self, flow: u32) -> u32 {
+        (f64::from(flow) * (100.0 * self.0)) as u32
+    }
 }
 
 impl Gauge {
@@ -176,6 +188,23 @@ mod tests {
             }
         }
         assert!(tried > 1_000_000);
+    }
+
+    /// The volume against whole-number division, on both sides of edges.
+    #[test]
+    fn the_volume_is_exact() {
+        for share in 1..=1_024 {
+            let part = Part::of_trip(share);
+            let most = share * LARGEST_TOTAL;
+            for volume in (0..6_553_500).step_by(9_973).chain([1, 99, 6_553_500]) {
+                // The least flow of this volume.
+                let edge = (volume * u64::from(share)).div_ceil(100) as u32;
+                for flow in edge.saturating_sub(1)..=(edge + 1).min(most) {
+                    let exact = 100 * u64::from(flow) / u64::from(share);
+                    assert_eq!(u64::from(part.volume(flow)), exact);
+                }
+            }
+        }
     }
 
     #[test]

@@ -5,22 +5,24 @@
 //! All numbers are little-endian. Call follows call without padding:
 //!
 //! ```text
-//! u8   kind: 1 check, 2 pack, 3 start, 4 pass, 5 run, 6 audit;
+//! u8   kind: 1 check, 2 pack, 3 start, 4 pass, 5 run, 6 audit, 7 page;
 //!      0 ends the stream, and nothing follows it
 //! u32  length of the file in bytes, F
 //!      F bytes of the file
 //! u32  length of what is lent, L: for a pack, the output's bytes; for a
-//!      start, pass, run or audit, the table's numbers; 0 for a check
-//!      L bytes (pack), or L numbers u32 (start, pass, run, audit)
+//!      start, pass, run, audit or page, the table's numbers; 0 for a check
+//!      L bytes (pack), or L numbers u32 (start, pass, run, audit, page)
+//! u32  length of the page slice in bytes, P (page only)
+//!      P bytes, the page slice as it is lent (page only)
 //! u32  share    (0 where the call takes none)
 //! u32  budget   (0 where the call takes none)
 //! u16  excess   (0 where the call takes none)
 //! ```
 //!
-//! A length of 0xFFFF_FFFF is followed by no bytes or numbers. As F it means
-//! the same file as in the call before. As L it means the table as the call
-//! before left it, its length included; it is used only where the call before
-//! is a start, pass, run or audit too.
+//! A length F or L of 0xFFFF_FFFF is followed by no bytes or numbers. As F it
+//! means the same file as in the call before. As L it means the table as the
+//! call before left it, its length included; it is used only where the call
+//! before is a start, pass, run, audit or page too. P has no such length.
 //!
 //! # The answers
 //!
@@ -33,14 +35,16 @@
 //! pass <refusal> <outcome> <gap> <cost> <share> <digest>
 //! run <refusal> <ending> <judged> <share> <gap> <cost> <digest>
 //! audit <refusal> <gap> <cost> <digest>
+//! page <refusal> <digest>
 //! ```
 //!
 //! Outcome: 0 refused, 1 moved, 2 finest. Ending: 0 refused, 1 reached,
 //! 2 finest, 3 spent. The digest is the 64-bit FNV-1a digest of all that was
 //! lent, as the call leaves it, in 16 hexadecimal digits: the output's bytes
 //! of a pack, the table's numbers as little-endian bytes of a start, pass,
-//! run or audit (all of them, also those after the first p·m), no bytes at
-//! all of a check.
+//! run or audit (all of them, also those after the first p·m), the page
+//! slice's bytes of a page (all of them, also those after the first 30m, but
+//! not its table, which it cannot change), no bytes at all of a check.
 
 use crate::calls::{self, AuditAnswer, PassAnswer, RunAnswer};
 use crate::format::{u16_at, u32_at};
@@ -64,17 +68,20 @@ pub enum Kind {
     Run = 5,
     /// Audit.
     Audit = 6,
+    /// Page.
+    Page = 7,
 }
 
 impl Kind {
     /// All kinds.
-    pub const ALL: [Kind; 6] = [
+    pub const ALL: [Kind; 7] = [
         Kind::Check,
         Kind::Pack,
         Kind::Start,
         Kind::Pass,
         Kind::Run,
         Kind::Audit,
+        Kind::Page,
     ];
 
     /// The word a line of answers begins with.
@@ -86,6 +93,7 @@ impl Kind {
             Kind::Pass => "pass",
             Kind::Run => "run",
             Kind::Audit => "audit",
+            Kind::Page => "page",
         }
     }
 
@@ -106,6 +114,9 @@ pub enum Lent {
     Table(Vec<u32>),
     /// This output.
     Output(Vec<u8>),
+    /// This table, or none for the table as the call before left it, and this
+    /// page slice.
+    Page(Option<Vec<u32>>, Vec<u8>),
 }
 
 /// One recorded call.
@@ -117,7 +128,7 @@ pub struct Call {
     pub file: Option<Vec<u8>>,
     /// What is lent.
     pub lent: Lent,
-    /// Share, for a pass or an audit.
+    /// Share, for a pass, an audit or a page.
     pub share: u32,
     /// Budget, for a run.
     pub budget: u32,
@@ -130,23 +141,15 @@ pub fn write_calls(calls: &[Call]) -> Vec<u8> {
     let mut stream = Vec::new();
     for call in calls {
         stream.push(call.kind as u8);
-        match &call.file {
-            None => stream.extend(SAME.to_le_bytes()),
-            Some(file) => {
-                stream.extend((file.len() as u32).to_le_bytes());
-                stream.extend(file);
-            }
-        }
+        write_bytes(&mut stream, call.file.as_deref());
         match &call.lent {
             Lent::Nothing => stream.extend(0_u32.to_le_bytes()),
-            Lent::Same => stream.extend(SAME.to_le_bytes()),
-            Lent::Table(table) => {
-                stream.extend((table.len() as u32).to_le_bytes());
-                stream.extend(table.iter().flat_map(|number| number.to_le_bytes()));
-            }
-            Lent::Output(output) => {
-                stream.extend((output.len() as u32).to_le_bytes());
-                stream.extend(output);
+            Lent::Same => write_table(&mut stream, None),
+            Lent::Table(table) => write_table(&mut stream, Some(table)),
+            Lent::Output(output) => write_bytes(&mut stream, Some(output)),
+            Lent::Page(table, page) => {
+                write_table(&mut stream, table.as_deref());
+                write_bytes(&mut stream, Some(page));
             }
         }
         stream.extend(call.share.to_le_bytes());
@@ -155,6 +158,21 @@ pub fn write_calls(calls: &[Call]) -> Vec<u8> {
     }
     stream.push(0);
     stream
+}
+
+/// Writes a length and its bytes, or the length of what stays the same.
+fn write_bytes(stream: &mut Vec<u8>, bytes: Option<&[u8]>) {
+    let length = bytes.map_or(SAME, |bytes| bytes.len() as u32);
+    stream.extend(length.to_le_bytes());
+    stream.extend(bytes.into_iter().flatten());
+}
+
+/// Writes a length and its numbers, or the length of what stays the same.
+fn write_table(stream: &mut Vec<u8>, table: Option<&[u32]>) {
+    let length = table.map_or(SAME, |table| table.len() as u32);
+    stream.extend(length.to_le_bytes());
+    let numbers = table.into_iter().flatten();
+    stream.extend(numbers.flat_map(|number| number.to_le_bytes()));
 }
 
 /// Reads a stream, or tells what is wrong with it.
@@ -201,6 +219,16 @@ pub fn read_calls(stream: &[u8]) -> Result<Vec<Call>, String> {
             let numbers = take(4 * length as usize)?.chunks_exact(4);
             Lent::Table(numbers.map(|bytes| u32_at(bytes, 0)).collect())
         };
+        let lent = if kind == Kind::Page {
+            let length = u32_at(take(4)?, 0);
+            let page = take(length as usize)?.to_vec();
+            match lent {
+                Lent::Table(table) => Lent::Page(Some(table), page),
+                _ => Lent::Page(None, page),
+            }
+        } else {
+            lent
+        };
         let share = u32_at(take(4)?, 0);
         let budget = u32_at(take(4)?, 0);
         let excess = u16_at(take(2)?, 0);
@@ -220,7 +248,7 @@ pub fn read_calls(stream: &[u8]) -> Result<Vec<Call>, String> {
     }
 }
 
-/// The six calls, whoever answers them.
+/// The seven calls, whoever answers them.
 pub trait Calls {
     /// Check.
     fn check(&self, file: &[u8]) -> u8;
@@ -234,6 +262,8 @@ pub trait Calls {
     fn run(&self, file: &[u8], table: &mut [u32], budget: u32, excess: u16) -> RunAnswer;
     /// Audit.
     fn audit(&self, file: &[u8], table: &[u32], share: u32) -> AuditAnswer;
+    /// Page.
+    fn page(&self, file: &[u8], table: &[u32], share: u32, page: &mut [u8]) -> u8;
 }
 
 /// The calls of this library.
@@ -263,6 +293,10 @@ impl Calls for Second {
     fn audit(&self, file: &[u8], table: &[u32], share: u32) -> AuditAnswer {
         calls::audit(file, table, share)
     }
+
+    fn page(&self, file: &[u8], table: &[u32], share: u32, page: &mut [u8]) -> u8 {
+        calls::page(file, table, share, page)
+    }
 }
 
 /// What a call answered.
@@ -280,13 +314,18 @@ pub enum Reply {
     Run(RunAnswer),
     /// Audit.
     Audit(AuditAnswer),
+    /// Page.
+    Page(u8),
 }
 
 impl Reply {
     /// The refusal's number, or 0.
     pub fn refusal(&self) -> u8 {
         match self {
-            Reply::Check(refusal) | Reply::Pack(refusal) | Reply::Start(refusal) => *refusal,
+            Reply::Check(refusal)
+            | Reply::Pack(refusal)
+            | Reply::Start(refusal)
+            | Reply::Page(refusal) => *refusal,
             Reply::Pass(answer) => answer.refusal,
             Reply::Run(answer) => answer.refusal,
             Reply::Audit(answer) => answer.refusal,
@@ -317,6 +356,7 @@ impl Reply {
             Reply::Audit(AuditAnswer { refusal, gap, cost }) => {
                 format!("audit {refusal} {gap} {cost} {digest:016x}")
             }
+            Reply::Page(refusal) => format!("page {refusal} {digest:016x}"),
         }
     }
 }
@@ -339,6 +379,8 @@ pub struct Player {
     pub table: Vec<u32>,
     /// The output as the last pack left it.
     pub output: Vec<u8>,
+    /// The page slice as the last page left it.
+    pub page: Vec<u8>,
 }
 
 impl Player {
@@ -351,6 +393,12 @@ impl Player {
             Lent::Nothing | Lent::Same => {}
             Lent::Table(table) => self.table.clone_from(table),
             Lent::Output(output) => self.output.clone_from(output),
+            Lent::Page(table, page) => {
+                if let Some(table) = table {
+                    self.table.clone_from(table);
+                }
+                self.page.clone_from(page);
+            }
         }
         let (file, table) = (&self.file, &mut self.table);
         match call.kind {
@@ -360,6 +408,7 @@ impl Player {
             Kind::Pass => Reply::Pass(implementation.pass(file, table, call.share)),
             Kind::Run => Reply::Run(implementation.run(file, table, call.budget, call.excess)),
             Kind::Audit => Reply::Audit(implementation.audit(file, table, call.share)),
+            Kind::Page => Reply::Page(implementation.page(file, table, call.share, &mut self.page)),
         }
     }
 
@@ -368,6 +417,7 @@ impl Player {
         match kind {
             Kind::Check => digest([]),
             Kind::Pack => digest(self.output.iter().copied()),
+            Kind::Page => digest(self.page.iter().copied()),
             _ => digest(self.table.iter().flat_map(|number| number.to_le_bytes())),
         }
     }

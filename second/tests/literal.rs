@@ -1,5 +1,5 @@
-//! The definitions of document 01, word for word and by brute force, and the
-//! library compared with them.
+//! The definitions of document 01 and of request A.1 of document 02, word for
+//! word and by brute force, and the library compared with them.
 
 use second::cases;
 use second::draft::{Dice, Draft, Plan, grid};
@@ -399,7 +399,30 @@ mod literal {
         u32::try_from(number).unwrap()
     }
 
-    /// The six calls by the definitions.
+    /// "each printed with a point before its last two digits and at least one
+    /// digit before it"
+    fn with_point(number: Whole) -> String {
+        format!("{}.{:02}", number / 100, number % 100)
+    }
+
+    /// "30 bytes a link, in link order, right-aligned, all else spaces. Columns
+    /// 1 to 3 hold the link, 5 to 7 the tail, 9 to 11 the head, 13 to 20 the
+    /// volume, 22 to 29 the time in minutes, then a line feed. Volume is
+    /// floor(100·S / W) and time is in hundredths".
+    fn page_text(study: &Study, table: &Table, w: Whole) -> String {
+        let totals = totals(study, table);
+        let times = times(study, &totals, w);
+        let mut text = String::new();
+        for (l, link) in study.links.iter().enumerate() {
+            let volume = with_point(100 * totals[l] / w);
+            let time = with_point(times[l]);
+            let (tail, head) = (link.tail, link.head);
+            text += &format!("{l:>3} {tail:>3} {head:>3} {volume:>8} {time:>8}\n");
+        }
+        text
+    }
+
+    /// The seven calls by the definitions.
     pub struct Literal;
 
     impl Calls for Literal {
@@ -545,6 +568,24 @@ mod literal {
                 cost: 0,
             })
         }
+
+        fn page(&self, file: &[u8], numbers: &[u32], share: u32, page: &mut [u8]) -> u8 {
+            let result = study(file).and_then(|study| {
+                question_12(&study, numbers)?;
+                let table = table(&study, numbers, share)?;
+                // "Turned away: 18, page slice below 30m bytes, after 16."
+                if page.len() < 30 * study.m {
+                    return Err(18);
+                }
+                let text = page_text(&study, &table, Whole::from(share));
+                // "No number is wider than its columns".
+                assert_eq!(text.len(), 30 * study.m);
+                // "Bytes after the first 30m are untouched."
+                page[..30 * study.m].copy_from_slice(text.as_bytes());
+                Ok(())
+            });
+            result.err().unwrap_or(0)
+        }
     }
 }
 
@@ -557,6 +598,8 @@ struct Pair {
     slow: Player,
     made: usize,
     refused: usize,
+    /// Pages not refused.
+    pages: usize,
 }
 
 impl Pair {
@@ -571,6 +614,7 @@ impl Pair {
         );
         self.made += 1;
         self.refused += usize::from(fast.refusal() != 0);
+        self.pages += usize::from(fast == Reply::Page(0));
         fast
     }
 
@@ -593,6 +637,22 @@ impl Pair {
         })
     }
 
+    /// A page of this table, or of the table as the call before left it, with a
+    /// page slice that is mostly long enough.
+    fn page(
+        &mut self,
+        dice: &mut Dice,
+        draft: &Draft,
+        file: &[u8],
+        table: Option<&Vec<u32>>,
+        share: u32,
+    ) {
+        let length = 30 * draft.links.len() + dice.pick(&[0, 0, 1, 50]) - dice.pick(&[0, 0, 0, 1]);
+        let page = (0..length).map(|_| dice.roll() as u8).collect();
+        let lent = Lent::Page(table.cloned(), page);
+        self.call(Kind::Page, file, lent, share, 0, 0);
+    }
+
     /// All calls there are, with tables of all kinds, for one study.
     fn study(&mut self, dice: &mut Dice, draft: &Draft, file: &[u8]) {
         let length = draft.table_length();
@@ -605,7 +665,9 @@ impl Pair {
             .collect();
         let budget = dice.pick(&[0, 1, 2, 3, 8, 15, 40, 1_025]);
         let excess = dice.pick(&[0, 0, 0, 1, 4, 30, 500, 65_535]);
-        self.call(Kind::Run, file, table(&garbage), 0, budget, excess);
+        if let Reply::Run(answer) = self.call(Kind::Run, file, table(&garbage), 0, budget, excess) {
+            self.page(dice, draft, file, None, answer.share);
+        }
         self.call(Kind::Start, file, table(&garbage), 0, 0, 0);
 
         let mut share = 1;
@@ -625,6 +687,9 @@ impl Pair {
             {
                 share = answer.share;
             }
+            if dice.once_in(3) {
+                self.page(dice, draft, file, None, share);
+            }
         }
 
         for _ in 0..2 {
@@ -638,21 +703,24 @@ impl Pair {
             let mut made = draft.wandering_table(dice, share);
             self.call(Kind::Pass, file, table(&made), share, 0, 0);
             self.call(Kind::Audit, file, table(&made), share, 0, 0);
+            self.page(dice, draft, file, Some(&made), share);
             let most = share * draft.total() as u32;
             let amount = dice.pick(&[1, 2, share, most / 2, most]);
             if draft.add_cycle(dice, &mut made, amount) {
                 self.call(Kind::Pass, file, table(&made), share, 0, 0);
                 self.call(Kind::Audit, file, Lent::Same, share, 0, 0);
+                self.page(dice, draft, file, Some(&made), share);
             }
             let place = dice.index(length);
             made[place] = dice.any_u32();
             self.call(Kind::Audit, file, table(&made), share, 0, 0);
+            self.page(dice, draft, file, None, share);
             self.call(Kind::Pass, file, table(&made), share, 0, 0);
         }
     }
 }
 
-/// Thousands of small studies, all six calls.
+/// Thousands of small studies, all seven calls.
 #[test]
 fn small_studies() {
     let mut dice = Dice::new(2_026);
@@ -664,6 +732,7 @@ fn small_studies() {
     }
     assert!(pair.made > 100_000);
     assert!(pair.made - pair.refused > 50_000);
+    assert!(pair.pages > 15_000, "{}", pair.pages);
 }
 
 /// Runs to their end, on crowded networks where they take long.
@@ -731,7 +800,7 @@ fn damaged_files() {
             let reply = pair.call(Kind::Check, &other, Lent::Nothing, 0, 0, 0);
             seen[usize::from(reply.refusal())] += 1;
             let table = Lent::Table(vec![1; dice.index(20)]);
-            match dice.below(5) {
+            match dice.below(6) {
                 0 => pair.call(
                     Kind::Pack,
                     &other,
@@ -743,6 +812,10 @@ fn damaged_files() {
                 1 => pair.call(Kind::Start, &other, table, 0, 0, 0),
                 2 => pair.call(Kind::Pass, &other, table, dice.below(3) as u32, 0, 0),
                 3 => pair.call(Kind::Run, &other, table, 0, dice.below(3) as u32, 0),
+                4 => {
+                    let page = Lent::Page(Some(vec![0; dice.index(20)]), vec![3; dice.index(600)]);
+                    pair.call(Kind::Page, &other, page, dice.below(3) as u32, 0, 0)
+                }
                 _ => pair.call(Kind::Audit, &other, table, dice.below(3) as u32, 0, 0),
             };
         }
@@ -805,6 +878,7 @@ fn senseless_files() {
             let lent = match kind {
                 Kind::Check => Lent::Nothing,
                 Kind::Pack => Lent::Output(vec![7; dice.index(120)]),
+                Kind::Page => Lent::Page(Some(table.clone()), vec![7; dice.index(120)]),
                 _ => Lent::Table(table.clone()),
             };
             let number = dice.any_u32();
@@ -820,7 +894,7 @@ fn recorded_calls() {
     for call in cases::all() {
         pair.play(&call);
     }
-    assert!(pair.made >= 2_400);
+    assert!(pair.made >= 2_400 && pair.pages >= 190);
 }
 
 /// Networks of a larger size, with many destinations.

@@ -14,13 +14,28 @@ fn the_list_is_long_and_the_stream_short() {
     assert!(write_calls(&calls).len() < 4_000_000);
 }
 
+/// Calls before the first ones that were made for pages.
+const WITHOUT_PAGES: usize = 4_013;
+
 /// The list is the same every time and everywhere.
 #[test]
 fn the_list_stays_the_same() {
     let calls = cases::all();
-    let answered = answers(&Second, &calls);
-    assert_eq!(digest(write_calls(&calls)), 0xD928_78A1_C5BC_FF7D);
-    assert_eq!(digest(answered.into_bytes()), 0xF54C_547B_3317_B1A2);
+    // First those without pages, as they were before there were any.
+    let first_page = calls.iter().position(|call| call.kind == Kind::Page);
+    assert_eq!(first_page, Some(WITHOUT_PAGES + 1));
+    for (calls, stream, lines) in [
+        (
+            &calls[..WITHOUT_PAGES],
+            0xD928_78A1_C5BC_FF7D,
+            0xF54C_547B_3317_B1A2,
+        ),
+        (&calls[..], 0x6153_11DF_0DB6_1548, 0x68C3_3E75_690D_4835),
+    ] {
+        let answered = answers(&Second, calls);
+        assert_eq!(digest(write_calls(calls)), stream);
+        assert_eq!(digest(answered.into_bytes()), lines);
+    }
 }
 
 #[test]
@@ -30,7 +45,7 @@ fn the_stream_can_be_read_back() {
     assert!(read_calls(&stream).unwrap() == calls);
     assert!(read_calls(&stream[..stream.len() - 1]).is_err());
     assert!(read_calls(&[stream, vec![0]].concat()).is_err());
-    assert!(read_calls(&[7]).is_err());
+    assert!(read_calls(&[8]).is_err());
     assert!(read_calls(&[]).is_err());
 }
 
@@ -69,6 +84,30 @@ fn the_form_of_the_stream() {
             budget: 0,
             excess: 0,
         },
+        Call {
+            kind: Kind::Page,
+            file: Some(vec![6]),
+            lent: Lent::Page(Some(vec![2]), vec![11, 12, 13]),
+            share: 9,
+            budget: 0,
+            excess: 0,
+        },
+        Call {
+            kind: Kind::Page,
+            file: None,
+            lent: Lent::Page(None, vec![]),
+            share: 258,
+            budget: 0,
+            excess: 0,
+        },
+        Call {
+            kind: Kind::Audit,
+            file: None,
+            lent: Lent::Same,
+            share: 1,
+            budget: 0,
+            excess: 0,
+        },
     ];
     #[rustfmt::skip]
     let stream = [
@@ -76,10 +115,27 @@ fn the_form_of_the_stream() {
         5, 255, 255, 255, 255, 255, 255, 255, 255, 0, 0, 0, 0, 6, 0, 0, 0, 7, 0,
         2, 255, 255, 255, 255, 1, 0, 0, 0, 1, 0, 0, 0, 0, 0, 0, 0, 0, 0, 0,
         1, 0, 0, 0, 0, 0, 0, 0, 0, 0, 0, 0, 0, 0, 0, 0, 0, 0, 0,
+        7, 1, 0, 0, 0, 6, 1, 0, 0, 0, 2, 0, 0, 0, 3, 0, 0, 0, 11, 12, 13, 9, 0, 0, 0, 0, 0, 0, 0, 0, 0,
+        7, 255, 255, 255, 255, 255, 255, 255, 255, 0, 0, 0, 0, 2, 1, 0, 0, 0, 0, 0, 0, 0, 0,
+        6, 255, 255, 255, 255, 255, 255, 255, 255, 1, 0, 0, 0, 0, 0, 0, 0, 0, 0,
         0,
     ];
     assert_eq!(write_calls(&calls), stream);
     assert_eq!(read_calls(&stream).unwrap(), calls);
+}
+
+/// A page takes a table over only where there is one, and its page slice never.
+#[test]
+fn what_a_page_cannot_take_over() {
+    let same = [255; 4];
+    let end = [0; 11];
+    let check = [1, 0, 0, 0, 0, 0, 0, 0, 0, 0, 0, 0, 0, 0, 0, 0, 0, 0, 0];
+    let stream = [&check, [7].as_slice(), &same, &same, &[0; 4], &end].concat();
+    assert!(read_calls(&stream).is_err());
+    let stream = [&check, [7].as_slice(), &same, &[0; 4], &[0; 4], &end].concat();
+    assert!(read_calls(&stream).is_ok());
+    let stream = [&check, [7].as_slice(), &same, &[0; 4], &same, &end].concat();
+    assert!(read_calls(&stream).is_err());
 }
 
 #[test]
@@ -133,6 +189,7 @@ fn the_list_has_everything() {
         (Kind::Pass, &[12, 14, 15, 16]),
         (Kind::Run, &[12, 13]),
         (Kind::Audit, &[12, 14, 15, 16]),
+        (Kind::Page, &[12, 14, 15, 16, 18]),
     ] {
         for number in (0..=11).chain(more.iter().copied()) {
             assert!(

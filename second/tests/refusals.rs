@@ -1,7 +1,7 @@
 //! Every question at its boundary, by every call that puts it.
 
 use second::draft::{Draft, DraftLink};
-use second::{AuditAnswer, PassAnswer, RunAnswer, audit, check, pack, pass, run, start};
+use second::{AuditAnswer, PassAnswer, RunAnswer, audit, check, pack, page, pass, run, start};
 
 /// A small acceptable study.
 fn sample() -> Draft {
@@ -47,8 +47,20 @@ fn refused(file: &[u8], number: u8) {
                 ..AuditAnswer::default()
             };
             assert_eq!(audit(file, &table, argument), expected);
+            page_refused(file, &table, argument, number);
         }
         assert_eq!(table, vec![u32::MAX; length]);
+    }
+}
+
+/// A page of this table is refused with this number and changes nothing,
+/// however long the page slice is.
+#[track_caller]
+fn page_refused(file: &[u8], table: &[u32], share: u32, number: u8) {
+    for length in [0, 89, 90, 30 * 512] {
+        let mut bytes = vec![0x5A; length];
+        assert_eq!(page(file, table, share, &mut bytes), number);
+        assert_eq!(bytes, vec![0x5A; length]);
     }
 }
 
@@ -61,6 +73,7 @@ fn accepted(file: &[u8]) {
     let mut table = vec![9; 16_384];
     assert_eq!(start(file, &mut table), 0);
     assert_eq!(audit(file, &table, 1).refusal, 0);
+    assert_eq!(page(file, &table, 1, &mut [0; 30 * 512]), 0);
     assert_eq!(pass(file, &mut table, 1).refusal, 0);
     assert_eq!(run(file, &mut table, 2, 0).refusal, 0);
 }
@@ -404,6 +417,8 @@ fn question_12_table() {
             assert_eq!(run(&file, &mut table, 0, 0).refusal, 12);
             assert_eq!(pass(&file, &mut table, 0).refusal, 12);
             assert_eq!(audit(&file, &table, 0).refusal, 12);
+            page_refused(&file, &table, 0, 12);
+            page_refused(&file, &table, 1, 12);
             assert_eq!(table, vec![4; length]);
         }
     }
@@ -441,12 +456,14 @@ fn question_14_share() {
         assert_eq!(answer, expected);
         assert_eq!(table, vec![u32::MAX; 6]);
         assert_eq!(audit(&file, &table, share).refusal, 14);
+        page_refused(&file, &table, share, 14);
     }
     let mut started = vec![0; 6];
     assert_eq!(start(&file, &mut started), 0);
     for share in [1, 2, 1_023, 1_024] {
         let table: Vec<u32> = started.iter().map(|flow| flow * share).collect();
         assert_eq!(audit(&file, &table, share).refusal, 0);
+        assert_eq!(page(&file, &table, share, &mut [0; 90]), 0);
         assert_eq!(pass(&file, &mut table.clone(), share).refusal, 0);
     }
 }
@@ -472,6 +489,7 @@ fn question_15_total_flow() {
                     round[row + link] += share * 14 - fullest + more;
                 }
                 assert_eq!(audit(&file, &round, share).refusal, number);
+                assert_eq!(page(&file, &round, share, &mut [0; 90]), number);
                 let before = round.clone();
                 assert_eq!(pass(&file, &mut round, share).refusal, number);
                 assert!(number == 0 || round == before);
@@ -482,6 +500,7 @@ fn question_15_total_flow() {
             let mut wild = table.clone();
             (wild[1], wild[4]) = (first, second);
             assert_eq!(audit(&file, &wild, share).refusal, 15);
+            page_refused(&file, &wild, share, 15);
             assert_eq!(pass(&file, &mut wild, share).refusal, 15);
         }
     }
@@ -504,6 +523,7 @@ fn question_16_conservation() {
                 }
                 let before = other.clone();
                 assert_eq!(audit(&file, &other, share).refusal, 16);
+                page_refused(&file, &other, share, 16);
                 assert_eq!(pass(&file, &mut other, share).refusal, 16);
                 assert_eq!(other, before);
             }
@@ -513,6 +533,7 @@ fn question_16_conservation() {
         crossed[0] += 1;
         crossed[3] -= 1;
         assert_eq!(audit(&file, &crossed, share).refusal, 16);
+        page_refused(&file, &crossed, share, 16);
         // Another share's table.
         assert_eq!(
             audit(&file, &table, share - 1).refusal,
@@ -540,6 +561,40 @@ fn question_17_output() {
             assert_eq!(output[..78], draft.file());
             assert!(output[78..].iter().all(|&byte| byte == 0xCC));
         }
+    }
+}
+
+#[test]
+fn question_18_page() {
+    let file = sample().file();
+    let mut started = vec![0; 6];
+    assert_eq!(start(&file, &mut started), 0);
+    for share in [1, 64, 1_024] {
+        let table: Vec<u32> = started.iter().map(|flow| flow * share).collect();
+        for length in [0, 1, 30, 60, 89] {
+            let mut bytes = vec![0xCC; length];
+            assert_eq!(page(&file, &table, share, &mut bytes), 18);
+            assert_eq!(bytes, vec![0xCC; length]);
+        }
+        for length in [90, 91, 119, 120, 5_000] {
+            let mut bytes = vec![0xCC; length];
+            assert_eq!(page(&file, &table, share, &mut bytes), 0);
+            // The last of the lines, and nothing after it.
+            assert_eq!(bytes[60..72], *b"  2   2   0 ");
+            assert_eq!(bytes[89], b'\n');
+            assert!(bytes[90..].iter().all(|&byte| byte == 0xCC));
+        }
+        // The table does not conserve, and the page slice is too short.
+        let mut other = table.clone();
+        other[0] += 1;
+        page_refused(&file, &other, share, 16);
+    }
+    // With the most links there are.
+    let full = sample_with(|draft| draft.links.resize(512, [0, 1, 900, 0, 1]));
+    let mut table = vec![0; 1_024];
+    assert_eq!(start(&full, &mut table), 0);
+    for (length, number) in [(15_359, 18), (15_360, 0), (15_361, 0)] {
+        assert_eq!(page(&full, &table, 1, &mut vec![0xCC; length]), number);
     }
 }
 

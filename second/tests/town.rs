@@ -4,7 +4,7 @@ use second::draft::Draft;
 use second::staircase::Road;
 use second::{
     AuditAnswer, FINEST, MOVED, PassAnswer, REACHED, RUN_FINEST, RunAnswer, SPENT, audit, check,
-    listing, pack, pass, run, start,
+    listing, pack, page, page_listing, pass, run, start,
 };
 
 const LINK_0: Road = Road {
@@ -336,6 +336,100 @@ fn packing() {
     assert_eq!(pack(&file, &mut [0; 57]), 17);
 }
 
+/// The page at share 9, flows 16 and 2.
+const PAGE: &str = concat!(
+    "  0   0   1     1.77     0.15\n",
+    "  1   0   1     0.22     0.15\n",
+);
+
+#[test]
+fn the_page() {
+    let mut bytes = [0xAB; 63];
+    assert_eq!(page(&town(), &[16, 2, 5], 9, &mut bytes), 0);
+    assert_eq!(bytes[..60], *PAGE.as_bytes());
+    assert_eq!(bytes[60..], [0xAB; 3]);
+}
+
+#[test]
+fn other_pages() {
+    let text = |table: [u32; 2], share: u32| {
+        let mut bytes = [0; 60];
+        assert_eq!(page(&town(), &table, share, &mut bytes), 0);
+        String::from_utf8(bytes.to_vec()).unwrap()
+    };
+    for (table, share, expected) in [
+        (
+            [2, 0],
+            1,
+            [
+                "  0   0   1     2.00     0.20",
+                "  1   0   1     0.00     0.15",
+            ],
+        ),
+        (
+            [0, 2],
+            1,
+            [
+                "  0   0   1     0.00     0.10",
+                "  1   0   1     2.00     0.15",
+            ],
+        ),
+        (
+            [2_037, 11],
+            1_024,
+            [
+                "  0   0   1     1.98     0.19",
+                "  1   0   1     0.01     0.15",
+            ],
+        ),
+        (
+            [10, 2_038],
+            1_024,
+            [
+                "  0   0   1     0.00     0.10",
+                "  1   0   1     1.99     0.15",
+            ],
+        ),
+    ] {
+        let text = text(table, share);
+        assert_eq!(text.lines().collect::<Vec<_>>(), expected);
+    }
+}
+
+#[test]
+fn the_widest_page() {
+    let file = town_with(|draft| {
+        draft.links = vec![[0, 1, 16_383, 16_383, 1]; 2];
+        draft.trips[0] = vec![65_535, 0];
+    });
+    let expected = concat!(
+        "  0   0   1 65535.00 42104.31\n",
+        "  1   0   1     0.00   163.83\n",
+    );
+    for share in [1, 9, 1_024] {
+        let mut bytes = [0; 60];
+        assert_eq!(page(&file, &[65_535 * share, 0], share, &mut bytes), 0);
+        assert_eq!(bytes, *expected.as_bytes());
+    }
+}
+
+#[test]
+fn refused_pages() {
+    for (flows, share, length, refusal) in [
+        ([16, 2].as_slice(), 9, 59, 18),
+        (&[16, 2], 9, 0, 18),
+        (&[16, 1], 9, 60, 16),
+        (&[16, 1], 9, 59, 16),
+        (&[19, 0], 9, 59, 15),
+        (&[16, 2], 0, 59, 14),
+        (&[16], 0, 59, 12),
+    ] {
+        let mut bytes = vec![0xAB; length];
+        assert_eq!(page(&town(), flows, share, &mut bytes), refusal);
+        assert_eq!(bytes, vec![0xAB; length]);
+    }
+}
+
 fn input(budget: u16, excess: u16, file: &[u8]) -> Vec<u8> {
     let numbers = [budget.to_le_bytes(), excess.to_le_bytes()].concat();
     [numbers.as_slice(), file].concat()
@@ -384,4 +478,32 @@ fn refused_listings() {
         let text = listed(&input(10, 0, &file));
         assert_eq!(text.lines().next(), Some(first));
     }
+}
+
+fn page_listed(input: &[u8]) -> String {
+    String::from_utf8(page_listing(input)).unwrap()
+}
+
+#[test]
+fn the_page_of_a_run() {
+    assert_eq!(page_listed(&input(10, 0, &town())), PAGE);
+    // The third table, flows 8 and 0 at share 4.
+    let third = "  0   0   1     2.00     0.20\n  1   0   1     0.00     0.15\n";
+    assert_eq!(page_listed(&input(3, 0, &town())), third);
+    let gaps = Draft::town().file_with_gaps([&[9], &[9; 5], &[9; 2], &[9; 40]]);
+    assert_eq!(page_listed(&input(10, 0, &gaps)), PAGE);
+}
+
+#[test]
+fn refused_pages_of_a_run() {
+    for length in 0..4 {
+        assert_eq!(page_listed(&vec![7; length]), "refused 1\n");
+    }
+    assert_eq!(page_listed(&input(10, 0, &[])), "refused 1\n");
+    assert_eq!(page_listed(&input(10, 0, &town()[..31])), "refused 1\n");
+    assert_eq!(page_listed(&input(0, 0, &town())), "refused 13\n");
+    assert_eq!(page_listed(&input(1_025, 0, &town())), "refused 13\n");
+    assert_eq!(page_listed(&input(0, 0, &[0; 40])), "refused 2\n");
+    let own = town_with(|draft| draft.trips[0] = vec![0, 1]);
+    assert_eq!(page_listed(&input(0, 0, &own)), "refused 9\n");
 }

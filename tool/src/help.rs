@@ -121,5 +121,5 @@ Usage: study refusals
 
 Questions are put in the order of their numbers, and the first one answered
 `no` gives its number. Check puts 1 to 11; pack 1 to 11, then 17; start 1 to
-12; run 1 to 13; pass and audit 1 to 12, then 14 to 16.
+12; run 1 to 13; pass and audit 1 to 12, then 14 to 16; page as audit, then 18.
 ";

@@ -5,7 +5,7 @@ use std::fmt::Display;
 use std::ops::RangeInclusive;
 
 /// What is wrong when a call is refused, by number: number 1 comes first.
-pub const REFUSALS: [&str; 17] = [
+pub const REFUSALS: [&str; 18] = [
     "the file is not 32 to 65,536 bytes long",
     "the version is not 1",
     "nodes are not 2 to 128, links not 1 to 512, destinations not 1 to 32, \
@@ -26,6 +26,7 @@ pub const REFUSALS: [&str; 17] = [
     "the flow table does not conserve: to some destination, what leaves a node is not \
      what enters it plus share × the trips that begin there",
     "the output slice is shorter than the packed study",
+    "the page slice is shorter than 30 bytes a link",
 ];
 
 /// What a refusal means, if the number is one of the table's.

@@ -10,7 +10,7 @@ fn refusals() {
     let folder = Folder::new("program-refusals");
     let table = folder.study(&["refusals"]).ok();
     let lines: Vec<&str> = table.lines().collect();
-    assert_eq!(lines.len(), 17);
+    assert_eq!(lines.len(), 18);
     for (number, line) in (1..).zip(&lines) {
         let meaning = words::refusal(number).expect("one of the table's");
         assert_eq!(*line, format!("{number:2}  {meaning}"));
@@ -20,9 +20,13 @@ fn refusals() {
         "11  a node with trips to a destination has no path to it"
     );
     assert_eq!(words::refusal(0), None);
-    assert_eq!(words::refusal(18), None);
+    assert_eq!(words::refusal(19), None);
     assert_eq!(words::answer(0), "accepted");
-    assert_eq!(words::answer(18), "refused 18");
+    assert_eq!(
+        words::answer(18),
+        "refused 18: the page slice is shorter than 30 bytes a link"
+    );
+    assert_eq!(words::answer(19), "refused 19");
 }
 
 #[test]

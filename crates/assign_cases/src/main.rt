@@ -1,9 +1,10 @@
-// Prints what `assign` prints for the inputs that standard input lists: a heading for each, and the
-// response. The lines of standard input (in the words of `case_lines`):
+// Prints what `assign` and `page` print for the inputs that standard input lists: a heading for each,
+// and the response. The lines of standard input (in the words of `case_lines`):
 //
-//     input BUDGET EXCESS STUDY    what `assign` reads
+//     input BUDGET EXCESS STUDY    what the programs read
 //     table TABLE                  the table that the run is lent
-//     show SIZE LABEL              prints the response to so many of the first bytes of the input
+//     show SIZE LABEL              prints the response of `assign` to so many of the first bytes of the input
+//     page SIZE LABEL              the same of `page`
 ghost use Prim.Native.Nat.{_≤_};
 ghost use lib.ListN.{length};
 use case_lines::read_numbers;
@@ -50,7 +51,7 @@ fn run_line(word: u8, input: &mut [u8], table: &mut [u32], count: usize) -> usiz
         }
         b't' => read_table(table),
         _ => {
-            show(input, &mut table[..count]);
+            show(word == b'p', input, &mut table[..count]);
             count
         }
     }

@@ -1,6 +1,7 @@
 // Document 01's start, pass, audit and run, over any bytes, any lent table, any share, budget and
 // excess: no call has a `requires`. A refusal carries its number and 0 in every other field, and
-// leaves the lent table as it was.
+// leaves the lent table as it was. `totals_refusal`, the audit's questions of a decoded file, serves the
+// calls of the crates above.
 mod answers;
 mod auditing;
 mod passing;
@@ -10,5 +11,6 @@ mod starting;
 
 pub use auditing::audit;
 pub use passing::pass;
+pub use refusals::totals_refusal;
 pub use running::run;
 pub use starting::start;

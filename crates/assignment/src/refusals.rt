@@ -1,7 +1,9 @@
 // The questions of each call, in document 01's order, over a file whose fields are decoded. The file itself is here for the contracts alone.
 ghost use mathlib.Core.Path.{_≡_};
+ghost use lib.ListN.{replicate};
 ghost use Rattle.calls.specs.Questions.{budgetFits};
 ghost use Rattle.calls.specs.Calls.{startNumber, tableNumber, runNumber};
+ghost use Rattle.travel.specs.Links.{tableTotals};
 ghost use Rattle.assignment.specs.Parts.{PartsOf};
 
 // Start's number: the first of questions 1 to 12 that refuses, or 0.
@@ -44,12 +46,51 @@ pub fn table_refusal(
     requires { ⌜ PartsOf (now file) opening nodes (now links) (now destinations) (now trips) ⌝ }
     ensures { λ r. ⌜ r ≡ tableNumber (now (file .entry)) (now (table .entry)) share ⌝ }
 {
+    let mut totals = [0u64; 512];
+    totals_refusal(
+        file,
+        opening,
+        nodes,
+        links,
+        destinations,
+        trips,
+        table,
+        share,
+        &mut totals,
+    )
+}
+
+// The same. Where nothing refuses, the links' totals stand in `totals`, which is lent with zeros.
+pub fn totals_refusal(
+    file: &[u8],
+    opening: u8,
+    nodes: usize,
+    links: &[[u16; 5]],
+    destinations: &[u16],
+    trips: &[u16],
+    table: &[u32],
+    share: u32,
+    totals: &mut [u64; 512],
+) -> u8
+    requires { ⌜ PartsOf (now file) opening nodes (now links) (now destinations) (now trips) × (now totals ≡ replicate 512 0) ⌝ }
+    ensures { λ r. ⌜ r ≡ tableNumber (now (file .entry)) (now (table .entry)) share ⌝ }
+    ensures { λ r. ⌜ (r ≡ 0 → now (totals .exit) ≡ tableTotals (now (links .entry)) (now (destinations .entry)) (now (table .entry))) ⌝ }
+{
     let refusal = start_refusal(file, opening, nodes, links, destinations, trips, table);
     if refusal != 0 {
         return refusal;
     }
     let total = questions::total_trips(trips);
-    questions::table_refusal(nodes, links, destinations, trips, total, table, share)
+    questions::table_refusal(
+        nodes,
+        links,
+        destinations,
+        trips,
+        total,
+        table,
+        share,
+        totals,
+    )
 }
 
 // Run's number: as start's, and then question 13.

@@ -1,5 +1,5 @@
--- Document 01, 'Start, pass, run, audit, pack': what each call answers, and what it leaves in lent memory. A refusal carries its number
--- and 0 in every other field, and changes no lent memory.
+-- Document 01, 'Start, pass, run, audit, pack', and the calls of document 02's requests: what each call answers, and what it leaves in lent
+-- memory. A refusal carries its number and 0 in every other field, and changes no lent memory.
 use Prim.Native.Nat.{ℕ, zero, suc, _+_, _*_}
 use mathlib.Core.Bool.{Bool, true, false, cond}
 use mathlib.Core.List.{List, [], _∷_, _++_}
@@ -11,8 +11,9 @@ use Rattle.theory.specs.Network.{Network}
 use Rattle.theory.specs.Cost.{cost, gap}
 use Rattle.theory.specs.Moves.{Shared, started, move, moves, reaches, judged, lastJudged}
 use Rattle.calls.specs.Study.{networkOf}
-use Rattle.calls.specs.Questions.{checkQuestions, packQuestions, startQuestions, runQuestions, tableQuestions}
+use Rattle.calls.specs.Questions.{checkQuestions, packQuestions, startQuestions, runQuestions, tableQuestions, pageQuestions}
 use Rattle.calls.specs.Pack.{packed}
+use Rattle.calls.specs.Page.{pageOf}
 use Rattle.calls.specs.declared.Ending.{Ending}
 use Rattle.calls.specs.declared.Ending.the-variants as ending
 use Rattle.calls.specs.declared.Outcome.{Outcome}
@@ -137,3 +138,11 @@ runAnswer file table budget excess =
 unfoldable pub runTable : List ℕ → List ℕ → ℕ → ℕ → List ℕ
 runTable file table budget excess =
     unlessRefused (runNumber file table budget) (overwritten (lastJudged (networkOf file) budget excess .table) table) table
+
+-- Page (A.1), with the page slice that it is lent: the page of a table that the audit accepts. It returns only the refusal number or 0.
+unfoldable pub pageNumber : List ℕ → List ℕ → ℕ → List ℕ → ℕ
+pageNumber file table share page = firstNo (pageQuestions file table share page)
+
+unfoldable pub pageSlice : List ℕ → List ℕ → ℕ → List ℕ → List ℕ
+pageSlice file table share page =
+    unlessRefused (pageNumber file table share page) (overwritten (pageOf (networkOf file) share table) page) page

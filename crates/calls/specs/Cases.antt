@@ -1,10 +1,12 @@
--- Document 01, 'A town of two roads': cases P1 to P10 and the listing's run, computed from the definitions. One list of cases, one test,
--- one lemma that the test holds of all.
+-- Document 01, 'A town of two roads': cases P1 to P10 and the listing's run, and cases of document 02's requests, computed from the
+-- definitions. One list of cases, one test, one lemma that the test holds of all.
 use Prim.Native.Nat.{ℕ}
 use mathlib.Core.Path.{_≡_, refl}
 use mathlib.Core.Bool.{Bool, true, false, _&&_}
 use mathlib.Core.List.{List, [], _∷_, _++_}
+use lib.ListN.{replicate}
 use lib.Dec.{eqb}
+use Rattle.text.specs.Decimal.{digitsWithin, decimal, hundredths, aligned}
 use Rattle.study.specs.Bytes.{u16, u32}
 use Rattle.study.specs.Header.{version, nodeField, linkField, destinationField, offset, size}
 use Rattle.study.specs.Questions.{lengthFits, versionKnown, countsFit, sectionsInOrder, sizesFit, opening, refusal}
@@ -19,10 +21,11 @@ use Rattle.theory.specs.Moves.{Shared, started, movedTimes, qualifies, chosen, 
 use Rattle.theory.specs.Study.{network}
 use Rattle.calls.specs.Study.{linkRow, linkRows, destinationNodes, tripEntries, networkOf}
 use Rattle.calls.specs.Questions.{endsFit, timesFit, destinationsFit, noTripsWithin, totalFits, hasPath, tripsReach, tableHolds, budgetFits, shareFits}
-use Rattle.calls.specs.Questions.{packedSize, outputHolds, studyQuestions, shareQuestions, checkQuestions, packQuestions, startQuestions, runQuestions, tableQuestions}
+use Rattle.calls.specs.Questions.{packedSize, outputHolds, studyQuestions, shareQuestions, checkQuestions, packQuestions, startQuestions, runQuestions, tableQuestions, pageHolds, pageQuestions}
 use Rattle.calls.specs.Pack.{bytes16, bytes32, packedHeader, packed}
+use Rattle.calls.specs.Page.{volume, pageLine, lineOf, pageOf}
 use Rattle.calls.specs.Calls.{endingNumber, outcomeNumber, overwritten, checkNumber, packNumber, packOutput, startNumber, startTable, tableNumber, auditAnswer}
-use Rattle.calls.specs.Calls.{passAnswer, passTable, runNumber, endingAt, runAnswer, runTable}
+use Rattle.calls.specs.Calls.{passAnswer, passTable, runNumber, endingAt, runAnswer, runTable, pageNumber, pageSlice}
 
 -- n 2, m 2, p 1; links (tail, head, a, b, c): 0 1 10 10 2 and 0 1 15 0 1; destination 1; trips 2, 0. File 58 bytes.
 unfoldable pub town : List ℕ
@@ -44,7 +47,16 @@ strandedTown =
     ++ (1 ∷ 0 ∷ [])
     ++ (2 ∷ 0 ∷ 0 ∷ 0 ∷ [])
 
--- A case: what the definitions give, and what document 01 says.
+-- One road of capacity 1 whose times are as long as any, and as many trips over it as a study may have. File 48 bytes.
+unfoldable pub fullTown : List ℕ
+fullTown =
+    1 ∷ 0 ∷ 2 ∷ 0 ∷ 1 ∷ 0 ∷ 1 ∷ 0 ∷ []
+    ++ (32 ∷ 0 ∷ 0 ∷ 0 ∷ 10 ∷ 0 ∷ 0 ∷ 0 ∷ 42 ∷ 0 ∷ 0 ∷ 0 ∷ 2 ∷ 0 ∷ 0 ∷ 0 ∷ 44 ∷ 0 ∷ 0 ∷ 0 ∷ 4 ∷ 0 ∷ 0 ∷ 0 ∷ [])
+    ++ (0 ∷ 0 ∷ 1 ∷ 0 ∷ 255 ∷ 63 ∷ 255 ∷ 63 ∷ 1 ∷ 0 ∷ [])
+    ++ (1 ∷ 0 ∷ [])
+    ++ (255 ∷ 255 ∷ 0 ∷ 0 ∷ [])
+
+-- A case: what the definitions give, and what the paper says.
 pub record Case : Type 0 where
   pub found : List ℕ
   pub stated : List ℕ
@@ -74,6 +86,16 @@ abbrev pub ran : ℕ → ℕ → List ℕ
 ran budget excess =
     let a = runAnswer town (7 ∷ 7 ∷ []) budget excess in
     endingNumber (a .ending) ∷ a .judged ∷ a .share ∷ a .gap ∷ runTable town (7 ∷ 7 ∷ []) budget excess
+
+-- The lines of the town's page at share 9: "  0   0   1     1.77     0.15" and "  1   0   1     0.22     0.15", and that of the full road:
+-- "  0   0   1 65535.00 42104.31".
+unfoldable pub townLines : List ℕ
+townLines =
+    32 ∷ 32 ∷ 48 ∷ 32 ∷ 32 ∷ 32 ∷ 48 ∷ 32 ∷ 32 ∷ 32 ∷ 49 ∷ 32 ∷ 32 ∷ 32 ∷ 32 ∷ 32 ∷ 49 ∷ 46 ∷ 55 ∷ 55 ∷ 32 ∷ 32 ∷ 32 ∷ 32 ∷ 32 ∷ 48 ∷ 46 ∷ 49 ∷ 53 ∷ 10 ∷ []
+    ++ (32 ∷ 32 ∷ 49 ∷ 32 ∷ 32 ∷ 32 ∷ 48 ∷ 32 ∷ 32 ∷ 32 ∷ 49 ∷ 32 ∷ 32 ∷ 32 ∷ 32 ∷ 32 ∷ 48 ∷ 46 ∷ 50 ∷ 50 ∷ 32 ∷ 32 ∷ 32 ∷ 32 ∷ 32 ∷ 48 ∷ 46 ∷ 49 ∷ 53 ∷ 10 ∷ [])
+
+unfoldable pub fullLine : List ℕ
+fullLine = 32 ∷ 32 ∷ 48 ∷ 32 ∷ 32 ∷ 32 ∷ 48 ∷ 32 ∷ 32 ∷ 32 ∷ 49 ∷ 32 ∷ 54 ∷ 53 ∷ 53 ∷ 51 ∷ 53 ∷ 46 ∷ 48 ∷ 48 ∷ 32 ∷ 52 ∷ 50 ∷ 49 ∷ 48 ∷ 52 ∷ 46 ∷ 51 ∷ 49 ∷ 10 ∷ []
 
 unfoldable pub cases : List Case
 unfolding case
@@ -105,6 +127,10 @@ cases =
     -- Table of p·m − 1: 12. Budget 0: 13, 1,024 accepted, 1,025: 13. No link into the destination: 11.
     ∷ case (startNumber town (7 ∷ []) ∷ checkNumber strandedTown ∷ []) (12 ∷ 11 ∷ [])
     ∷ case (runNumber town (7 ∷ 7 ∷ []) 0 ∷ runNumber town (7 ∷ 7 ∷ []) 1024 ∷ runNumber town (7 ∷ 7 ∷ []) 1025 ∷ []) (13 ∷ 0 ∷ 13 ∷ [])
+    -- A.1: the page of P8's table, with a byte after it; the largest volume and time. 18 comes after 16.
+    ∷ case (pageSlice town (16 ∷ 2 ∷ []) 9 (replicate 61 7)) (townLines ++ (7 ∷ []))
+    ∷ case (pageSlice fullTown (65535 ∷ []) 1 (replicate 30 7)) fullLine
+    ∷ case (pageNumber town (16 ∷ 2 ∷ []) 9 (replicate 59 7) ∷ pageNumber town (16 ∷ 1 ∷ []) 9 [] ∷ []) (18 ∷ 16 ∷ [])
     ∷ []
 
 -- One lemma, by computation: the test holds of every case; and what the theorems ask of a study, a table, a share and a budget can be
@@ -117,9 +143,15 @@ pub record Computed : Type 0 where
   pub run : runNumber town (7 ∷ 7 ∷ []) 10 ≡ 0
   pub conserving : conserves (networkOf town) 9 (16 ∷ 2 ∷ []) ≡ true
   pub stranded : checkNumber strandedTown ≡ 11
+  pub roads : links town ≡ 2
+  pub page : pageNumber town (16 ∷ 2 ∷ []) 9 (replicate 60 7) ≡ 0
+  pub full : tableNumber fullTown (65535 ∷ []) 1 ≡ 0
+  pub full-volume : volume 1 (total (networkOf fullTown) (65535 ∷ []) 0) ≡ 6553500
+  pub full-line : lineOf (networkOf fullTown) 1 (65535 ∷ []) 0 ≡ fullLine
+  pub full-time : timeAt (networkOf fullTown) 1 (total (networkOf fullTown) (65535 ∷ [])) 0 ≡ 4210431
 
 pub computed : Computed
-unfolding cases case town strandedTown u16 u32 version nodeField linkField destinationField offset size lengthFits versionKnown countsFit sectionsInOrder sizesFit opening refusal nodes links destinations part tail head freeTime rise capacity destination trips sum all first largest tabulate rows totalTrips linkTotal sumAt balances conserves totalsFit step stepTime times leastOf fromHead round rounds distances fitsNext nextLinks walk loadingRow loading staircase linkCost cost leastTimes spentTimes gap started movedTimes qualifies chosen added doubled move afterMoves reaches stops judged lastJudged linkRow linkRows destinationNodes tripEntries network networkOf endsFit timesFit destinationsFit noTripsWithin totalFits hasPath tripsReach tableHolds budgetFits shareFits packedSize outputHolds studyQuestions shareQuestions checkQuestions packQuestions startQuestions runQuestions tableQuestions overwritten checkNumber startNumber startTable tableNumber auditAnswer passAnswer passTable runNumber endingAt runAnswer runTable
+unfolding cases case town strandedTown fullTown townLines fullLine digitsWithin decimal hundredths aligned u16 u32 version nodeField linkField destinationField offset size lengthFits versionKnown countsFit sectionsInOrder sizesFit opening refusal nodes links destinations part tail head freeTime rise capacity destination trips sum all first largest tabulate rows totalTrips linkTotal sumAt balances conserves totalsFit step stepTime times leastOf fromHead round rounds distances fitsNext nextLinks walk loadingRow loading staircase linkCost cost leastTimes spentTimes gap started movedTimes qualifies chosen added doubled move afterMoves reaches stops judged lastJudged linkRow linkRows destinationNodes tripEntries network networkOf endsFit timesFit destinationsFit noTripsWithin totalFits hasPath tripsReach tableHolds budgetFits shareFits packedSize outputHolds studyQuestions shareQuestions checkQuestions packQuestions startQuestions runQuestions tableQuestions overwritten checkNumber startNumber startTable tableNumber auditAnswer passAnswer passTable runNumber endingAt runAnswer runTable pageHolds pageQuestions pageLine lineOf pageOf pageNumber pageSlice
 computed =
     record {
       every-case-holds = refl;
@@ -129,4 +161,10 @@ computed =
       run = refl;
       conserving = refl;
       stranded = refl;
+      roads = refl;
+      page = refl;
+      full = refl;
+      full-volume = refl;
+      full-line = refl;
+      full-time = refl;
     }

@@ -5,3 +5,4 @@ pub mod Calls
 pub mod Pack
 pub mod Reach
 pub mod Tables
+pub mod Page

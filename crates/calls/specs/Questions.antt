@@ -1,4 +1,5 @@
--- Document 01, 'The questions, in order': questions 6 to 17, and the list of each call. Questions 1 to 5 are the file layer's.
+-- Document 01, 'The questions, in order': questions 6 to 17, and the list of each call. Questions 1 to 5 are the file layer's. Document 02's
+-- requests add questions of their own, each named with its request.
 use Prim.Native.Nat.{ℕ, _+_, _*_, _-_}
 use mathlib.Core.Bool.{Bool, true, not, _&&_, _||_}
 use mathlib.Core.List.{List, [], _∷_, _++_}
@@ -71,6 +72,10 @@ packedSize file = 32 + 10 * links file + 2 * destinations file + 2 * destination
 unfoldable pub outputHolds : List ℕ → List ℕ → Bool
 outputHolds file output = leb (packedSize file) (length output)
 
+-- 18 (A.1). Has the page slice at least 30m bytes?
+unfoldable pub pageHolds : Network → List ℕ → Bool
+pageHolds g page = leb (30 * g .links) (length page)
+
 -- The order of the questions of each call, in one place. A question asked:
 abbrev pub ask : ℕ → Bool → Question
 ask number answer = record { number = number; yes = answer }
@@ -111,6 +116,10 @@ startQuestions file table = checkQuestions file ++ (ask 12 (tableHolds (networkO
 unfoldable pub runQuestions : List ℕ → List ℕ → ℕ → List Question
 runQuestions file table budget = startQuestions file table ++ (ask 13 (budgetFits budget) ∷ [])
 
--- pass and audit 1 to 12, then 14 to 16.
+-- pass and audit 1 to 12, then 14 to 16;
 unfoldable pub tableQuestions : List ℕ → List ℕ → ℕ → List Question
 tableQuestions file table share = startQuestions file table ++ shareQuestions (networkOf file) table share
+
+-- page (A.1) as the audit, then 18.
+unfoldable pub pageQuestions : List ℕ → List ℕ → ℕ → List ℕ → List Question
+pageQuestions file table share page = tableQuestions file table share ++ (ask 18 (pageHolds (networkOf file) page) ∷ [])

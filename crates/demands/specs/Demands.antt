@@ -18,12 +18,12 @@ use Rattle.theory.specs.Laws.Runs.{Judged}
 use Rattle.calls.specs.Study.{networkOf}
 use Rattle.calls.specs.Questions.{packedSize}
 use Rattle.calls.specs.Pack.{packed}
-use Rattle.calls.specs.Calls.{checkNumber, packNumber, packOutput, startNumber, startTable, tableNumber, auditAnswer, runNumber, runAnswer, runTable}
+use Rattle.calls.specs.Calls.{checkNumber, packNumber, packOutput, startNumber, startTable, tableNumber, auditAnswer, runNumber, runAnswer, runTable, pageNumber, pageSlice}
 use Rattle.calls.specs.Sequence.{Call, afterStart, afterCalls}
 use Rattle.calls.specs.declared.Ending.the-variants as ending
 use Rattle.calls.specs.Laws.Questions.{Described, check-passed, start-both, table-both}
 use Rattle.calls.specs.Laws.Networks.{share-range}
-use Rattle.calls.specs.Laws.Calls.{refusedAudit, audit-accepted, pack-kept}
+use Rattle.calls.specs.Laws.Calls.{refusedAudit, audit-accepted, pack-kept, page-kept}
 use Rattle.demands.specs.Packing.{pack-reads-back, pack-twice}
 use Rattle.demands.specs.Packing.Same.{SameStudy}
 use Rattle.demands.specs.Refusals.{first-failing, PassRefused, RunRefused, refused-start, refused-audit, refused-pass, refused-run}
@@ -44,6 +44,7 @@ pub record Demand1 : Type 0 where
   pub pass : (file table : List ℕ) (share : ℕ) → (tableNumber file table share ≡ 0 → ⊥) → PassRefused file table share
   pub audit : (file table : List ℕ) (share : ℕ) → (tableNumber file table share ≡ 0 → ⊥) → auditAnswer file table share ≡ refusedAudit (tableNumber file table share)
   pub run : (file table : List ℕ) (budget excess : ℕ) → (runNumber file table budget ≡ 0 → ⊥) → RunRefused file table budget excess
+  pub page : (file table : List ℕ) (share : ℕ) (page : List ℕ) → (pageNumber file table share page ≡ 0 → ⊥) → pageSlice file table share page ≡ page
 
 pub demand-1 : Demand1
 demand-1 =
@@ -55,6 +56,7 @@ demand-1 =
       pass = refused-pass;
       audit = refused-audit;
       run = refused-run;
+      page = page-kept;
     }
 
 -- Demand 2. Every result equals the definitions: that is the calls' contracts. Earlier table contents play no part in a start or a run;

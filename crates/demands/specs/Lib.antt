@@ -1,9 +1,12 @@
--- The three demands as theorems about document 01's definitions: `Demands` states them, the other modules prove them.
+-- The three demands as theorems about document 01's definitions: `Demands` states them. `Requests` states those that document 02's requests
+-- ask for. The other modules prove them.
 pub mod Demands
+pub mod Requests
 pub mod Refusals
 pub mod Results
 pub mod Sequences
 pub mod RunEndings
 pub mod Packing
 pub mod Unreachable
+pub mod Pages
 pub mod Instances

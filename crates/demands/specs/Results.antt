@@ -23,12 +23,13 @@ use Rattle.demands.specs.Sequences.{start-auditable, call-auditable}
 pub auditable-balances : (file table : List ℕ) (share : ℕ) → tableNumber file table share ≡ 0 → Balanced (networkOf file) share table
 auditable-balances file table share e = conserves-balanced (networkOf file) share table (table-both file table share e .1 .conserving)
 
--- The lent table after a start or a run: p·m numbers that its earlier contents play no part in, then the later numbers as they were.
+-- Lent memory after a call that writes it anew, as the table after a start or a run: first numbers that its earlier contents play no part
+-- in, then the later numbers as they were.
 pub record Fresh (size : ℕ) (new before after : List ℕ) : Type 0 where
   pub first-numbers : take size after ≡ new
   pub later-numbers : drop size after ≡ drop size before
 
-overwritten-fresh : (size : ℕ) (new before : List ℕ) → length new ≡ size → Fresh size new before (overwritten new before)
+pub overwritten-fresh : (size : ℕ) (new before : List ℕ) → length new ≡ size → Fresh size new before (overwritten new before)
 unfolding overwritten
 overwritten-fresh size new before e =
     record {

@@ -1,12 +1,13 @@
-// Document 01's six calls, for programs in other languages to link (`rt staticlib interface`).
+// Document 01's six calls and those of document 02's requests, for programs in other languages to link
+// (`rt staticlib interface`).
 //
-// Each function returns the refusal number, or 0. `answer` receives the other fields of document
-// 01's answer, in its order; a refusal writes 0 in each. No call has a `requires`. A slice is passed
+// Each function returns the refusal number, or 0. `answer` receives the other fields of the call's
+// answer, in its order; a refusal writes 0 in each. No call has a `requires`. A slice is passed
 // as a pointer and a length, and an array as a pointer: include/ilstrovan.h has the C declarations.
 ghost use mathlib.Core.Path.{_≡_};
 ghost use Rattle.calls.specs.Calls.{endingNumber, outcomeNumber};
 ghost use Rattle.calls.specs.Calls.{checkNumber, packNumber, packOutput, startNumber, startTable};
-ghost use Rattle.calls.specs.Calls.{auditAnswer, passAnswer, passTable, runAnswer, runTable};
+ghost use Rattle.calls.specs.Calls.{auditAnswer, passAnswer, passTable, runAnswer, runTable, pageNumber, pageSlice};
 ghost use Rattle.interface.specs.Numbers.{auditNumbers, passNumbers, runNumbers};
 use calls::AuditAnswer;
 use calls::Ending;
@@ -86,6 +87,15 @@ pub extern "C" fn ilstrovan_audit(
     let audited = assignment::audit(file, table, share);
     *answer = audit_numbers(audited);
     audited.refusal
+}
+
+// Writes the page of the table, 30 bytes a link, at the start of the page slice.
+#[no_mangle]
+pub extern "C" fn ilstrovan_page(file: &[u8], table: &[u32], share: u32, page: &mut [u8]) -> u8
+    ensures { λ r. ⌜ r ≡ pageNumber (now (file .entry)) (now (table .entry)) share (now (page .entry)) ⌝ }
+    ensures { λ _. ⌜ now (page .exit) ≡ pageSlice (now (file .entry)) (now (table .entry)) share (now (page .entry)) ⌝ }
+{
+    pages::page(file, table, share, page)
 }
 
 fn pass_numbers(passed: PassAnswer) -> [u64; 4]

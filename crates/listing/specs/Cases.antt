@@ -1,12 +1,13 @@
--- The listing of document 01's sample, byte for byte, a refusal's line, and the digits of numbers at the ends of their ranges.
+-- The listing of document 01's sample, byte for byte, and a refusal's line.
 use Prim.Native.Nat.{ℕ}
 use mathlib.Core.Path.{_≡_, refl}
-use mathlib.Core.List.{List, [], _∷_, _++_}
+use mathlib.Core.List.{[], _∷_, _++_}
 use lib.ListN.{getD}
 use Rattle.theory.specs.Finite.{rows}
 use Rattle.calls.specs.declared.Ending.the-variants as ending
 use Rattle.calls.specs.declared.RunAnswer.{RunAnswer}
-use Rattle.listing.specs.Listing.{digitsWithin, decimal, endingWord, judgedWord, shareWord, gapWord, costWord, linkWord, numberLine, linkLine, listing}
+use Rattle.text.specs.Decimal.{digitsWithin, decimal}
+use Rattle.listing.specs.Listing.{endingWord, judgedWord, shareWord, gapWord, costWord, linkWord, numberLine, linkLine, listing}
 
 -- What a run of the sample study answers.
 abbrev answer : RunAnswer
@@ -38,20 +39,3 @@ sample = refl
 refusal : listing refused 2 flow time ≡ 114 ∷ 101 ∷ 102 ∷ 117 ∷ 115 ∷ 101 ∷ 100 ∷ 32 ∷ 49 ∷ 49 ∷ 10 ∷ []
 unfolding digitsWithin decimal endingWord numberLine listing
 refusal = refl
-
-decimal-0 : decimal 0 ≡ 48 ∷ []
-unfolding digitsWithin decimal
-decimal-0 = refl
-
-decimal-9 : decimal 9 ≡ 57 ∷ []
-unfolding digitsWithin decimal
-decimal-9 = refl
-
-decimal-10 : decimal 10 ≡ 49 ∷ 48 ∷ []
-unfolding digitsWithin decimal
-decimal-10 = refl
-
-decimal-most : decimal 18446744073709551615
-    ≡ 49 ∷ 56 ∷ 52 ∷ 52 ∷ 54 ∷ 55 ∷ 52 ∷ 52 ∷ 48 ∷ 55 ∷ 51 ∷ 55 ∷ 48 ∷ 57 ∷ 53 ∷ 53 ∷ 49 ∷ 54 ∷ 49 ∷ 53 ∷ []
-unfolding digitsWithin decimal
-decimal-most = refl

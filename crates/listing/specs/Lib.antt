@@ -1,5 +1,5 @@
--- What the program `assign` prints, and how its bytes come into lent memory.
+-- What the programs print, and the parts of a listing.
 pub mod Listing
-pub mod Put
+pub mod Lines
 pub mod Cases
 pub mod Laws

@@ -1,37 +1,20 @@
--- Document 01's listing of the program `assign`, as bytes.
-use Prim.Native.Nat.{ℕ, zero, suc, _+_, _*_, _/_, _%_}
-use mathlib.Core.Bool.{true, false, cond}
+-- What the programs print, as bytes: document 01's listing of `assign`, and the page of document 02's `page` (A.1).
+use Prim.Native.Nat.{ℕ}
+use mathlib.Core.Bool.{cond}
 use mathlib.Core.List.{List, [], _∷_, _++_}
 use lib.ListN.{length, getD, drop}
-use lib.Dec.{ltb, leb, eqb}
+use lib.Dec.{leb, eqb}
 use Rattle.study.specs.Bytes.{u16}
-use Rattle.theory.specs.Network.{Network}
-use Rattle.theory.specs.Flows.{total, times}
-use Rattle.theory.specs.Moves.{tableSize}
-use Rattle.theory.specs.Finite.{rows, tabulate}
 use Rattle.study.specs.Sections.{links}
+use Rattle.theory.specs.Flows.{total, times}
+use Rattle.theory.specs.Finite.{rows}
+use Rattle.text.specs.Decimal.{space, newline, decimal}
 use Rattle.calls.specs.Study.{networkOf}
+use Rattle.calls.specs.Page.{pageOf}
 use Rattle.calls.specs.Calls.{runAnswer, runTable}
 use Rattle.calls.specs.declared.Ending.{Ending}
 use Rattle.calls.specs.declared.Ending.the-variants as ending
 use Rattle.calls.specs.declared.RunAnswer.{RunAnswer}
-
--- The decimal digits of a number in ASCII, with no needless leading zero. The first number bounds how many digits there are; a number
--- has fewer digits than itself plus 1.
-unfoldable pub digitsWithin : ℕ → ℕ → List ℕ
-digitsWithin zero x = []
-digitsWithin (suc more) x =
-    elim (ltb x 10) [ true ↦ ((48 + x) ∷ []) | false ↦ digitsWithin more (x / 10) ++ ((48 + x % 10) ∷ []) ]
-
-unfoldable pub decimal : ℕ → List ℕ
-decimal x = digitsWithin (suc x) x
-
--- Words in ASCII.
-abbrev pub space : List ℕ
-space = 32 ∷ []
-
-abbrev pub newline : List ℕ
-newline = 10 ∷ []
 
 -- "reached", "finest", "spent" and "refused"
 unfoldable pub endingWord : Ending → List ℕ
@@ -86,4 +69,16 @@ printed input table =
     let after = runTable file table (u16 input 0) (u16 input 2) in
     cond (leb 4 (length input))
     (listing answer (links file) (total g after) (λ l. getD (times g (answer .share) after) l 0))
+    (numberLine (endingWord ending.Refused) 1)
+
+-- What `page` prints for the same standard input: the page of the table that the run judged last, or a refusal's line.
+unfoldable pub printedPage : List ℕ → List ℕ → List ℕ
+printedPage input table =
+    let file = drop 4 input in
+    let answer = runAnswer file table (u16 input 0) (u16 input 2) in
+    let after = runTable file table (u16 input 0) (u16 input 2) in
+    cond (leb 4 (length input))
+    (cond (eqb (answer .refusal) 0)
+    (pageOf (networkOf file) (answer .share) after)
+    (numberLine (endingWord ending.Refused) (answer .refusal)))
     (numberLine (endingWord ending.Refused) 1)

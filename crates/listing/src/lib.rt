@@ -1,6 +1,5 @@
 // Document 01, the listing of the program `assign`: its bytes, written into memory that the caller
 // lends.
 mod lines;
-mod text;
 
 pub use lines::write_listing;

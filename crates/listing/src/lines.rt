@@ -4,13 +4,15 @@ ghost use Prim.Native.Nat.{_+_, _*_, _≤_};
 ghost use mathlib.Core.Path.{_≡_};
 ghost use mathlib.Core.List.{_++_};
 ghost use lib.ListN.{length, drop};
-ghost use Rattle.listing.specs.Listing.{newline, endingWord, numberLine, linkLine};
-ghost use Rattle.listing.specs.Put.{Put, answerLines, linkLines, listingOf};
-use crate::text::put_byte;
-use crate::text::put_decimal;
-use crate::text::put_text;
+ghost use Rattle.text.specs.Decimal.{newline};
+ghost use Rattle.text.specs.Put.{Put};
+ghost use Rattle.listing.specs.Listing.{endingWord, numberLine, linkLine};
+ghost use Rattle.listing.specs.Lines.{answerLines, linkLines, listingOf};
 use calls::Ending;
 use calls::RunAnswer;
+use text::put_byte;
+use text::put_decimal;
+use text::put_text;
 
 // Writes the listing of an answer and of the total flow and the time of each of m links, and
 // answers how many bytes it has. What stands behind them stays as it was.

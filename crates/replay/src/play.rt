@@ -9,7 +9,8 @@ pub struct Arguments {
     pub excess: u16,
 }
 
-// The call of this kind: 1 check, 2 pack, 3 start, 4 pass, 5 run, 6 audit.
+// The call of this kind: 1 check, 2 pack, 3 start, 4 pass, 5 run, 6 audit, 7 page. `output` is a
+// pack's output or a page slice.
 pub fn call(kind: u8, file: &[u8], output: &mut [u8], table: &mut [u32], given: Arguments) {
     match kind {
         1 => check(file),
@@ -17,7 +18,8 @@ pub fn call(kind: u8, file: &[u8], output: &mut [u8], table: &mut [u32], given: 
         3 => start(file, table),
         4 => pass(file, table, given.share),
         5 => run(file, table, given.budget, given.excess),
-        _ => audit(file, table, given.share),
+        6 => audit(file, table, given.share),
+        _ => page(file, table, given.share, output),
     }
 }
 
@@ -52,4 +54,9 @@ fn audit(file: &[u8], table: &[u32], share: u32) {
     let mut answer = [0u64; 2];
     let refusal = interface::ilstrovan_audit(file, table, share, &mut answer);
     lines::print(b"audit", refusal, &answer, digest::of_numbers(table));
+}
+
+fn page(file: &[u8], table: &[u32], share: u32, page: &mut [u8]) {
+    let refusal = interface::ilstrovan_page(file, table, share, page);
+    lines::print(b"page", refusal, &[0u64; 0], digest::of_bytes(page));
 }

@@ -2,3 +2,4 @@
 pub mod Runs
 pub mod Links
 pub mod Printed
+pub mod Pages

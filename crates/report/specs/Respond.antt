@@ -1,4 +1,4 @@
--- Document 01, the program `assign`: what it writes into lent memory, and the table that its run leaves.
+-- The programs `assign` and `page`: the run that they make of their input, and what they write into lent memory.
 use Prim.Native.Nat.{ℕ}
 use mathlib.Core.Path.{_≡_}
 use mathlib.Core.Bool.{cond}
@@ -9,14 +9,24 @@ use Rattle.study.specs.Bytes.{u16}
 use Rattle.study.specs.Sections.{links}
 use Rattle.theory.specs.Flows.{total, times}
 use Rattle.calls.specs.Study.{networkOf}
-use Rattle.calls.specs.Calls.{runTable}
+use Rattle.calls.specs.Calls.{runAnswer, runTable}
 use Rattle.calls.specs.declared.Ending.the-variants as ending
 use Rattle.calls.specs.declared.RunAnswer.{RunAnswer}
+use Rattle.calls.specs.Laws.Calls.{refusedRun}
 use Rattle.listing.specs.Listing.{endingWord, numberLine, listing}
+
+-- What the run answers. An input of fewer than four bytes counts as refusal 1.
+unfoldable pub inputAnswer : List ℕ → List ℕ → RunAnswer
+inputAnswer input table = cond (leb 4 (length input)) (runAnswer (drop 4 input) table (u16 input 0) (u16 input 2)) (refusedRun 1)
 
 -- The table after the run. An input of fewer than four bytes has no run, and changes nothing.
 unfoldable pub tableLeft : List ℕ → List ℕ → List ℕ
 tableLeft input table = cond (leb 4 (length input)) (runTable (drop 4 input) table (u16 input 0) (u16 input 2)) table
+
+-- The run that an input asks for over a lent table: what it answered, and the table that it left.
+pub record Ran (input table : List ℕ) (answer : RunAnswer) (after : List ℕ) : Type 0 where
+  pub answered : answer ≡ inputAnswer input table
+  pub left : after ≡ tableLeft input table
 
 -- The line of a refusal: `refused` and its number.
 abbrev pub refusalLine : ℕ → List ℕ

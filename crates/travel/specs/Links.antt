@@ -6,13 +6,17 @@ use lib.ListN.{length, getD, replicate}
 use lib.Dec.{eqb, leb}
 use Rattle.theory.specs.Finite.{sum, all, tabulate}
 use Rattle.theory.specs.Network.{Network}
-use Rattle.theory.specs.Flows.{balances, step, stepTime}
+use Rattle.theory.specs.Flows.{linkTotal, balances, step, stepTime}
 use Rattle.theory.specs.Cost.{linkCost}
 use Rattle.theory.specs.Study.{tail, head, capacity, network}
 
 -- An array of 512 numbers of which the first m are f 0, .., f (m - 1) and the others 0.
 unfoldable pub padded : ℕ → (ℕ → ℕ) → List ℕ
 padded m f = tabulate m f ++ replicate (512 - m) 0
+
+-- The totals S of a table, by link, in such an array.
+abbrev pub tableTotals : List (List ℕ) → List ℕ → List ℕ → List ℕ
+tableTotals links destinations table = padded (length links) (linkTotal (length destinations) (length links) table)
 
 -- What reciprocals are parts of: those of shares of 2⁴², and those of capacities of 2³⁸.
 abbrev pub shareParts : ℕ

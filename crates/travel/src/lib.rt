@@ -13,6 +13,7 @@ pub use choice::chosen;
 pub use costs::cost;
 pub use costs::product;
 pub use reciprocals::put_reciprocals;
+pub use steps::link_time;
 pub use steps::put_powers;
 pub use steps::times;
 pub use table::LOAD;

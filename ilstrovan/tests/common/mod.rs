@@ -201,4 +201,27 @@ impl Calls for Proved {
         let [gap, cost] = opened(&answer);
         AuditAnswer { refusal, gap, cost }
     }
+
+    fn page(&self, file: &[u8], table: &[u32], share: u32, page: &mut [u8]) -> u8 {
+        let file = File::new(file);
+        let file = file.guarded.numbers();
+        let lent = guarded_table(table);
+        let flows = lent.numbers();
+        let mut paper = Guarded::new(page, GUARD as u8);
+        let room = paper.numbers_mut();
+        let refusal = unsafe {
+            sys::ilstrovan_page(
+                file.as_ptr(),
+                file.len(),
+                flows.as_ptr(),
+                flows.len(),
+                share,
+                room.as_mut_ptr(),
+                room.len(),
+            )
+        };
+        assert!(lent.open() == table, "a page changed the table");
+        page.copy_from_slice(paper.open());
+        refusal
+    }
 }

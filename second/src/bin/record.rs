@@ -5,6 +5,7 @@
 //! record answers [file]             the expected answers, as lines of text
 //! record replay  [file] < stream    the answers to any stream of calls
 //! record assign  [file] < input     what the program `assign` prints
+//! record page    [file] < input     what the program `page` prints
 //! ```
 //!
 //! Without a file the result goes to standard output. The forms of stream and
@@ -15,9 +16,9 @@ use std::io::{self, Read, Write};
 use std::process::ExitCode;
 
 use second::stream::{Second, answers, read_calls, write_calls};
-use second::{cases, listing};
+use second::{cases, listing, page_listing};
 
-const USAGE: &str = "usage: record calls|answers|replay|assign [file]";
+const USAGE: &str = "usage: record calls|answers|replay|assign|page [file]";
 
 fn main() -> ExitCode {
     match work() {
@@ -39,6 +40,7 @@ fn work() -> Result<(), String> {
         "answers" => answers(&Second, &cases::all()).into_bytes(),
         "replay" => answers(&Second, &read_calls(&input()?)?).into_bytes(),
         "assign" => listing(&input()?),
+        "page" => page_listing(&input()?),
         _ => return Err(USAGE.to_string()),
     };
     match file {

@@ -14,12 +14,12 @@ use Rattle.theory.specs.Laws.Routings.{AllServed}
 use Rattle.calls.specs.Study.{linkRows, destinationNodes, tripEntries, networkOf}
 use Rattle.calls.specs.Questions.{studyQuestions, tableHolds}
 use Rattle.calls.specs.Laws.Questions.{Passed, SharePassed}
-use Rattle.calls.specs.Laws.Networks.{share-range, holds-length, fields-fit, sound, few-trips}
+use Rattle.calls.specs.Laws.Networks.{links-length, share-range, holds-length, fields-fit, sound, few-trips}
 use Rattle.calls.specs.Laws.Reach.{reach-served}
 use Rattle.questions.specs.Sized.{Sized}
 use Rattle.network.specs.Decoded.{Decoded}
 use Rattle.network.specs.declared.decoding.Opening.{Opening}
-use Rattle.network.specs.Laws.Decoding.{links-length, sized}
+use Rattle.network.specs.Laws.Decoding.{sized}
 use Rattle.judging.specs.Study.{Study, studyOf, networkIn, Ready, Judgeable}
 use Rattle.assignment.specs.Parts.{PartsOf, studyIn}
 

@@ -12,13 +12,14 @@ use Rattle.theory.specs.Cost.{cost, gap}
 use Rattle.theory.specs.Moves.{Shared, started, move, judged, lastJudged}
 use Rattle.calls.specs.Study.{networkOf}
 use Rattle.calls.specs.Pack.{packed}
+use Rattle.calls.specs.Page.{pageOf}
 use Rattle.calls.specs.declared.Ending.the-variants as ending
 use Rattle.calls.specs.declared.Outcome.the-variants as outcome
 use Rattle.calls.specs.declared.RunAnswer.{RunAnswer}
 use Rattle.calls.specs.declared.PassAnswer.{PassAnswer}
 use Rattle.calls.specs.declared.AuditAnswer.{AuditAnswer}
 use Rattle.calls.specs.Calls.{overwritten, unlessRefused, packNumber, packOutput, startNumber, startTable, tableNumber, auditAnswer, passOutcome, shareAfter, tableAfter, passAnswer, passTable}
-use Rattle.calls.specs.Calls.{runNumber, endingAt, runAnswer, runTable}
+use Rattle.calls.specs.Calls.{runNumber, endingAt, runAnswer, runTable, pageNumber, pageSlice}
 
 -- A refusal: its number, and 0 in every other field.
 abbrev pub refusedAudit : ℕ → AuditAnswer
@@ -125,3 +126,13 @@ pack-written file output e = written (packNumber file output) (overwritten (pack
 pub pack-kept : (file output : List ℕ) → (packNumber file output ≡ 0 → ⊥) → packOutput file output ≡ output
 unfolding packOutput
 pack-kept file output refused = kept (packNumber file output) (overwritten (packed file) output) output refused
+
+-- A page that is accepted, and refused.
+module _ (file table : List ℕ) (share : ℕ) (page : List ℕ) where
+  pub page-written : pageNumber file table share page ≡ 0 → pageSlice file table share page ≡ overwritten (pageOf (networkOf file) share table) page
+  unfolding pageSlice
+  page-written e = written (pageNumber file table share page) (overwritten (pageOf (networkOf file) share table) page) page e
+
+  pub page-kept : (pageNumber file table share page ≡ 0 → ⊥) → pageSlice file table share page ≡ page
+  unfolding pageSlice
+  page-kept refused = kept (pageNumber file table share page) (overwritten (pageOf (networkOf file) share table) page) page refused

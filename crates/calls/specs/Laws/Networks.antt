@@ -9,19 +9,25 @@ use lib.ListN.{length, getD}
 use lib.Dec.{leb, ltb, eqb}
 use borrow.Author.Tests.{ltb-true, leb-true, le-leb, eqb-true, eqb-false, not-true}
 use Rattle.study.specs.Questions.{within}
+use Rattle.study.specs.Sections.{links, linkPart}
 use Rattle.study.specs.Laws.{within-true}
 use Rattle.theory.specs.Finite.{all}
 use Rattle.theory.specs.Network.{Network, Sound, totalTrips}
 use Rattle.theory.specs.Moves.{tableSize}
 use Rattle.theory.specs.Study.{freeTime, rise, capacity, network}
-use Rattle.theory.specs.Laws.Finite.{all-elim, and-left, and-right, both}
+use Rattle.theory.specs.Laws.Finite.{length-tabulate, all-elim, and-left, and-right, both}
 use Rattle.theory.specs.Laws.Times.{stepTime-least, stepTime-mono}
-use Rattle.calls.specs.Study.{linkRows, networkOf}
+use Rattle.calls.specs.Study.{linkRow, linkRows, networkOf}
 use Rattle.calls.specs.Questions.{endsFit, timesFit, destinationsFit, noTripsWithin, totalFits, tableHolds, budgetFits, shareFits}
 use Rattle.calls.specs.Laws.Questions.{Described}
 
 not-equal : (a b : ℕ) → not (eqb a b) ≡ true → a ≡ b → ⊥
 not-equal a b e = eqb-false a b (not-true (eqb a b) e)
+
+-- There is a row for each link.
+pub links-length : (file : List ℕ) → length (linkRows file) ≡ links file
+unfolding linkRows
+links-length file = length-tabulate (links file) (linkRow (linkPart file))
 
 -- Question 14 says that a share is 1 to 1,024,
 pub share-range : (share : ℕ) → shareFits share ≡ true → (1 ≤ share) × (share ≤ 1024)

@@ -9,9 +9,9 @@ use Rattle.study.specs.Questions.{Question, firstNo, opening, refusal}
 use Rattle.study.specs.Laws.{numbered, numbered-append, firstNo-append, firstNo-both, all-yes, no-refusal, AllYes, opening-both, after-opening, opening-numbered}
 use Rattle.theory.specs.Flows.{totalsFit, conserves}
 use Rattle.calls.specs.Study.{linkRows, destinationNodes, tripEntries, networkOf}
-use Rattle.calls.specs.Questions.{endsFit, timesFit, destinationsFit, noTripsWithin, totalFits, tripsReach, tableHolds, budgetFits, shareFits, outputHolds}
-use Rattle.calls.specs.Questions.{ask, studyQuestions, shareQuestions, checkQuestions, packQuestions, startQuestions, runQuestions, tableQuestions}
-use Rattle.calls.specs.Calls.{checkNumber, packNumber, startNumber, runNumber, tableNumber}
+use Rattle.calls.specs.Questions.{endsFit, timesFit, destinationsFit, noTripsWithin, totalFits, tripsReach, tableHolds, budgetFits, shareFits, outputHolds, pageHolds}
+use Rattle.calls.specs.Questions.{ask, studyQuestions, shareQuestions, checkQuestions, packQuestions, startQuestions, runQuestions, tableQuestions, pageQuestions}
+use Rattle.calls.specs.Calls.{checkNumber, packNumber, startNumber, runNumber, tableNumber, pageNumber}
 
 -- A study that passes questions 1 to 10.
 pub record Described (file : List ℕ) : Type 0 where
@@ -45,6 +45,11 @@ start-numbered : (file table : List ℕ) → numbered (startQuestions file table
 unfolding startQuestions
 start-numbered file table =
     numbered-append (checkQuestions file) (ask 12 (tableHolds (networkOf file) table) ∷ []) (check-numbered file) refl
+
+table-numbered : (file table : List ℕ) (share : ℕ) → numbered (tableQuestions file table share) ≡ true
+unfolding tableQuestions shareQuestions
+table-numbered file table share =
+    numbered-append (startQuestions file table) (shareQuestions (networkOf file) table share) (start-numbered file table) refl
 
 -- Check's number is 0 exactly where the study passes questions 1 to 11.
 pub check-passed : (file : List ℕ) → checkNumber file ≡ 0 → Passed file
@@ -92,7 +97,12 @@ pub table-number : (file table : List ℕ) (share : ℕ) → tableNumber file ta
 unfolding tableNumber tableQuestions startNumber
 table-number file table share = firstNo-append (startQuestions file table) (shareQuestions (networkOf file) table share) (start-numbered file table)
 
--- A start, a run, a pass and an audit are accepted exactly where their questions are answered yes.
+pub page-number : (file table : List ℕ) (share : ℕ) (page : List ℕ) → pageNumber file table share page ≡ cond (eqb (tableNumber file table share) 0) (cond (pageHolds (networkOf file) page) 0 18) (tableNumber file table share)
+unfolding pageNumber pageQuestions tableNumber
+page-number file table share page =
+    firstNo-append (tableQuestions file table share) (ask 18 (pageHolds (networkOf file) page) ∷ []) (table-numbered file table share)
+
+-- A start, a run, a pass, an audit and a page are accepted exactly where their questions are answered yes.
 pub start-both : (file table : List ℕ) → startNumber file table ≡ 0 → (checkNumber file ≡ 0) × (tableHolds (networkOf file) table ≡ true)
 unfolding startNumber startQuestions checkNumber
 start-both file table e =
@@ -121,3 +131,12 @@ share-yes file table share h = no-refusal (shareQuestions (networkOf file) table
 
 pub both-table : (file table : List ℕ) (share : ℕ) → startNumber file table ≡ 0 → SharePassed file table share → tableNumber file table share ≡ 0
 both-table file table share s h = rw (table-number file table share, s) (share-yes file table share h)
+
+pub page-both : (file table : List ℕ) (share : ℕ) (page : List ℕ) → pageNumber file table share page ≡ 0 → (tableNumber file table share ≡ 0) × (pageHolds (networkOf file) page ≡ true)
+unfolding pageNumber pageQuestions tableNumber
+page-both file table share page e =
+    let parts = firstNo-both (tableQuestions file table share) (ask 18 (pageHolds (networkOf file) page) ∷ []) (table-numbered file table share) e in
+    (parts .0, all-yes (ask 18 (pageHolds (networkOf file) page) ∷ []) refl (parts .1) .0)
+
+pub both-page : (file table : List ℕ) (share : ℕ) (page : List ℕ) → tableNumber file table share ≡ 0 → pageHolds (networkOf file) page ≡ true → pageNumber file table share page ≡ 0
+both-page file table share page t p = rw (page-number file table share page, t, p)

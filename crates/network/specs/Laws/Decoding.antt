@@ -15,6 +15,7 @@ use Rattle.theory.specs.Finite.{tabulate, rows}
 use Rattle.theory.specs.Laws.Cases.{on-equal}
 use Rattle.theory.specs.Laws.Finite.{length-tabulate, tabulate-suc, length-rows}
 use Rattle.calls.specs.Study.{linkRow, linkRows, destinationNodes, tripEntries}
+use Rattle.calls.specs.Laws.Networks.{links-length}
 use Rattle.network.specs.declared.decoding.Opening.{Opening}
 use Rattle.questions.specs.Sized.{Sized}
 use Rattle.questions.specs.Laws.Questions.{entries-fit}
@@ -85,12 +86,8 @@ counts file n-is m-is p-is =
       destinations-most = omega arith;
     })
 
--- A file has as many rows, destinations and entries as it counts,
+-- A file has as many destinations and entries as it counts,
 module _ (file : List ℕ) where
-  pub links-length : length (linkRows file) ≡ links file
-  unfolding linkRows
-  links-length = length-tabulate (links file) (linkRow (linkPart file))
-
   pub destinations-length : length (destinationNodes file) ≡ destinations file
   unfolding destinationNodes
   destinations-length = length-tabulate (destinations file) (destination (destinationPart file))
@@ -105,7 +102,7 @@ module _ (file : List ℕ) where
       let known = counts file refl refl refl in
       record {
         few-nodes = known .nodes-most;
-        few-links = rw links-length (known .links-most);
+        few-links = rw (links-length file) (known .links-most);
         few-destinations = rw destinations-length (known .destinations-most);
         entries-long = rw destinations-length trips-length;
       }

@@ -16,16 +16,16 @@ use Rattle.calls.specs.Study.{linkRows, destinationNodes, tripEntries, networkO
 use Rattle.calls.specs.Calls.{tableNumber}
 use Rattle.calls.specs.declared.RunAnswer.{RunAnswer}
 use Rattle.calls.specs.Laws.Questions.{Passed, SharePassed, check-passed, start-both, table-both}
-use Rattle.calls.specs.Laws.Networks.{share-range, holds-length, few-trips, fields-fit}
+use Rattle.calls.specs.Laws.Networks.{links-length, share-range, holds-length, few-trips, fields-fit}
 use Rattle.questions.specs.Sized.{Sized}
 use Rattle.network.specs.Decoded.{Decoded}
-use Rattle.network.specs.Laws.Decoding.{sized, links-length, destinations-length}
+use Rattle.network.specs.Laws.Decoding.{sized, destinations-length}
 use Rattle.network.specs.declared.decoding.Opening.{Opening}
 use Rattle.travel.specs.Links.{padded, listTime}
 use Rattle.travel.specs.Ranges.{mostFlow, LinksFit, ShareFits, Within}
 use Rattle.travel.specs.Laws.Network.{Holds, padded-holds, times-agree}
 use Rattle.listing.specs.Laws.{listing-cong}
-use Rattle.listing.specs.Put.{listingOf}
+use Rattle.listing.specs.Lines.{listingOf}
 use Rattle.report.specs.Respond.{listed}
 
 -- A file and a table that an audit at a share accepts.

@@ -47,3 +47,13 @@ pub fn audit(file: &[u8], table: &[u32], share: u32) {
     unsafe { sys::ilstrovan_audit(bytes, size, table.as_ptr(), table.len(), share, &mut answer) };
     black_box(answer);
 }
+
+/// Only where the earlier build has it.
+#[cfg(before_page)]
+pub fn page(file: &[u8], table: &[u32], share: u32, page: &mut [u8]) {
+    let (bytes, size) = (file.as_ptr(), file.len());
+    let (flows, length) = (table.as_ptr(), table.len());
+    let (lines, room) = (page.as_mut_ptr(), page.len());
+    // SAFETY: as in `pass`.
+    black_box(unsafe { sys::ilstrovan_page(bytes, size, flows, length, share, lines, room) });
+}

@@ -5,7 +5,7 @@
 //! call the median processor time of either with its quartiles, and the median
 //! of the ratios of neighbouring measurements; then the stack that each call
 //! needs. Where ILSTROVAN_BEFORE names the static library of an earlier build,
-//! its calls are timed in the same turns.
+//! its calls are timed in the same turns; those that it lacks have a dash.
 
 #[cfg(before)]
 #[macro_use]
@@ -18,9 +18,10 @@ mod measure;
 mod stack;
 mod studies;
 
+use std::cell::RefCell;
 use std::hint::black_box;
 
-use measure::{Comparison, Way, compare};
+use measure::{Comparison, compare};
 use studies::Study;
 
 fn main() {
@@ -47,73 +48,87 @@ fn main() {
     }
 }
 
-/// The calls on one study: a run to its end, a pass over and an audit of the
-/// start's table, and a check.
-fn calls(study: &Study) -> [(String, Comparison); 4] {
+/// The calls on one study: a run to its end, a pass over, an audit and a page of
+/// the start's table, and a check.
+fn calls(study: &Study) -> [(String, Comparison); 5] {
     let file = &study.file;
     let room = vec![0; study.table_length];
     let mut started = room.clone();
     assert_eq!(second::start(file, &mut started), 0);
+    let judged = agree(study, &started);
 
-    // Both have to answer the same before they are timed.
-    let run = second::run(file, &mut room.clone(), 1_024, 0);
-    let proved = ilstrovan::run(file, &mut room.clone(), 1_024, 0).expect("accepted");
-    assert_eq!((proved.judged, proved.gap), (run.judged, run.gap));
-    let audit = second::audit(file, &started, 1);
-    let proved = ilstrovan::audit(file, &started, 1).expect("accepted");
-    assert_eq!((proved.gap, proved.cost), (audit.gap, audit.cost));
-
-    let running = against(
+    let running = compare(
         &room,
-        &mut |table| _ = black_box(ilstrovan::run(file, table, 1_024, 0)),
-        &mut |table| _ = black_box(second::run(file, table, 1_024, 0)),
-        #[cfg(before)]
-        &mut |table| before::run(file, table, 1_024, 0),
+        &mut [
+            &mut |table| _ = black_box(ilstrovan::run(file, table, 1_024, 0)),
+            &mut |table| _ = black_box(second::run(file, table, 1_024, 0)),
+            #[cfg(before)]
+            &mut |table| before::run(file, table, 1_024, 0),
+        ],
     );
-    let passing = against(
+    let passing = compare(
         &started,
-        &mut |table| _ = black_box(ilstrovan::pass(file, table, 1)),
-        &mut |table| _ = black_box(second::pass(file, table, 1)),
-        #[cfg(before)]
-        &mut |table| before::pass(file, table, 1),
+        &mut [
+            &mut |table| _ = black_box(ilstrovan::pass(file, table, 1)),
+            &mut |table| _ = black_box(second::pass(file, table, 1)),
+            #[cfg(before)]
+            &mut |table| before::pass(file, table, 1),
+        ],
     );
-    let auditing = against(
+    let auditing = compare(
         &started,
-        &mut |table| _ = black_box(ilstrovan::audit(file, table, 1)),
-        &mut |table| _ = black_box(second::audit(file, table, 1)),
-        #[cfg(before)]
-        &mut |table| before::audit(file, table, 1),
+        &mut [
+            &mut |table| _ = black_box(ilstrovan::audit(file, table, 1)),
+            &mut |table| _ = black_box(second::audit(file, table, 1)),
+            #[cfg(before)]
+            &mut |table| before::audit(file, table, 1),
+        ],
     );
-    let checking = against(
+    // All write to the same place, so that where it lies favours none.
+    let paper = RefCell::new(study.paper());
+    let paging = compare(
+        &started,
+        &mut [
+            &mut |table| _ = black_box(ilstrovan::page(file, table, 1, &mut paper.borrow_mut())),
+            &mut |table| _ = black_box(second::page(file, table, 1, &mut paper.borrow_mut())),
+            #[cfg(before_page)]
+            &mut |table| before::page(file, table, 1, &mut paper.borrow_mut()),
+        ],
+    );
+    let checking = compare(
         &[],
-        &mut |_| _ = black_box(ilstrovan::check(file)),
-        &mut |_| _ = black_box(second::check(file)),
-        #[cfg(before)]
-        &mut |_| before::check(file),
+        &mut [
+            &mut |_| _ = black_box(ilstrovan::check(file)),
+            &mut |_| _ = black_box(second::check(file)),
+            #[cfg(before)]
+            &mut |_| before::check(file),
+        ],
     );
     [
-        (format!("run, {} tables", run.judged), running),
+        (format!("run, {judged} tables"), running),
         ("pass".to_string(), passing),
         ("audit".to_string(), auditing),
+        ("page".to_string(), paging),
         ("check".to_string(), checking),
     ]
 }
 
-/// The proved call beside the second implementation's, and beside an earlier
-/// build's where one is linked.
-fn against(
-    table: &[u32],
-    proved: Way<'_>,
-    second: Way<'_>,
-    #[cfg(before)] before: Way<'_>,
-) -> Comparison {
-    compare(
-        table,
-        &mut [
-            proved,
-            second,
-            #[cfg(before)]
-            before,
-        ],
-    )
+/// Sees that both answer the same before they are timed. Hands back how many
+/// tables a run judges.
+fn agree(study: &Study, started: &[u32]) -> u32 {
+    let file = &study.file;
+    let mut table = vec![0; study.table_length];
+    let run = second::run(file, &mut table, 1_024, 0);
+    let proved = ilstrovan::run(file, &mut table, 1_024, 0).expect("accepted");
+    assert_eq!((proved.judged, proved.gap), (run.judged, run.gap));
+
+    let audit = second::audit(file, started, 1);
+    let proved = ilstrovan::audit(file, started, 1).expect("accepted");
+    assert_eq!((proved.gap, proved.cost), (audit.gap, audit.cost));
+
+    let (mut lines, mut proved) = (study.paper(), study.paper());
+    assert_eq!(second::page(file, started, 1, &mut lines), 0);
+    ilstrovan::page(file, started, 1, &mut proved).expect("accepted");
+    assert_eq!(proved, lines);
+    run.judged
 }

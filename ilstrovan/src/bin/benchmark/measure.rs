@@ -29,6 +29,8 @@ impl fmt::Display for Comparison {
         write!(out, "{} | {} | {}", self.proved, self.second, self.ratio)?;
         match &self.before {
             Some((before, ratio)) => write!(out, " | {before} | {ratio}"),
+            // An earlier build without this call.
+            None if cfg!(before) => write!(out, " | – | –"),
             None => Ok(()),
         }
     }

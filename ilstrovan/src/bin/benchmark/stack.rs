@@ -4,7 +4,7 @@
 use std::ffi::{c_int, c_void};
 use std::ptr;
 
-use ilstrovan::{Refusal, audit, check, pack, pass, run, start};
+use ilstrovan::{Refusal, audit, check, pack, page, pass, run, start};
 
 use crate::studies::Study;
 
@@ -52,9 +52,10 @@ pub fn needs(studies: &[Study]) -> Vec<(&'static str, usize, &str)> {
 }
 
 /// The stack that each call uses with one study, and a thread with it.
-fn needs_of(study: &Study) -> [(&'static str, usize); 6] {
+fn needs_of(study: &Study) -> [(&'static str, usize); 7] {
     let file = &study.file;
     let mut output = vec![0; file.len()];
+    let mut paper = study.paper();
     let mut table = vec![0; study.table_length];
     let mut call = |name, work: &mut dyn FnMut(&mut [u32]) -> Result<(), Refusal>| {
         (name, used(&mut || work(&mut table).expect("accepted")))
@@ -65,6 +66,7 @@ fn needs_of(study: &Study) -> [(&'static str, usize); 6] {
         call("run", &mut |table| run(file, table, 8, 0).map(drop)),
         call("start", &mut |table| start(file, table)),
         call("audit", &mut |table| audit(file, table, 1).map(drop)),
+        call("page", &mut |table| page(file, table, 1, &mut paper)),
         call("pass", &mut |table| pass(file, table, 1).map(drop)),
     ]
 }

@@ -2,6 +2,7 @@
 
 use std::path::Path;
 
+use ilstrovan::LINE_BYTES;
 use second::draft::{Dice, Draft, DraftLink, Plan, grid};
 use study_tool::exact::Fraction;
 use study_tool::source::Source;
@@ -37,6 +38,11 @@ impl Study {
     /// Its name.
     pub fn name(&self) -> &str {
         &self.name
+    }
+
+    /// Room for a page.
+    pub fn paper(&self) -> Vec<u8> {
+        vec![0; LINE_BYTES * self.links]
     }
 
     fn of_draft(name: &str, draft: &Draft) -> Self {

@@ -1,8 +1,8 @@
 -- `listing::lines::put_answer_lines` meets its contract: its calls put the lines one behind the other.
 use borrow.Author.Needs.{needs}
-use Rattle.listing.specs.Laws as laws
+use Rattle.text.specs.Laws.Put as puts
 use Rattle.listing.specs.Listing.{judgedWord, shareWord, gapWord, costWord}
-use Rattle.listing.specs.Put.{answerLines}
+use Rattle.listing.specs.Lines.{answerLines}
 use Rattle.listing.proofs.lines.put_answer_lines.Statement.{statement}
 use Rattle.listing.proofs.lines.put_answer_lines.Tie as tie
 
@@ -47,10 +47,10 @@ returns c =
     let share = gap .before .before .before .before .before in
     let judged = share .before .before .before .before .before .before in
     let ending = judged .before .before .before .before .before .before in (
-      laws.then
-          (laws.then
-          (laws.then
-          (laws.then (ending .put-ending-line .ensures .0) (judged .put-number-line .ensures .0))
+      puts.then
+          (puts.then
+          (puts.then
+          (puts.then (ending .put-ending-line .ensures .0) (judged .put-number-line .ensures .0))
           (share .put-number-line2 .ensures .0))
           (gap .put-number-line3 .ensures .0))
           (cost .put-number-line4 .ensures .0),
@@ -58,7 +58,7 @@ returns c =
     )
 
 same-length : tie.Need-same-length
-same-length c = laws.same-length (returns c .0)
+same-length c = puts.same-length (returns c .0)
 
 pub put-answer-lines-spec : {M : Type 1} → statement M
 put-answer-lines-spec =

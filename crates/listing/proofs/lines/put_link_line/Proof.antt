@@ -3,17 +3,19 @@ use borrow.Author.Needs.{needs}
 use native.Mathlib.Omega.{arith}
 use Prim.Native.Nat.{_≤_}
 use lib.ListN.{length}
-use Rattle.listing.specs.Laws as laws
-use Rattle.listing.specs.Listing.{decimal, linkLine, linkWord}
+use Rattle.text.specs.Laws.Decimal as decimals
+use Rattle.text.specs.Laws.Put as puts
+use Rattle.text.specs.Decimal.{decimal}
+use Rattle.listing.specs.Listing.{linkLine, linkWord}
 use Rattle.listing.proofs.lines.put_link_line.Statement.{statement}
 use Rattle.listing.proofs.lines.put_link_line.Tie as tie
 
 -- How many digits the three numbers have.
 digits : (start : tie.Start) → (length (decimal (start .args .l)) ≤ 20) × (length (decimal (start .args .flow)) ≤ 20) × (length (decimal (start .args .time)) ≤ 10)
 digits start = (
-  laws.digits-64 (start .args .l) (start .fits .l .fits),
-  laws.digits-64 (start .args .flow) (start .fits .flow .fits),
-  laws.digits-32 (start .args .time) (start .fits .time .fits),
+  decimals.digits-64 (start .args .l) (start .fits .l .fits),
+  decimals.digits-64 (start .args .flow) (start .fits .flow .fits),
+  decimals.digits-32 (start .args .time) (start .fits .time .fits),
 )
 
 slice-aggregate-put-text : tie.Need-slice-aggregate-put-text
@@ -54,11 +56,11 @@ returns c =
     let number = space .before .before .before .before in
     let word = number .before .before .before .before in
     let start = word .before .before .before .before in (
-      laws.then
-          (laws.then
-          (laws.then
-          (laws.then
-          (laws.then (laws.then (word .put-text .ensures) (number .put-decimal .ensures)) (space .put-byte .ensures))
+      puts.then
+          (puts.then
+          (puts.then
+          (puts.then
+          (puts.then (puts.then (word .put-text .ensures) (number .put-decimal .ensures)) (space .put-byte .ensures))
           (flow .put-decimal2 .ensures))
           (space2 .put-byte2 .ensures))
           (time .put-decimal3 .ensures))

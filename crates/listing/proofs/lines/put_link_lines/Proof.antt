@@ -3,8 +3,9 @@ use borrow.Author.Needs.{needs}
 use native.Mathlib.Omega.{arith}
 use mathlib.Core.Path.{_≡_}
 use Prim.Native.Nat.{_+_, _*_, _-_, _≤_}
-use Rattle.listing.specs.Laws as laws
-use Rattle.listing.specs.Put.{Put, linkLines}
+use Rattle.text.specs.Laws.Put as puts
+use Rattle.text.specs.Put.{Put}
+use Rattle.listing.specs.Lines.{linkLines}
 use Rattle.listing.proofs.lines.put_link_lines.Statement.{statement}
 use Rattle.listing.proofs.lines.put_link_lines.Tie as tie
 
@@ -15,7 +16,8 @@ abbrev μ-loop : tie.MeasureT-loop
 μ-loop out₀ at m flows times next₀ l₀ out next l = m - l
 
 loop-holds : tie.Need-loop-holds Inv-loop μ-loop
-loop-holds c = (search needs, laws.no-lines _ _ _ _, search needs)
+unfolding linkLines
+loop-holds c = (search needs, puts.no-rows _ _ _, search needs)
 
 mul-put-link-line : tie.Need-mul-put-link-line Inv-loop μ-loop
 mul-put-link-line c = search needs
@@ -30,7 +32,7 @@ element-copy-out-put-link-line-2 : tie.Need-element-copy-out-put-link-line-2 Inv
 element-copy-out-put-link-line-2 c = search needs
 
 put-link-line-requires : tie.Need-put-link-line-requires Inv-loop μ-loop
-put-link-line-requires c κs = omega (arith, laws.same-length (c .before .before .before .before .loop .inv .1))
+put-link-line-requires c κs = omega (arith, puts.same-length (c .before .before .before .before .loop .inv .1))
 
 add-l : tie.Need-add-l Inv-loop μ-loop
 add-l c = search needs
@@ -39,11 +41,12 @@ loop-less : tie.Need-loop-less Inv-loop μ-loop
 loop-less c = search needs
 
 loop-again : tie.Need-loop-again Inv-loop μ-loop
+unfolding linkLines
 loop-again c =
-    (search needs, laws.then-line _ _ _ (c .before .before .before .before .before .before .before .loop .inv .1) (c .before .before .put-link-line .ensures .0), search needs)
+    (search needs, puts.then-row _ _ (c .before .before .before .before .before .before .before .loop .inv .1) (c .before .before .put-link-line .ensures .0), search needs)
 
 same-length : tie.Need-same-length Inv-loop μ-loop
-same-length c = laws.same-length (c .before .loop .inv .1)
+same-length c = puts.same-length (c .before .loop .inv .1)
 
 returns : tie.Need-returns Inv-loop μ-loop
 returns c =

@@ -2,6 +2,7 @@
 use borrow.Author.Needs.{needs}
 use denote.Ref.{now}
 use native.Mathlib.Omega.{arith}
+use Rattle.text.specs.Laws.Put as puts
 use Rattle.listing.specs.Laws as laws
 use Rattle.listing.specs.Listing.{endingWord}
 use Rattle.listing.proofs.lines.write_listing.Statement.{statement}
@@ -25,7 +26,7 @@ returns c =
     let refused = c .before .before .before .before .before in
     let a = refused .before .before .args in
     rw (laws.refused-listing (a .answer) (a .m) (now (a .flows)) (now (a .times)) (refused .if1 .taken))
-    (laws.at-start (c .before .before .put-number-line .ensures .0) (omega arith))
+    (puts.at-start (c .before .before .put-number-line .ensures .0) (omega arith))
 
 put-answer-lines-requires : tie.Need-put-answer-lines-requires
 put-answer-lines-requires c κs = search needs
@@ -42,7 +43,7 @@ returns-2 c =
     let accepted = lines .before .before in
     let a = accepted .before .before .args in
     rw (laws.accepted-listing (a .answer) (a .m) (now (a .flows)) (now (a .times)) (accepted .if1 .left))
-    (laws.at-start (laws.then (lines .put-answer-lines .ensures .0) (c .before .before .put-link-lines .ensures .0)) (omega arith))
+    (puts.at-start (puts.then (lines .put-answer-lines .ensures .0) (c .before .before .put-link-lines .ensures .0)) (omega arith))
 
 pub write-listing-spec : {M : Type 1} → statement M
 write-listing-spec =

@@ -24,52 +24,59 @@ in-range : (c : tie.Else1) → shareFits (of-share (c .before) .args .share) ≡
 in-range c = was-yes (c .before .share-fits .ensures) (c .if1 .left)
 
 -- The places at which the totals are there, and are found to fit, each with the one before.
-abbrev of-totals : tie.After-totals → tie.Start
-of-totals c = of-share (c .before .before)
+abbrev of-totals : tie.After-write-totals → tie.Start
+of-totals c = of-share (c .before .before .before)
 
-abbrev of-fit : tie.Else2 → tie.After-totals
+abbrev of-fit : tie.Else2 → tie.After-write-totals
 of-fit c = c .before .before .before
 
 -- Question 15 is answered yes.
 fit :
     (c : tie.Else2) →
     let x = of-totals (of-fit c) .args in
-    listFits (length (x .links .now)) (of-fit c .totals .result) (x .share * x .total) ≡ true
+    listFits (length (x .links .now)) (of-fit c .write-totals .last .1 .1 .1 .0) (x .share * x .total) ≡ true
 fit c = was-yes (c .before .totals-fit .ensures) (c .if2 .left)
 
 returns : tie.Need-returns
-returns c = refused-14 _ _ _ _ _ (of-share (c .before) .args .share) (was-no (c .before .share-fits .ensures) (c .if1 .taken))
+returns c =
+    (refused-14 _ _ _ _ _ (of-share (c .before) .args .share) (was-no (c .before .share-fits .ensures) (c .if1 .taken)), λ e. absurd (omega arith))
 
-totals-requires : tie.Need-totals-requires
-totals-requires c κs = search needs
+write-totals-requires : tie.Need-write-totals-requires
+write-totals-requires c κs = search needs
 
 mul-totals-fit : tie.Need-mul-totals-fit
 mul-totals-fit c = let at = c .before in
-    omega (arith, limit-fits (of-totals at .args .share) (in-range (at .before)) (of-totals at .pre .1 .1))
+    omega (arith, limit-fits (of-totals at .args .share) (in-range (at .before .before)) (of-totals at .pre .1 .1))
 
 totals-fit-requires : tie.Need-totals-fit-requires
 totals-fit-requires c κs = search needs
 
 returns-2 : tie.Need-returns-2
-returns-2 c = let at = c .before .before .before in
-    refused-15 _ _ _ _ _ (of-totals at .args .share) (in-range (at .before)) (of-totals at .pre .1 .0) (at .totals .ensures .0)
-    (was-no (c .before .totals-fit .ensures) (c .if2 .taken))
+returns-2 c = let at = c .before .before .before in (
+  refused-15 _ _ _ _ _ (of-totals at .args .share) (in-range (at .before .before)) (of-totals at .pre .1 .0) (at .write-totals .ensures .0)
+      (was-no (c .before .totals-fit .ensures) (c .if2 .taken)),
+  λ e. absurd (omega arith),
+)
 
 rows-conserve-requires : tie.Need-rows-conserve-requires
 rows-conserve-requires c κs = let at = of-fit c in
-    (of-totals at .pre .0, share-most (of-totals at .args .share) (in-range (at .before)))
+    (of-totals at .pre .0, share-most (of-totals at .args .share) (in-range (at .before .before)))
 
 returns-3 : tie.Need-returns-3
 returns-3 c = let after = c .before .before in
-    let at = of-fit after in
-    refused-16 _ _ _ _ _ (of-totals at .args .share) (in-range (at .before)) (of-totals at .pre .1 .0) (at .totals .ensures .0) (fit after)
-    (was-no (c .before .rows-conserve .ensures) (c .if3 .taken))
+    let at = of-fit after in (
+      refused-16 _ _ _ _ _ (of-totals at .args .share) (in-range (at .before .before)) (of-totals at .pre .1 .0) (at .write-totals .ensures .0) (fit after)
+          (was-no (c .before .rows-conserve .ensures) (c .if3 .taken)),
+      λ e. absurd (omega arith),
+    )
 
 returns-4 : tie.Need-returns-4
 returns-4 c = let after = c .before .before in
-    let at = of-fit after in
-    accepted _ _ _ _ _ (of-totals at .args .share) (in-range (at .before)) (of-totals at .pre .1 .0) (at .totals .ensures .0) (fit after)
-    (was-yes (c .before .rows-conserve .ensures) (c .if3 .left))
+    let at = of-fit after in (
+      accepted _ _ _ _ _ (of-totals at .args .share) (in-range (at .before .before)) (of-totals at .pre .1 .0) (at .write-totals .ensures .0) (fit after)
+          (was-yes (c .before .rows-conserve .ensures) (c .if3 .left)),
+      λ e. at .write-totals .ensures .0,
+    )
 
 pub table-refusal-spec : {M : Type 1} → statement M
 table-refusal-spec =
@@ -77,7 +84,7 @@ table-refusal-spec =
     (tie.spec
     share-fits-requires
     returns
-    totals-requires
+    write-totals-requires
     mul-totals-fit
     totals-fit-requires
     returns-2

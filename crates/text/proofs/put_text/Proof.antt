@@ -1,13 +1,13 @@
--- `listing::text::put_text` meets its contract. The loop's invariant: the bytes passed are put, one behind the other.
+-- `text::put_text` meets its contract. The loop's invariant: the bytes passed are put, one behind the other.
 use borrow.Author.Needs.{needs}
 use native.Mathlib.Omega.{arith}
 use Prim.Native.Nat.{_+_, _-_, _≤_}
 use lib.ListN.{length, take}
 use lib.Seq.{take-all}
-use Rattle.listing.specs.Laws as laws
-use Rattle.listing.specs.Put.{Put}
-use Rattle.listing.proofs.text.put_text.Statement.{statement}
-use Rattle.listing.proofs.text.put_text.Tie as tie
+use Rattle.text.specs.Laws.Put as laws
+use Rattle.text.specs.Put.{Put}
+use Rattle.text.proofs.put_text.Statement.{statement}
+use Rattle.text.proofs.put_text.Tie as tie
 
 abbrev Inv-loop : tie.InvT-loop
 Inv-loop out₀ at text i₀ out i = (i ≤ length text) × Put out₀ at (take i text) out (at + i)

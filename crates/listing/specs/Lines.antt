@@ -1,17 +1,11 @@
--- Bytes put into lent memory, one after the other.
-use Prim.Native.Nat.{ℕ, _+_}
-use mathlib.Core.Path.{_≡_}
+-- The parts of a listing, as they are put one behind the other.
+use Prim.Native.Nat.{ℕ}
 use mathlib.Core.List.{List, _++_}
-use lib.ListN.{length, getD}
-use lib.Seq.{sets}
+use lib.ListN.{getD}
 use Rattle.theory.specs.Finite.{rows}
 use Rattle.calls.specs.declared.RunAnswer.{RunAnswer}
-use Rattle.listing.specs.Listing.{newline, endingWord, judgedWord, shareWord, gapWord, costWord, numberLine, linkLine, listing}
-
--- Memory that held `before` holds `after` once `bytes` are put at `at`; `next` is the place behind them. All else is as it was.
-pub record Put (before : List ℕ) (at : ℕ) (bytes : List ℕ) (after : List ℕ) (next : ℕ) : Type 0 where
-  pub held : after ≡ sets before at bytes
-  pub place : next ≡ at + length bytes
+use Rattle.text.specs.Decimal.{newline}
+use Rattle.listing.specs.Listing.{endingWord, judgedWord, shareWord, gapWord, costWord, numberLine, linkLine, listing}
 
 -- The lines before those of the links.
 unfoldable pub answerLines : RunAnswer → List ℕ

@@ -1,0 +1,45 @@
+-- The theorems that document 02's requests ask for, beside the demands and in the vocabulary of the same definitions. Each proof is a
+-- citation. The demands themselves speak of all calls and all versions, and stand in `Demands`.
+use Prim.Native.Nat.{ℕ, _*_, _+_, _<_}
+use mathlib.Core.Path.{_≡_}
+use mathlib.Core.List.{List}
+use lib.ListN.{length, getD}
+use Rattle.study.specs.Sections.{links}
+use Rattle.text.specs.Decimal.{decimal, hundredths}
+use Rattle.calls.specs.Study.{networkOf}
+use Rattle.calls.specs.Page.{lineOf, pageOf}
+use Rattle.calls.specs.Calls.{tableNumber, pageNumber, pageSlice}
+use Rattle.calls.specs.Laws.Page.{LineRange, LineFits}
+use Rattle.demands.specs.Results.{Fresh}
+use Rattle.demands.specs.Pages.{Plain, Pointed, OfLine, Largest, decimal-plain, hundredths-pointed, full-road, numbers-range, numbers-fit, line-length, line-place, page-length, page-fresh}
+
+-- A.1, volumes on paper. Whatever table the audit accepts, every number fits its columns (3, 3, 3, 8 and 8), so each line has exactly 30
+-- bytes and the page 30m, the line of link l from byte 30·l on; no number has a needless leading zero; no volume is above 65535.00 and no
+-- time above 42104.31, and a table that the audit accepts has both. A page that is not refused is written over the first 30m bytes of the
+-- slice, and later bytes are untouched.
+pub record RequestA1 : Type 0 where
+  pub fits : (file table : List ℕ) (share : ℕ) → tableNumber file table share ≡ 0 → (l : ℕ) → l < links file → OfLine LineFits file table share l
+  pub line : (file table : List ℕ) (share : ℕ) → tableNumber file table share ≡ 0 → (l : ℕ) → l < links file → length (lineOf (networkOf file) share table l) ≡ 30
+  pub page : (file table : List ℕ) (share : ℕ) → tableNumber file table share ≡ 0 → length (pageOf (networkOf file) share table) ≡ 30 * links file
+  pub place : (file table : List ℕ) (share : ℕ) → tableNumber file table share ≡ 0 → (l i : ℕ) → l < links file → i < 30
+      → getD (pageOf (networkOf file) share table) (l * 30 + i) 0 ≡ getD (lineOf (networkOf file) share table l) i 0
+  pub plain : (x : ℕ) → Plain (decimal x)
+  pub pointed : (x : ℕ) → Pointed (hundredths x)
+  pub range : (file table : List ℕ) (share : ℕ) → tableNumber file table share ≡ 0 → (l : ℕ) → l < links file → OfLine LineRange file table share l
+  pub largest : Largest
+  pub slice : (file table : List ℕ) (share : ℕ) (page : List ℕ) → pageNumber file table share page ≡ 0
+      → Fresh (30 * links file) (pageOf (networkOf file) share table) page (pageSlice file table share page)
+
+pub request-A1 : RequestA1
+request-A1 =
+    record {
+      fits = numbers-fit;
+      line = line-length;
+      page = page-length;
+      place = line-place;
+      plain = decimal-plain;
+      pointed = hundredths-pointed;
+      range = numbers-range;
+      largest = full-road;
+      slice = page-fresh;
+    }

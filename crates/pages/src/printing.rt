@@ -1,0 +1,54 @@
+ghost use mathlib.Core.Path.{_≡_};
+ghost use Rattle.calls.specs.Calls.{pageNumber, pageSlice};
+ghost use Rattle.pages.specs.Lines.{afterAudit};
+use crate::lines::put_lines;
+
+// Page: writes the page of a lent table that the audit accepts into the first bytes of a page slice.
+pub fn page(file: &[u8], table: &[u32], share: u32, page: &mut [u8]) -> u8
+    ensures { λ r. ⌜ r ≡ pageNumber (now (file .entry)) (now (table .entry)) share (now (page .entry)) ⌝ }
+    ensures { λ _. ⌜ now (page .exit) ≡ pageSlice (now (file .entry)) (now (table .entry)) share (now (page .entry)) ⌝ }
+{
+    let mut rows = [[0u16, 0, 0, 0, 0]; 512];
+    let mut places = [0u16; 32];
+    let mut entries = [0u16; 4096];
+    let opening = network::decode(file, &mut rows, &mut places, &mut entries);
+    let n = opening.nodes;
+    let m = opening.links;
+    let p = opening.destinations;
+    let links = &rows[..m];
+    let destinations = &places[..p];
+    let trips = &entries[..p * n];
+    let mut flows = [0u64; 512];
+    let audited = assignment::totals_refusal(
+        file,
+        opening.refusal,
+        n,
+        links,
+        destinations,
+        trips,
+        table,
+        share,
+        &mut flows,
+    );
+    let refusal = page_refusal(audited, 30 * links.len(), page.len());
+    if refusal != 0 {
+        return refusal;
+    }
+    let mut curves = [0u64; 769];
+    travel::put_powers(&mut curves);
+    put_lines(links, &flows, share, &curves, page);
+    0
+}
+
+// The audit's number, and then question 18, of a slice with so much room.
+fn page_refusal(audited: u8, size: usize, room: usize) -> u8
+    ensures { λ r. ⌜ r ≡ afterAudit audited size room ⌝ }
+{
+    if audited != 0 {
+        return audited;
+    }
+    if room < size {
+        return 18;
+    }
+    0
+}
