@@ -1,4 +1,4 @@
--- The laws of the listing of a run: what a run leaves can be listed, and what the listing's arrays hold.
+-- The laws of what the programs print: what a run leaves can be audited, what the listing's arrays hold, and what is printed of them.
 pub mod Runs
 pub mod Links
 pub mod Printed

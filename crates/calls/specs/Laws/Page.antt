@@ -1,6 +1,6 @@
 -- The page of a table that the audit accepts: every number is small enough for its columns, so every line has 30 bytes.
 use Prim.Native.Nat.{ℕ, _*_, _/_, _≤_, _<_}
-use native.Mathlib.Nat.{le-trans, mul-le-mul-left, min-le-left, div-le-of-le-mul}
+use native.Mathlib.Nat.{le-trans, mul-le-mul-left, div-le-of-le-mul}
 use native.Mathlib.Omega.{arith}
 use mathlib.Core.Path.{_≡_, _∙_}
 use mathlib.Core.List.{List}
@@ -10,11 +10,11 @@ use Rattle.study.specs.Laws.{Accepted, accepted}
 use Rattle.text.specs.Decimal.{decimal, hundredths}
 use Rattle.text.specs.Laws.Decimal.{length-decimal, length-hundredths, length-aligned}
 use Rattle.theory.specs.Network.{Network}
-use Rattle.theory.specs.Flows.{total, step, stepTime, timeAt}
+use Rattle.theory.specs.Flows.{total, timeAt}
 use Rattle.theory.specs.Study.{freeTime, rise, capacity, network}
 use Rattle.theory.specs.Laws.Finite.{length-rows}
 use Rattle.theory.specs.Laws.Tables.{totalsFit-all}
-use Rattle.theory.specs.Laws.Times.{stepTime-mono}
+use Rattle.theory.specs.Laws.Times.{step-most, stepTime-most}
 use Rattle.calls.specs.Study.{linkRows, networkOf}
 use Rattle.calls.specs.Page.{volume, pageLine, lineOf, pageOf}
 use Rattle.calls.specs.Calls.{tableNumber}
@@ -64,12 +64,6 @@ length-line {link} {tail} {head} {volume} {time} fits =
 volume-at-most : (share flow : ℕ) → 1 ≤ share → flow ≤ share * 65535 → volume share flow ≤ 6553500
 volume-at-most share flow some most = div-le-of-le-mul share (omega arith)
 
--- A time is at most a + 256·b.
-time-at-most : (a b c share flow : ℕ) → a ≤ 16383 → b ≤ 16383 → stepTime a b (step c share flow) ≤ 4210431
-unfolding step stepTime
-time-at-most a b c share flow p q =
-    le-trans (stepTime-mono a b {q = step c share flow} {r = 256} (min-le-left 256 (64 * flow / (c * share)))) (omega arith)
-
 -- A network has the links of its file.
 pub link-count : (file : List ℕ) → networkOf file .links ≡ links file
 unfolding networkOf network
@@ -93,9 +87,11 @@ module _ (file table : List ℕ) (share : ℕ) (audited : tableNumber file table
   unfolding networkOf network
   time-most l h =
       let fits = fields-fit file (study .described) l h in
-      time-at-most (freeTime (linkRows file) l) (rise (linkRows file) l) (capacity (linkRows file) l) share (total g table l) (fits .free-most) (fits .rise-most)
+      stepTime-most (freeTime (linkRows file) l) (rise (linkRows file) l) _ (fits .free-most) (fits .rise-most)
+      (step-most (capacity (linkRows file) l) share (total g table l))
 
-  total-most : (l : ℕ) → l < g .links → total g table l ≤ share * 65535
+  -- No total is above share × T, by questions 10 and 15.
+  pub total-most : (l : ℕ) → l < g .links → total g table l ≤ share * 65535
   total-most l h = le-trans (totalsFit-all g share table (passed .totals-fit) l h) (mul-le-mul-left share (few-trips file (study .described)))
 
   node-most : g .nodes ≤ 128

@@ -1,22 +1,20 @@
 -- The total flow and the time of each link: the arrays of an audited table hold what document 01 says of its network.
 use Prim.Native.Nat.{ℕ, _*_, _≤_, _<_}
-use native.Mathlib.Nat.{le-trans, mul-le-mul}
+use native.Mathlib.Nat.{le-trans, mul-le-mul-right}
 use native.Mathlib.Omega.{arith}
 use mathlib.Core.Path.{_≡_, sym, _∙_, ap}
 use mathlib.Core.List.{List}
 use lib.ListN.{length, getD, take}
-use borrow.Author.Tests.{leb-true}
 use Rattle.study.specs.Sections.{nodes, links, destinations}
-use Rattle.theory.specs.Network.{Network, totalTrips}
-use Rattle.theory.specs.Flows.{linkTotal, total, times, totalsFit}
-use Rattle.theory.specs.Moves.{tableSize}
+use Rattle.theory.specs.Network.{Network}
+use Rattle.theory.specs.Flows.{linkTotal, total, times}
 use Rattle.theory.specs.Study.{network}
-use Rattle.theory.specs.Laws.Finite.{all-elim}
 use Rattle.calls.specs.Study.{linkRows, destinationNodes, tripEntries, networkOf}
 use Rattle.calls.specs.Calls.{tableNumber}
 use Rattle.calls.specs.declared.RunAnswer.{RunAnswer}
 use Rattle.calls.specs.Laws.Questions.{Passed, SharePassed, check-passed, start-both, table-both}
-use Rattle.calls.specs.Laws.Networks.{links-length, share-range, holds-length, few-trips, fields-fit}
+use Rattle.calls.specs.Laws.Networks.{links-length, share-range, holds-length, fields-fit}
+use Rattle.calls.specs.Laws.Page.{total-most}
 use Rattle.questions.specs.Sized.{Sized}
 use Rattle.network.specs.Decoded.{Decoded}
 use Rattle.network.specs.Laws.Decoding.{sized, destinations-length}
@@ -39,12 +37,9 @@ module _ (file table : List ℕ) (share : ℕ) (audited : tableNumber file table
   passed : SharePassed file table share
   passed = table-both file table share audited .1
 
-  -- No total is above share × T, by questions 10, 14 and 15.
-  total-most : (l : ℕ) → l < g .links → total g table l ≤ mostFlow
-  unfolding totalsFit
-  total-most l p =
-      le-trans (leb-true _ _ (all-elim (g .links) _ (passed .totals-fit) l p))
-      (mul-le-mul (share-range share (passed .share-fits) .1) (few-trips file (study .described)))
+  -- No total is above 1,024 × 65,535, by question 14 too.
+  flow-most : (l : ℕ) → l < g .links → total g table l ≤ mostFlow
+  flow-most l p = le-trans (total-most file table share audited l p) (mul-le-mul-right 65535 (share-range share (passed .share-fits) .1))
 
   -- The fields are those that question 7 accepts.
   links-fit : LinksFit (linkRows file)
@@ -80,7 +75,7 @@ module _ (file table : List ℕ) (share : ℕ) (audited : tableNumber file table
 
       flows-within : Within (length (linkRows file)) mostFlow flows
       unfolding networkOf network
-      flows-within l h = rw (flows-held l h) (total-most l h)
+      flows-within l h = rw (flows-held l h) (flow-most l h)
 
       pub times-there : LinksFit (take (o .links) linkArray) × ShareFits share × Within (length (take (o .links) linkArray)) mostFlow flows
       times-there =

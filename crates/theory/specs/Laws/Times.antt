@@ -48,3 +48,15 @@ stepTime-mono a b {q} {r} h =
 pub stepTime-least : (a b r : ℕ) → a ≤ stepTime a b r
 unfolding stepTime
 stepTime-least a b r = omega arith
+
+-- A step is at most 256, and so a time at most a + 256·b, with the largest a and b that question 7 accepts.
+pub step-most : (c w s : ℕ) → step c w s ≤ 256
+unfolding step
+step-most c w s = min-le-left 256 (64 * s / (c * w))
+
+top-time : (a b : ℕ) → a ≤ 16383 → b ≤ 16383 → stepTime a b 256 ≤ 16383 * 257
+unfolding stepTime
+top-time a b ha hb = omega arith
+
+pub stepTime-most : (a b r : ℕ) → a ≤ 16383 → b ≤ 16383 → r ≤ 256 → stepTime a b r ≤ 16383 * 257
+stepTime-most a b r ha hb hr = le-trans (stepTime-mono a b hr) (top-time a b ha hb)

@@ -18,7 +18,8 @@ use Rattle.theory.specs.Laws.Choice.{chosen-is}
 use Rattle.travel.specs.Links.{rowTime, roads}
 use Rattle.travel.specs.Ranges.{LinksFit, mostTime, mostFlow}
 use Rattle.theory.specs.Laws.Times.{stepTime-least, stepTime-mono}
-use Rattle.travel.specs.Laws.Times.{step-most, rowTime-most}
+use Rattle.theory.specs.Laws.Times.{step-most}
+use Rattle.travel.specs.Laws.Times.{rowTime-most}
 
 -- What a move by j makes of a flow is a flow that an accepted table of the new share may have.
 pub moved-flow : (w s y j : ℕ) → s ≤ w * 65535 → y ≤ 65535 → s + j * y ≤ (w + j) * 65535

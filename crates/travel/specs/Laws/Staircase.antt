@@ -8,7 +8,8 @@ use Rattle.theory.specs.Finite.{sum}
 use Rattle.theory.specs.Flows.{step}
 use Rattle.theory.specs.Cost.{staircase, linkCost}
 use Rattle.theory.specs.Laws.Finite.{sum-suc, sum-cong, sum-scale, sum-bound, below-suc, order}
-use Rattle.travel.specs.Laws.Times.{step-most, step-within}
+use Rattle.theory.specs.Laws.Times.{step-most}
+use Rattle.travel.specs.Laws.Times.{step-within}
 
 -- Terms that are 0 from n on add nothing.
 sum-stop : (n m : ℕ) (f : ℕ → ℕ) → n ≤ m → ((i : ℕ) → n ≤ i → i < m → f i ≡ 0) → sum m f ≡ sum n f

@@ -1,13 +1,13 @@
 -- Steps and times: their ranges, and that a time does not fall as the step grows.
 use Prim.Native.Nat.{ℕ, _*_, _/_, _^_, _≤_, _<_}
-use native.Mathlib.Nat.{min-le-left, min-le-right, le-trans, mul-le-mul, mul-le-mul-right, div-mul-le-self, pow-suc, pow-zero}
+use native.Mathlib.Nat.{min-le-right, le-trans, mul-le-mul, mul-le-mul-right, div-mul-le-self, pow-suc, pow-zero}
 use native.Mathlib.Omega.{arith}
 use mathlib.Core.Path.{_≡_}
 use mathlib.Core.List.{List, []}
 use lib.ListN.{length, getD}
 use Rattle.theory.specs.Study.{freeTime, rise, capacity}
 use Rattle.theory.specs.Flows.{step, stepTime}
-use Rattle.theory.specs.Laws.Times.{stepTime-least, stepTime-mono}
+use Rattle.theory.specs.Laws.Times.{step-most, stepTime-least, stepTime-most}
 use Rattle.travel.specs.Links.{rowTime, listTime}
 use Rattle.travel.specs.Ranges.{LinkFits, LinksFit, mostTime, mostFlow}
 
@@ -27,21 +27,6 @@ width-some c w hc hw = mul-le-mul hc hw
 
 pub width-most : (c w : ℕ) → c ≤ 65535 → w ≤ 1024 → c * w ≤ mostFlow
 width-most c w hc hw = mul-le-mul hc hw
-
--- Times.
-
-top-time : (a b : ℕ) → a ≤ 16383 → b ≤ 16383 → stepTime a b 256 ≤ mostTime
-unfolding stepTime
-top-time a b ha hb = omega arith
-
-stepTime-most : (a b r : ℕ) → a ≤ 16383 → b ≤ 16383 → r ≤ 256 → stepTime a b r ≤ mostTime
-stepTime-most a b r ha hb hr = le-trans (stepTime-mono a b hr) (top-time a b ha hb)
-
--- Steps.
-
-pub step-most : (c w s : ℕ) → step c w s ≤ 256
-unfolding step
-step-most c w s = min-le-left 256 (64 * s / (c * w))
 
 -- The treads below a step, each c·W wide, are within 64·S.
 pub step-within : (c w s : ℕ) → step c w s * (c * w) ≤ 64 * s
