@@ -25,6 +25,13 @@
  * Stack
  *   A call needs at most 512 KiB of stack.
  *
+ * Versions
+ *   A study file has version 1 or 2. Version 2 has a header of 40 bytes, not 32,
+ *   and a fourth section, one byte a node: 1 where the node is closed, 0 where
+ *   it is open. A link into a closed node carries flow to that node only, so no
+ *   path leads through it; trips may begin and end there. In version 1 every
+ *   node is open.
+ *
  * Parameters
  *   file, file_length      The study file and its length in bytes.
  *   table, table_length    The flow table and how many numbers it holds, at
@@ -62,16 +69,17 @@ enum ilstrovan_refusal {
     ILSTROVAN_ACCEPTED = 0,
     /* The file is shorter than 32 bytes or longer than 65536. */
     ILSTROVAN_FILE_LENGTH = 1,
-    /* The version is not 1. */
+    /* The version is not 1 or 2. */
     ILSTROVAN_VERSION = 2,
     /* Nodes are not 2 to 128, links 1 to 512 or destinations 1 to 32, or there
        are more destinations than nodes. */
     ILSTROVAN_COUNTS = 3,
-    /* A section begins before byte 32, before the end of the section before
-       it, or ends after the file. */
+    /* A section begins within the header, before the end of the section before
+       it, or ends after the file; or the file is shorter than its version's
+       header, 32 bytes and in version 2 40. */
     ILSTROVAN_SECTIONS = 4,
-    /* A section's length is not 10 bytes a link, 2 a destination, or 2 a
-       destination and node. */
+    /* A section's length is not 10 bytes a link, 2 a destination, 2 a
+       destination and node or, in version 2, 1 a node. */
     ILSTROVAN_SECTION_LENGTHS = 5,
     /* A link's tail or head is no node, or they are the same. */
     ILSTROVAN_LINK_ENDS = 6,
@@ -84,7 +92,8 @@ enum ilstrovan_refusal {
     ILSTROVAN_TRIPS_TO_SELF = 9,
     /* There are more than 65535 trips in all. */
     ILSTROVAN_TOTAL_TRIPS = 10,
-    /* A node has trips to a destination to which it has no path. */
+    /* A node has trips to a destination to which it has no path that leads
+       through no closed node. */
     ILSTROVAN_UNREACHABLE = 11,
     /* The table holds fewer than destinations times links numbers. */
     ILSTROVAN_TABLE_LENGTH = 12,
@@ -100,7 +109,12 @@ enum ilstrovan_refusal {
     /* The output is shorter than the packed study. */
     ILSTROVAN_OUTPUT_LENGTH = 17,
     /* The page is shorter than 30 bytes a link. */
-    ILSTROVAN_PAGE_LENGTH = 18
+    ILSTROVAN_PAGE_LENGTH = 18,
+    /* A node's closed byte is neither 0 nor 1. Asked after 8 and before 9. */
+    ILSTROVAN_CLOSED_BYTES = 19,
+    /* The table has flow on a link into a closed node that is not flow to that
+       node. Asked after 16. */
+    ILSTROVAN_CLOSED_FLOW = 20
 };
 
 /* What a pass did: answer[0] of ilstrovan_pass. A refused pass has 0. */
@@ -116,23 +130,24 @@ enum ilstrovan_ending {
     ILSTROVAN_SPENT = 3          /* the budget is used up */
 };
 
-/* Is the file an acceptable study? Refusals 1 to 11. */
+/* Is the file an acceptable study? Refusals 1 to 8, then 19, then 9 to 11. */
 uint8_t ilstrovan_check(const uint8_t *file, size_t file_length);
 
-/* Writes the study to `output` with no gaps, its sections in order from byte
-   32: 32 + 10 * links + 2 * destinations * (1 + nodes) bytes. Refusals 1 to
-   11, then 17. */
+/* Writes the study to `output` in its own version with no gaps, its sections in
+   order from the end of the header: in version 1
+   32 + 10 * links + 2 * destinations * (1 + nodes) bytes, in version 2 8 bytes
+   and a byte a node more. Refusals as check, then 17. */
 uint8_t ilstrovan_pack(const uint8_t *file, size_t file_length,
                        uint8_t *output, size_t output_length);
 
 /* Writes the loading at empty roads to `table`, whatever it held; its share is
-   1. Refusals 1 to 12. */
+   1. Refusals as check, then 12. */
 uint8_t ilstrovan_start(const uint8_t *file, size_t file_length,
                         uint32_t *table, size_t table_length);
 
 /* Judges `table` and moves it towards least times. Writes the outcome
    (ilstrovan_outcome), the gap and the cost of the judged table, and the share
-   of the table as it is now. Refusals 1 to 12, then 14 to 16. */
+   of the table as it is now. Refusals as start, then 14 to 16, then 20. */
 uint8_t ilstrovan_pass(const uint8_t *file, size_t file_length,
                        uint32_t *table, size_t table_length,
                        uint32_t share, uint64_t answer[4]);
@@ -141,13 +156,13 @@ uint8_t ilstrovan_pass(const uint8_t *file, size_t file_length,
    times trips, there is no move, or the budget is used up. `table` then holds
    the last judged table, whatever it held before. Writes the ending
    (ilstrovan_ending), how many tables were judged, and the share, the gap and
-   the cost of the last. Refusals 1 to 13. */
+   the cost of the last. Refusals as start, then 13. */
 uint8_t ilstrovan_run(const uint8_t *file, size_t file_length,
                       uint32_t *table, size_t table_length,
                       uint32_t budget, uint16_t excess, uint64_t answer[5]);
 
 /* Writes the gap and the cost of `table`, whoever made it, and changes nothing
-   else. Refusals 1 to 12, then 14 to 16. */
+   else. Refusals as start, then 14 to 16, then 20. */
 uint8_t ilstrovan_audit(const uint8_t *file, size_t file_length,
                         const uint32_t *table, size_t table_length,
                         uint32_t share, uint64_t answer[2]);
@@ -156,8 +171,8 @@ uint8_t ilstrovan_audit(const uint8_t *file, size_t file_length,
    order, such as "  0   0   1     1.77     0.15" and a line feed. Columns 1 to
    3 hold the link, 5 to 7 its tail, 9 to 11 its head, 13 to 20 its volume,
    which is its total flow in trips, rounded down to hundredths, and 22 to 29
-   its time in minutes, each right-aligned; all else is spaces. Refusals 1 to
-   12, then 14 to 16, then 18. */
+   its time in minutes, each right-aligned; all else is spaces. Refusals as
+   audit, then 18. */
 uint8_t ilstrovan_page(const uint8_t *file, size_t file_length,
                        const uint32_t *table, size_t table_length,
                        uint32_t share, uint8_t *page, size_t page_length);

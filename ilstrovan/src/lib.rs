@@ -33,6 +33,9 @@
 //! # Ok::<(), ilstrovan::Refusal>(())
 //! ```
 //!
+//! A study has version 1 or 2. In version 2 nodes can be closed: a link into a
+//! closed node carries flow to that node only, so no path leads through it.
+//!
 //! A call needs at most 512 KiB of stack. It keeps nothing, so calls may run in
 //! any number of threads.
 
@@ -105,15 +108,15 @@ pub struct Audit {
     pub cost: u64,
 }
 
-/// Is the file an acceptable study? Refusals 1 to 11.
+/// Is the file an acceptable study? Refusals 1 to 8, then 19, then 9 to 11.
 pub fn check(file: &[u8]) -> Result<(), Refusal> {
     // SAFETY: the pointer and the length are those of one slice.
     let number = unsafe { sys::ilstrovan_check(file.as_ptr(), file.len()) };
     Refusal::of(number)
 }
 
-/// Writes the study to the start of `output` with no gaps. Refusals 1 to 11,
-/// then 17.
+/// Writes the study to the start of `output` in its own version with no gaps.
+/// Refusals as [`check`], then 17.
 pub fn pack(file: &[u8], output: &mut [u8]) -> Result<(), Refusal> {
     // SAFETY: each pointer and length are those of one slice, and nothing else
     // refers to what is lent mutably.
@@ -124,7 +127,7 @@ pub fn pack(file: &[u8], output: &mut [u8]) -> Result<(), Refusal> {
 }
 
 /// Writes the loading at empty roads to the start of `table`; its share is 1.
-/// Refusals 1 to 12.
+/// Refusals as [`check`], then 12.
 pub fn start(file: &[u8], table: &mut [u32]) -> Result<(), Refusal> {
     // SAFETY: as in `pack`.
     let number =
@@ -132,8 +135,8 @@ pub fn start(file: &[u8], table: &mut [u32]) -> Result<(), Refusal> {
     Refusal::of(number)
 }
 
-/// Judges a table of this share and moves it towards least times. Refusals 1 to
-/// 12, then 14 to 16.
+/// Judges a table of this share and moves it towards least times. Refusals as
+/// [`start`], then 14 to 16, then 20.
 pub fn pass(file: &[u8], table: &mut [u32], share: u32) -> Result<Pass, Refusal> {
     let mut answer = [0; 4];
     // SAFETY: as in `pack`, and `answer` is an array of four numbers.
@@ -161,7 +164,8 @@ pub fn pass(file: &[u8], table: &mut [u32], share: u32) -> Result<Pass, Refusal>
 }
 
 /// Starts, then judges and moves until the gap is within the excess, there is no
-/// move, or the budget is used up. Leaves the last judged table. Refusals 1 to 13.
+/// move, or the budget is used up. Leaves the last judged table. Refusals as
+/// [`start`], then 13.
 pub fn run(file: &[u8], table: &mut [u32], budget: u32, excess: u16) -> Result<Run, Refusal> {
     let mut answer = [0; 5];
     // SAFETY: as in `pack`, and `answer` is an array of five numbers.
@@ -191,8 +195,8 @@ pub fn run(file: &[u8], table: &mut [u32], budget: u32, excess: u16) -> Result<R
     })
 }
 
-/// The gap and cost of a table of this share, whoever made it. Refusals 1 to 12,
-/// then 14 to 16.
+/// The gap and cost of a table of this share, whoever made it. Refusals as
+/// [`start`], then 14 to 16, then 20.
 pub fn audit(file: &[u8], table: &[u32], share: u32) -> Result<Audit, Refusal> {
     let mut answer = [0; 2];
     // SAFETY: as in `pack`, and `answer` is an array of two numbers.
@@ -212,8 +216,8 @@ pub fn audit(file: &[u8], table: &[u32], share: u32) -> Result<Audit, Refusal> {
 }
 
 /// Writes the page of a table of this share, whoever made it, to the start of
-/// `page`: a line of [`LINE_BYTES`] for each link, in link order. Refusals 1 to
-/// 12, then 14 to 16, then 18.
+/// `page`: a line of [`LINE_BYTES`] for each link, in link order. Refusals as
+/// [`audit`], then 18.
 ///
 /// Columns 1 to 3 of a line hold the link, 5 to 7 its tail, 9 to 11 its head, 13
 /// to 20 its volume, which is its total flow in trips, rounded down to

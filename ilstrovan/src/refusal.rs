@@ -5,18 +5,18 @@ use std::fmt;
 use std::num::NonZeroU8;
 
 /// What the numbers mean, from 1 on.
-const WORDS: [&str; 18] = [
+const WORDS: [&str; 20] = [
     "the file is not 32 to 65,536 bytes long",
-    "the version is not 1",
+    "the version is not 1 or 2",
     "nodes are not 2 to 128, links 1 to 512 or destinations 1 to 32, or there are more destinations than nodes",
-    "the sections are not in order from byte 32 and within the file",
+    "the sections are not in order after the header and within the file, or the file is shorter than its version's header",
     "a section's length does not fit the counts",
     "a link's tail or head is no node, or they are the same",
     "a link's free time is not 1 to 16,383, its rise is above 16,383, or its capacity is 0",
     "a destination is no node, or the destinations do not ascend strictly",
     "a destination has trips to itself",
     "there are more than 65,535 trips in all",
-    "a node has trips to a destination to which it has no path",
+    "a node has trips to a destination to which it has no path that leads through no closed node",
     "the table holds fewer than destinations times links numbers",
     "the budget is not 1 to 1,024",
     "the share is not 1 to 1,024",
@@ -24,6 +24,8 @@ const WORDS: [&str; 18] = [
     "the table does not conserve",
     "the output is shorter than the packed study",
     "the page slice is shorter than 30 bytes a link",
+    "a node's closed byte is neither 0 nor 1",
+    "the table has flow on a link into a closed node that is not flow to that node",
 ];
 
 /// The first question that refused a call. The call changed nothing.

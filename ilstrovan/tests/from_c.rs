@@ -5,7 +5,7 @@ use std::fmt::Write;
 use std::path::Path;
 use std::process::Command;
 
-use second::draft::Draft;
+use second::draft::{Draft, Versioned};
 use second::{AuditAnswer, PassAnswer, RunAnswer};
 
 #[test]
@@ -37,37 +37,48 @@ fn town() {
 
     let ran = Command::new(&program).output().expect("the program runs");
     assert!(ran.status.success(), "{ran:?}");
-    assert_eq!(String::from_utf8_lossy(&ran.stdout), expected());
+    let expected = expected() + &expected_of_the_zone();
+    assert_eq!(String::from_utf8_lossy(&ran.stdout), expected);
 }
 
-/// What the program is to print, by the second implementation.
+fn table_words(table: &[u32]) -> String {
+    let numbers: Vec<String> = table.iter().map(u32::to_string).collect();
+    format!("table {}", numbers.join(" "))
+}
+
+fn audit_words(a: AuditAnswer) -> String {
+    format!("audit {} {} {}", a.refusal, a.gap, a.cost)
+}
+
+fn pass_words(a: PassAnswer) -> String {
+    let PassAnswer {
+        refusal,
+        outcome,
+        gap,
+        cost,
+        share,
+    } = a;
+    format!("pass {refusal} {outcome} {gap} {cost} {share}")
+}
+
+fn run_words(a: RunAnswer) -> String {
+    let RunAnswer {
+        refusal,
+        ending,
+        judged,
+        share,
+        gap,
+        cost,
+    } = a;
+    format!("run {refusal} {ending} {judged} {share} {gap} {cost}")
+}
+
+/// What the program is to print of the town of two roads, by the second
+/// implementation.
 fn expected() -> String {
     let file = Draft::town().file();
     let mut lines = String::new();
     let mut line = |words: String| writeln!(lines, "{words}").expect("text grows");
-    let table_words = |table: &[u32; 3]| format!("table {} {} {}", table[0], table[1], table[2]);
-    let audit_words = |a: AuditAnswer| format!("audit {} {} {}", a.refusal, a.gap, a.cost);
-    let pass_words = |a: PassAnswer| {
-        let PassAnswer {
-            refusal,
-            outcome,
-            gap,
-            cost,
-            share,
-        } = a;
-        format!("pass {refusal} {outcome} {gap} {cost} {share}")
-    };
-    let run_words = |a: RunAnswer| {
-        let RunAnswer {
-            refusal,
-            ending,
-            judged,
-            share,
-            gap,
-            cost,
-        } = a;
-        format!("run {refusal} {ending} {judged} {share} {gap} {cost}")
-    };
 
     line(format!("check {}", second::check(&file)));
     line(format!("check {}", second::check(&file[..57])));
@@ -108,4 +119,65 @@ fn expected() -> String {
     }
     line(table_words(&table));
     lines
+}
+
+/// The town with a zone, node 1.
+fn zone() -> Draft {
+    Draft {
+        nodes: 4,
+        links: vec![
+            [0, 1, 5, 20, 2],
+            [1, 2, 5, 0, 1],
+            [0, 3, 10, 0, 1],
+            [3, 2, 10, 0, 1],
+        ],
+        destinations: vec![2],
+        trips: vec![vec![2, 1, 0, 0]],
+    }
+}
+
+/// What the program is to print of the town with a zone: the figures of the
+/// model's table of cases, and for a run the second implementation's.
+fn expected_of_the_zone() -> String {
+    let closed: Versioned = zone().closing(&[1]);
+    assert_eq!(closed.packed_length(), 94);
+    let mut lines = vec!["check 0", "check 1"];
+    lines.extend(["check 4"; 10]);
+    lines.extend([
+        "start 0",
+        "table 0 1 2 2 9",
+        "audit 0 0 2880",
+        "start 0",
+        "table 2 3 0 0 9",
+        "audit 0 20 2048",
+        // Through the closed zone.
+        "audit 20 0 0",
+        "pass 20 0 0 0 0",
+        "page 20",
+        "page 20",
+        "table 2 3 0 0 9",
+        "blank 120",
+        // A part of a trip lost in the zone.
+        "audit 16 0 0",
+        "pass 16 0 0 0 0",
+        "page 16",
+        "page 16",
+        "table 2 2 0 0 9",
+        "blank 120",
+    ]);
+    let mut table = [9; 5];
+    let run = run_words(second::run(&closed.file(), &mut table, 10, 0));
+    let left = table_words(&table);
+    lines.extend([run.as_str(), &left]);
+    lines.extend([
+        "check 19", "start 19", "check 19", "check 9", "check 11", "check 0",
+    ]);
+    lines.extend([
+        "pack 17",
+        "first 238",
+        "pack 0",
+        "same 1, after it 238 238",
+        "",
+    ]);
+    lines.join("\n")
 }

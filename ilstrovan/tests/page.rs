@@ -277,6 +277,30 @@ fn question_18_comes_last() {
     }
 }
 
+/// Node 1 is closed, and the flow of 2 on links 0 and 1 leads through it.
+#[test]
+fn question_18_comes_after_20() {
+    let draft = Draft {
+        nodes: 3,
+        links: vec![[0, 1, 5, 0, 1], [1, 2, 5, 0, 1], [0, 2, 20, 0, 1]],
+        destinations: vec![2],
+        trips: vec![vec![2, 1, 0]],
+    };
+    let file = draft.clone().closing(&[1]).file();
+    for length in [0, 89, 90, 91] {
+        assert_eq!(refusal(&file, &[2, 2, 0], 1, length), 16);
+        assert_eq!(refusal(&file, &[2, 3, 0], 1, length), 20);
+        assert_eq!(refusal(&file, &[1, 2, 1], 1, length), 20);
+    }
+    assert_eq!(refusal(&file, &[0, 1, 2], 1, 89), 18);
+    let mut bytes = [BLANK; 90];
+    page(&file, &[0, 1, 2], 1, &mut bytes).expect("accepted");
+    let text = defined(&draft, &[0, 1, 2], 1);
+    assert_eq!(bytes, text.as_bytes());
+    let open = draft.closing(&[]).file();
+    page(&open, &[2, 3, 0], 1, &mut bytes).expect("accepted");
+}
+
 /// 128 nodes, 512 links and 32 destinations.
 fn largest(dice: &mut Dice) -> Draft {
     let plan = Plan {

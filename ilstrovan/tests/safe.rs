@@ -1,7 +1,8 @@
-//! The safe functions on the town of two roads: document 01's cases.
+//! The safe functions on the town of two roads, document 01's cases, and on
+//! towns with a zone, those of request A.2.
 
 use ilstrovan::{Audit, Ending, Outcome, Pass, Run, audit, check, pack, pass, run, start};
-use second::draft::Draft;
+use second::draft::{Draft, Versioned};
 
 fn refusal<T: std::fmt::Debug>(result: Result<T, ilstrovan::Refusal>) -> u8 {
     result.expect_err("a refusal").number()
@@ -89,4 +90,105 @@ fn refused_calls() {
 
     let words = audit(&file, &table, 9).expect_err("a refusal").to_string();
     assert_eq!(words, "refused 16: the table does not conserve");
+}
+
+/// A zone, node 1, between nodes 0 and 2, and a way round it by node 3.
+fn zone() -> Draft {
+    Draft {
+        nodes: 4,
+        links: vec![
+            [0, 1, 5, 20, 2],
+            [1, 2, 5, 0, 1],
+            [0, 3, 10, 0, 1],
+            [3, 2, 10, 0, 1],
+        ],
+        destinations: vec![2],
+        trips: vec![vec![2, 1, 0, 0]],
+    }
+}
+
+fn closed_zone() -> Versioned {
+    zone().closing(&[1])
+}
+
+#[test]
+fn a_zone_open_and_closed() {
+    for (study, flows, gap, cost) in [
+        (zone().into(), [2, 3, 0, 0, 7], 20, 2_048),
+        (zone().closing(&[]), [2, 3, 0, 0, 7], 20, 2_048),
+        (closed_zone(), [0, 1, 2, 2, 7], 0, 2_880),
+    ] {
+        let file = study.file();
+        assert_eq!(check(&file), Ok(()));
+        let mut table = [7; 5];
+        assert_eq!(start(&file, &mut table), Ok(()));
+        assert_eq!(table, flows);
+        assert_eq!(audit(&file, &table, 1), Ok(Audit { gap, cost }));
+
+        let length = study.packed_length();
+        let mut output = [0xEE; 96];
+        assert_eq!(refusal(pack(&file, &mut output[..length - 1])), 17);
+        assert_eq!(output, [0xEE; 96]);
+        assert_eq!(pack(&file, &mut output), Ok(()));
+        assert_eq!(output[..length], file);
+        assert!(output[length..].iter().all(|&byte| byte == 0xEE));
+    }
+    let ended = run(&closed_zone().file(), &mut [0; 4], 1_024, 0).expect("accepted");
+    assert_eq!((ended.ending, ended.judged), (Ending::Reached, 1));
+}
+
+#[test]
+fn calls_that_a_zone_refuses() {
+    let file = closed_zone().file();
+    assert_eq!(file.len(), 94);
+    for length in 32..=40 {
+        assert_eq!(refusal(check(&file[..length])), 4, "{length}");
+    }
+    assert_eq!(refusal(check(&file[..31])), 1);
+
+    let mut through = [2, 3, 0, 0];
+    let refused = audit(&file, &through, 1).expect_err("a refusal");
+    assert_eq!(
+        refused.to_string(),
+        "refused 20: the table has flow on a link into a closed node that is not flow to that node"
+    );
+    assert_eq!(refusal(pass(&file, &mut through, 1)), 20);
+    assert_eq!(through, [2, 3, 0, 0]);
+    assert_eq!(refusal(audit(&file, &[2, 2, 0, 0], 1)), 16);
+
+    // A closed byte of 2 is asked about before trips to itself.
+    let mut study = zone().with_closed(vec![0, 2, 0, 0]);
+    let refused = check(&study.file()).expect_err("a refusal");
+    assert_eq!(
+        refused.to_string(),
+        "refused 19: a node's closed byte is neither 0 nor 1"
+    );
+    study.draft.trips[0][2] = 1;
+    assert_eq!(refusal(check(&study.file())), 19);
+    study.closed = Some(vec![0, 1, 0, 0]);
+    assert_eq!(refusal(check(&study.file())), 9);
+
+    // Links 0 and 1 alone.
+    let mut alone = zone();
+    alone.links.truncate(2);
+    assert_eq!(refusal(check(&alone.clone().closing(&[1]).file())), 11);
+    assert_eq!(check(&alone.closing(&[]).file()), Ok(()));
+}
+
+/// Flow to a closed destination enters it, and flow to another does not, though
+/// the link's total is the same.
+#[test]
+fn a_closed_destination() {
+    let draft = Draft {
+        nodes: 3,
+        links: vec![[0, 1, 5, 0, 1], [1, 2, 5, 0, 1], [0, 2, 20, 0, 1]],
+        destinations: vec![1, 2],
+        trips: vec![vec![1, 0, 0], vec![1, 0, 0]],
+    };
+    let file = draft.closing(&[1]).file();
+    let mut table = [0; 6];
+    assert_eq!(start(&file, &mut table), Ok(()));
+    assert_eq!(table, [1, 0, 0, 0, 0, 1]);
+    assert!(audit(&file, &[2, 0, 0, 0, 0, 2], 2).is_ok());
+    assert_eq!(refusal(audit(&file, &[2, 0, 0, 1, 1, 1], 2)), 20);
 }

@@ -1,4 +1,5 @@
-/* The town of two roads, from C: every call, accepted and refused. */
+/* The town of two roads and the town with a zone, from C: every call, accepted
+   and refused. */
 #include "ilstrovan.h"
 
 #include <stdio.h>
@@ -11,6 +12,21 @@ static const uint8_t town[58] = {
     1, 0,                                                        /* destination */
     2, 0, 0, 0                                                   /* trips */
 };
+
+/* Version 2, with node 1 closed. */
+static const uint8_t zone[94] = {
+    2, 0, 4, 0, 4, 0, 1, 0,                                      /* version, n, m, p */
+    40, 0, 0, 0, 40, 0, 0, 0, 80, 0, 0, 0, 2, 0, 0, 0,
+    82, 0, 0, 0, 8, 0, 0, 0, 90, 0, 0, 0, 4, 0, 0, 0,
+    0, 0, 1, 0, 5, 0, 20, 0, 2, 0, 1, 0, 2, 0, 5, 0, 0, 0, 1, 0,  /* links */
+    0, 0, 3, 0, 10, 0, 0, 0, 1, 0, 3, 0, 2, 0, 10, 0, 0, 0, 1, 0,
+    2, 0,                                                        /* destination */
+    2, 0, 1, 0, 0, 0, 0, 0,                                      /* trips */
+    0, 1, 0, 0                                                   /* closed */
+};
+
+/* Where the zone's closed byte and the destination's own trips stand. */
+enum { ZONE_CLOSED = 91, ZONE_OWN_TRIPS = 86 };
 
 /* The page of flows 16 and 2 at share 9. */
 static const char lines[] =
@@ -25,9 +41,17 @@ static void show(const char *name, unsigned refusal, const uint64_t *answer, siz
     printf("\n");
 }
 
+static void show_numbers(const uint32_t *table, size_t count)
+{
+    printf("table");
+    for (size_t i = 0; i < count; i++)
+        printf(" %u", (unsigned)table[i]);
+    printf("\n");
+}
+
 static void show_table(const uint32_t *table)
 {
-    printf("table %u %u %u\n", (unsigned)table[0], (unsigned)table[1], (unsigned)table[2]);
+    show_numbers(table, 3);
 }
 
 /* Shows whether the lines are there, from byte 2 on, and how many of the 64
@@ -39,6 +63,77 @@ static void show_page(const uint8_t *page)
         blank += page[i] == 0xEE;
     printf("same %d, blank %u, around it %u %u %u %u\n", memcmp(page + 2, lines, 60) == 0, blank,
            (unsigned)page[0], (unsigned)page[1], (unsigned)page[62], (unsigned)page[63]);
+}
+
+/* Start, and an audit of its table. */
+static void start_and_audit(const uint8_t *file, uint32_t *table)
+{
+    uint64_t audited[2];
+    show("start", ilstrovan_start(file, sizeof zone, table, 5), NULL, 0);
+    show_numbers(table, 5);
+    show("audit", ilstrovan_audit(file, sizeof zone, table, 4, 1, audited), audited, 2);
+}
+
+/* A table that no call accepts, and what is left of it and of a page. */
+static void refuse(const uint8_t *file, uint32_t *table)
+{
+    uint8_t page[120];
+    uint64_t passed[4] = {1, 2, 3, 4}, audited[2] = {5, 6};
+    unsigned blank = 0;
+    memset(page, 0xEE, sizeof page);
+    show("audit", ilstrovan_audit(file, sizeof zone, table, 4, 1, audited), audited, 2);
+    show("pass", ilstrovan_pass(file, sizeof zone, table, 4, 1, passed), passed, 4);
+    show("page", ilstrovan_page(file, sizeof zone, table, 4, 1, page, sizeof page), NULL, 0);
+    show("page", ilstrovan_page(file, sizeof zone, table, 4, 1, page, 119), NULL, 0);
+    for (size_t i = 0; i < sizeof page; i++)
+        blank += page[i] == 0xEE;
+    show_numbers(table, 5);
+    printf("blank %u\n", blank);
+}
+
+static void town_with_a_zone(void)
+{
+    uint8_t other[sizeof zone], output[96];
+    uint32_t table[5] = {9, 9, 9, 9, 9};
+    uint32_t through[5] = {2, 3, 0, 0, 9}, lost[5] = {2, 2, 0, 0, 9};
+    uint64_t ended[5];
+
+    show("check", ilstrovan_check(zone, sizeof zone), NULL, 0);
+    for (size_t length = 31; length <= 41; length++)
+        show("check", ilstrovan_check(zone, length), NULL, 0);
+
+    start_and_audit(zone, table);
+    memcpy(other, zone, sizeof zone);
+    other[ZONE_CLOSED] = 0;
+    start_and_audit(other, table);
+    refuse(zone, through);
+    refuse(zone, lost);
+    show("run", ilstrovan_run(zone, sizeof zone, table, 5, 10, 0, ended), ended, 5);
+    show_numbers(table, 5);
+
+    /* A closed byte of 2, which is asked about before trips to itself. */
+    other[ZONE_CLOSED] = 2;
+    show("check", ilstrovan_check(other, sizeof other), NULL, 0);
+    show("start", ilstrovan_start(other, sizeof other, table, 5), NULL, 0);
+    other[ZONE_OWN_TRIPS] = 1;
+    show("check", ilstrovan_check(other, sizeof other), NULL, 0);
+    other[ZONE_CLOSED] = 1;
+    show("check", ilstrovan_check(other, sizeof other), NULL, 0);
+
+    /* Links 0 and 1 alone, with the zone closed and open. */
+    memcpy(other, zone, sizeof zone);
+    other[4] = 2;
+    other[12] = 20;
+    show("check", ilstrovan_check(other, sizeof other), NULL, 0);
+    other[ZONE_CLOSED] = 0;
+    show("check", ilstrovan_check(other, sizeof other), NULL, 0);
+
+    memset(output, 0xEE, sizeof output);
+    show("pack", ilstrovan_pack(zone, sizeof zone, output, 93), NULL, 0);
+    printf("first %u\n", (unsigned)output[0]);
+    show("pack", ilstrovan_pack(zone, sizeof zone, output, 94), NULL, 0);
+    printf("same %d, after it %u %u\n", memcmp(output, zone, sizeof zone) == 0,
+           (unsigned)output[94], (unsigned)output[95]);
 }
 
 int main(void)
@@ -82,5 +177,7 @@ int main(void)
     show("page", ilstrovan_page(town, sizeof town, table, 3, 9, page + 2, 60), NULL, 0);
     show_page(page);
     show_table(table);
+
+    town_with_a_zone();
     return 0;
 }

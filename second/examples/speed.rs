@@ -1,12 +1,14 @@
 //! Times of the calls on a few studies: `cargo run --release --example speed`.
 //!
 //! Each time is the shortest of many tries, in microseconds. Passes, audits
-//! and pages are of the table a run ends with.
+//! and pages are of the table a run ends with. First come studies of version
+//! 1, then pairs of a study with closed nodes and the same one with all nodes
+//! open.
 
 use std::hint::black_box;
 use std::time::{Duration, Instant};
 
-use second::draft::{Dice, Draft, DraftLink, Plan, grid};
+use second::draft::{Dice, Draft, DraftLink, Plan, Versioned, grid};
 use second::{audit, check, page, pass, run, start};
 
 /// Shortest time of a call over half a second of tries, in microseconds.
@@ -22,8 +24,9 @@ fn shortest<T>(mut call: impl FnMut() -> T) -> f64 {
 }
 
 /// One line of times for one study.
-fn show(name: &str, draft: &Draft) {
-    let file = draft.file();
+fn show(name: &str, study: impl Into<Versioned>) {
+    let study = study.into();
+    let (draft, file) = (&study.draft, study.file());
     let mut table = vec![0; draft.table_length()];
     let answer = run(&file, &mut table, 1_024, 0);
     assert_eq!(answer.refusal, 0);
@@ -89,9 +92,9 @@ fn main() {
         "a table"
     );
     let mut dice = Dice::new(7);
-    show("town", &Draft::town());
+    show("town", Draft::town());
     let links = grid(&mut dice, 6, 4, 76, 60, 900);
-    show("grid 6 by 4", &study(&mut dice, 24, &links, 24, 60));
+    show("grid 6 by 4", study(&mut dice, 24, &links, 24, 60));
     for destinations in [1, 8, 32] {
         let trips = (480 / destinations).min(90);
         for capacity in [300, 800, 3_000] {
@@ -100,7 +103,7 @@ fn main() {
                 links.push(dice.pick(&links));
             }
             let draft = study(&mut dice, 128, &links, destinations, trips);
-            show(&format!("grid 16 by 8, {capacity}"), &draft);
+            show(&format!("grid 16 by 8, {capacity}"), draft);
         }
         let links = Plan {
             nodes: (128, 128),
@@ -113,9 +116,44 @@ fn main() {
         }
         .draft(&mut dice)
         .links;
-        show(
-            "random",
-            &study(&mut dice, 128, &links, destinations, trips),
-        );
+        let draft = study(&mut dice, 128, &links, destinations, trips);
+        show("random", draft);
+    }
+    for destinations in [1, 8, 32] {
+        closed_nodes(&mut dice, destinations);
+    }
+}
+
+/// Studies with closed nodes, each followed by its twin without them: streets
+/// 12 by 8 with 32 zones beside them, and streets 16 by 8 with one node in ten
+/// closed.
+fn closed_nodes(dice: &mut Dice, destinations: u64) {
+    let plan = Plan {
+        nodes: (2, 2),
+        links: (1, 1),
+        destinations,
+        time: 300,
+        capacity: 800,
+        trips: (900 / destinations).min(90),
+        tenths: 10,
+    };
+    let links = grid(dice, 12, 8, 512, 300, 800);
+    let zones = plan.with_zones(dice, 96, 32, links);
+    let mut links = grid(dice, 16, 8, 512, 300, 800);
+    while links.len() < 512 {
+        links.push(dice.pick(&links));
+    }
+    let some = study(
+        dice,
+        128,
+        &links,
+        destinations,
+        (480 / destinations).min(90),
+    );
+    let some = some.closing_some(dice, 1);
+    for (name, study) in [("zones", zones), ("some closed", some)] {
+        let open = study.draft.clone().closing(&[]);
+        show(name, study);
+        show("  all open", open);
     }
 }

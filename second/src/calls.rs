@@ -1,4 +1,7 @@
 //! The seven public calls.
+//!
+//! Where questions 1 to 11 are put, question 19 comes after 8; where questions
+//! 14 to 16 are put, question 20 comes after 16.
 
 use crate::assignment::{Assignment, Move};
 use crate::columns::{LINE_BYTES, Line};
@@ -6,7 +9,7 @@ use crate::format::{MOST_LINKS, Sections};
 use crate::network::{Adjacency, ByLink, Study};
 use crate::questions::{LARGEST_BUDGET, LARGEST_SHARE, Question};
 use crate::staircase::{Gauge, Part};
-use crate::tables::{ask_conservation, ask_length, ask_totals};
+use crate::tables::{ask_carrying, ask_conservation, ask_length, ask_totals};
 
 /// A pass moved the table.
 pub const MOVED: u8 = 1;
@@ -114,7 +117,7 @@ fn start_table<'a>(
     empty
 }
 
-/// Judges a table and moves it. Questions 1 to 12, then 14 to 16.
+/// Judges a table and moves it. Questions 1 to 12, then 14 to 16 and 20.
 pub fn pass(file: &[u8], table: &mut [u32], share: u32) -> PassAnswer {
     try_pass(file, table, share).unwrap_or_else(|question| PassAnswer {
         refusal: question.number(),
@@ -147,8 +150,8 @@ fn try_pass(file: &[u8], table: &mut [u32], share: u32) -> Result<PassAnswer, Qu
     })
 }
 
-/// Puts questions 14 to 16 to a lent table of p·m numbers. Hands back each
-/// link's total.
+/// Puts questions 14 to 16 and 20 to a lent table of p·m numbers. Hands back
+/// each link's total.
 fn accept(
     study: &Study,
     adjacency: &Adjacency,
@@ -158,6 +161,7 @@ fn accept(
     Question::Share.ask((1..=LARGEST_SHARE).contains(&share))?;
     let totals = ask_totals(study, table, share)?;
     ask_conservation(study, adjacency, table, share)?;
+    ask_carrying(study, adjacency, table, &totals)?;
     Ok(totals)
 }
 
@@ -219,7 +223,7 @@ fn try_run(
     })
 }
 
-/// The gap and cost of a lent table. Questions 1 to 12, then 14 to 16.
+/// The gap and cost of a lent table. Questions 1 to 12, then 14 to 16 and 20.
 pub fn audit(file: &[u8], table: &[u32], share: u32) -> AuditAnswer {
     try_audit(file, table, share).unwrap_or_else(|question| AuditAnswer {
         refusal: question.number(),
@@ -243,7 +247,7 @@ fn try_audit(file: &[u8], table: &[u32], share: u32) -> Result<AuditAnswer, Ques
 }
 
 /// Writes a line of 30 bytes for each link of a lent table, with its volume
-/// and its time. Questions 1 to 12, then 14 to 16, then 18.
+/// and its time. Questions 1 to 12, then 14 to 16 and 20, then 18.
 pub fn page(file: &[u8], table: &[u32], share: u32, page: &mut [u8]) -> u8 {
     number(try_page(file, table, share, page))
 }

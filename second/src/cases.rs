@@ -3,11 +3,19 @@
 //! The list covers the town of two roads, every question's boundary by every
 //! call that puts it, small studies of all kinds with tables of all kinds
 //! (made by passes, wandering, with cycles, damaged), and studies at every
-//! limit; and after all these, pages of the same kinds of tables.
+//! limit; after all these, pages of the same kinds of tables; and after these,
+//! studies of version 2 with closed nodes.
+//!
+//! New calls go to the end of the list, so that a recording made before is the
+//! beginning of the next one.
 
 use crate::calls::start;
 use crate::draft::{Dice, Draft, DraftLink, Plan, grid};
 use crate::stream::{Call, Kind, Lent, Player, Reply, Second};
+
+mod headers;
+mod zoned_networks;
+mod zones;
 
 /// All calls.
 pub fn all() -> Vec<Call> {
@@ -32,6 +40,29 @@ pub fn all() -> Vec<Call> {
     times_on_a_page(&mut list);
     numbers_on_a_page(&mut list);
     pages_of_small_studies(&mut list);
+
+    headers::short_files(&mut list);
+    headers::versions(&mut list);
+    headers::offsets_and_lengths(&mut list);
+    headers::orders_of_sections(&mut list);
+    headers::gaps(&mut list);
+    headers::closed_bytes(&mut list);
+    headers::order_of_questions(&mut list);
+    headers::packing(&mut list);
+    zones::zone_in_the_middle(&mut list);
+    zones::flow_into_a_zone(&mut list);
+    zones::order_of_table_questions(&mut list);
+    zones::idle_destinations(&mut list);
+    zones::next_links(&mut list);
+    zones::ties_at_a_closed_destination(&mut list);
+    zones::paths(&mut list);
+    zones::paths_by_a_destination(&mut list);
+    zones::paths_to_many(&mut list);
+    zones::all_closed(&mut list);
+    zoned_networks::twins(&mut list);
+    zoned_networks::random_studies(&mut list);
+    zoned_networks::sums_beyond_32_bits(&mut list);
+    zoned_networks::full_limits(&mut list);
     list.calls
 }
 
@@ -89,6 +120,11 @@ impl List {
 
     fn audit(&mut self, file: &[u8], table: Vec<u32>, share: u32) {
         self.call(Kind::Audit, file, Lent::Table(table), share, 0, 0);
+    }
+
+    /// A start over the table as the call before left it.
+    fn start_on(&mut self, file: &[u8]) {
+        self.call(Kind::Start, file, Lent::Same, 0, 0, 0);
     }
 
     /// A pass on the table as the call before left it. Moves `share` on to the

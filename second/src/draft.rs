@@ -1,6 +1,13 @@
 //! Studies and tables in the making, for tests and recordings.
+//!
+//! A [`Draft`] is a study of version 1; with closed nodes it becomes a
+//! [`Versioned`] one.
 
-use crate::format::{HEADER, LINK_BYTES, VERSION};
+use crate::format::{LINK_BYTES, Layout, VERSION};
+
+mod versioned;
+
+pub use versioned::Versioned;
 
 /// A small generator of numbers that look random (splitmix64). The same seed
 /// gives the same numbers everywhere.
@@ -54,6 +61,19 @@ impl Dice {
     }
 }
 
+/// The layout of a version there is.
+fn layout_of(version: u16) -> &'static Layout {
+    Layout::of(version).expect("a version there is")
+}
+
+/// Numbers of two bytes each.
+fn bytes<'a>(numbers: impl IntoIterator<Item = &'a u16>) -> Vec<u8> {
+    numbers
+        .into_iter()
+        .flat_map(|number| number.to_le_bytes())
+        .collect()
+}
+
 /// A link: tail, head, free time a, rise b, capacity c.
 pub type DraftLink = [u16; 5];
 
@@ -97,7 +117,7 @@ impl Draft {
 
     /// Bytes of the file without gaps.
     pub fn packed_length(&self) -> usize {
-        HEADER
+        layout_of(VERSION).header
             + LINK_BYTES * self.links.len()
             + 2 * self.destinations.len()
             + 2 * self.trips.iter().map(Vec::len).sum::<usize>()
@@ -110,22 +130,28 @@ impl Draft {
 
     /// The file with these bytes before each section and after the last.
     pub fn file_with_gaps(&self, gaps: [&[u8]; 4]) -> Vec<u8> {
-        let bytes = |numbers: &mut dyn Iterator<Item = u16>| -> Vec<u8> {
-            numbers.flat_map(u16::to_le_bytes).collect()
-        };
-        let sections = [
-            bytes(&mut self.links.iter().flatten().copied()),
-            bytes(&mut self.destinations.iter().copied()),
-            bytes(&mut self.trips.iter().flatten().copied()),
-        ];
-        let counts = [
-            VERSION,
+        self.write(VERSION, &self.sections(), &gaps)
+    }
+
+    /// The sections of version 1.
+    fn sections(&self) -> [Vec<u8>; 3] {
+        [
+            bytes(self.links.iter().flatten()),
+            bytes(&self.destinations),
+            bytes(self.trips.iter().flatten()),
+        ]
+    }
+
+    /// A file of this version with these sections, and with these bytes before
+    /// each section and after the last.
+    fn write(&self, version: u16, sections: &[Vec<u8>], gaps: &[&[u8]]) -> Vec<u8> {
+        let mut file = bytes(&[
+            version,
             self.nodes,
             self.links.len() as u16,
             self.destinations.len() as u16,
-        ];
-        let mut file = bytes(&mut counts.into_iter());
-        let mut offset = HEADER;
+        ]);
+        let mut offset = layout_of(version).header;
         for (section, gap) in sections.iter().zip(gaps) {
             offset += gap.len();
             file.extend((offset as u32).to_le_bytes());
@@ -133,22 +159,27 @@ impl Draft {
             offset += section.len();
         }
         for (section, gap) in sections.iter().zip(gaps) {
-            file.extend(gap);
+            file.extend(*gap);
             file.extend(section);
         }
-        file.extend(gaps[3]);
+        file.extend(gaps[sections.len()]);
         file
     }
 
     /// For each node, the fewest links to `goal`; none where there is no path.
     pub fn hops(&self, goal: u16) -> Vec<Option<usize>> {
+        self.hops_by(goal, |_| true)
+    }
+
+    /// The same by permitted links only.
+    fn hops_by(&self, goal: u16, permitted: impl Fn(usize) -> bool) -> Vec<Option<usize>> {
         let mut hops = vec![None; usize::from(self.nodes)];
         hops[usize::from(goal)] = Some(0);
         let mut round = 0;
         while hops.contains(&Some(round)) {
-            for link in &self.links {
+            for (number, link) in self.links.iter().enumerate() {
                 let (tail, head) = (usize::from(link[0]), usize::from(link[1]));
-                if hops[head] == Some(round) && hops[tail].is_none() {
+                if hops[head] == Some(round) && hops[tail].is_none() && permitted(number) {
                     hops[tail] = Some(round + 1);
                 }
             }
@@ -161,12 +192,17 @@ impl Draft {
     /// itself.
     pub fn drop_pathless_trips(&mut self) {
         for position in 0..self.destinations.len() {
-            let destination = self.destinations[position];
-            let hops = self.hops(destination);
-            for (node, count) in self.trips[position].iter_mut().enumerate() {
-                if matches!(hops[node], None | Some(0)) {
-                    *count = 0;
-                }
+            let hops = self.hops(self.destinations[position]);
+            self.drop_trips_without(position, &hops);
+        }
+    }
+
+    /// Takes away the trips to one destination from where there are no hops,
+    /// or none to go.
+    fn drop_trips_without(&mut self, position: usize, hops: &[Option<usize>]) {
+        for (count, hops) in self.trips[position].iter_mut().zip(hops) {
+            if matches!(hops, None | Some(0)) {
+                *count = 0;
             }
         }
     }
@@ -181,9 +217,15 @@ impl Draft {
         }
     }
 
-    /// Links from a node to where `hops` lead, at random for a while and then
-    /// by the fewest; none when there is no path.
-    fn wander(&self, dice: &mut Dice, from: u16, hops: &[Option<usize>]) -> Option<Vec<usize>> {
+    /// Permitted links from a node to where `hops` by them lead, at random for
+    /// a while and then by the fewest; none when there is no path.
+    fn wander(
+        &self,
+        dice: &mut Dice,
+        from: u16,
+        hops: &[Option<usize>],
+        permitted: impl Fn(usize) -> bool,
+    ) -> Option<Vec<usize>> {
         let hops_at = |node: u16| hops[usize::from(node)];
         hops_at(from)?;
         let mut links = Vec::new();
@@ -194,6 +236,7 @@ impl Draft {
                 .filter(|&link| {
                     let [tail, head, ..] = self.links[link];
                     tail == node
+                        && permitted(link)
                         && hops_at(head).is_some()
                         && (patience > 0 || hops_at(head) < hops_at(node))
                 })
@@ -209,9 +252,20 @@ impl Draft {
     /// A conserving table of this share: every node's trips wander to their
     /// destination in a few lots. Question 15 it may still fail.
     pub fn wandering_table(&self, dice: &mut Dice, share: u32) -> Vec<u32> {
+        self.wandering_table_by(dice, share, |_, _| true)
+    }
+
+    /// The same by links that are permitted for their destination.
+    fn wandering_table_by(
+        &self,
+        dice: &mut Dice,
+        share: u32,
+        permitted: impl Fn(usize, u16) -> bool,
+    ) -> Vec<u32> {
         let mut table = vec![0; self.table_length()];
         for (position, &destination) in self.destinations.iter().enumerate() {
-            let hops = self.hops(destination);
+            let permitted = |link| permitted(link, destination);
+            let hops = self.hops_by(destination, permitted);
             for node in 0..self.nodes {
                 let mut left = share * u32::from(self.trips[position][usize::from(node)]);
                 while left > 0 {
@@ -221,7 +275,7 @@ impl Draft {
                         _ => 1 + dice.below(u64::from(left)) as u32,
                     };
                     left -= lot;
-                    let Some(links) = self.wander(dice, node, &hops) else {
+                    let Some(links) = self.wander(dice, node, &hops, permitted) else {
                         continue;
                     };
                     for link in links {
@@ -239,7 +293,8 @@ impl Draft {
         for _ in 0..8 {
             let first = dice.index(self.links.len());
             let [tail, head, ..] = self.links[first];
-            if let Some(mut links) = self.wander(dice, head, &self.hops(tail)) {
+            let hops = self.hops(tail);
+            if let Some(mut links) = self.wander(dice, head, &hops, |_| true) {
                 links.push(first);
                 let row = dice.index(self.destinations.len()) * self.links.len();
                 for link in links {

@@ -1,18 +1,22 @@
 //! The bytes of a study file.
 //!
-//! This layer finds the header's numbers and the three sections, and puts
-//! questions 1 to 5. What the sections mean is not its business.
+//! This layer finds the header's numbers and the sections, and puts questions
+//! 1 to 5. What the sections mean is not its business.
 
 use crate::questions::Question;
 
-/// Bytes in the header.
+/// Bytes in the header of version 1, and in the shortest study file.
 pub const HEADER: usize = 32;
 /// Bytes in the longest study file.
 pub const LONGEST_FILE: usize = 65_536;
-/// The only version there is.
+/// The first version.
 pub const VERSION: u16 = 1;
-/// Bytes of one link.
+/// The version with closed nodes.
+pub const CLOSED_VERSION: u16 = 2;
+/// Bytes of one link in versions 1 and 2.
 pub const LINK_BYTES: usize = 10;
+/// Sections of the version that has the most.
+pub const MOST_SECTIONS: usize = 4;
 
 /// The largest number of nodes.
 pub const MOST_NODES: usize = 128;
@@ -21,21 +25,77 @@ pub const MOST_LINKS: usize = 512;
 /// The largest number of destinations.
 pub const MOST_DESTINATIONS: usize = 32;
 
-/// The counts of a file and its three sections, as parts of the caller's bytes.
+/// What differs between the versions of a study file.
+#[derive(Clone, Copy, Debug, PartialEq, Eq)]
+pub struct Layout {
+    /// The version's number.
+    pub version: u16,
+    /// Bytes in the header.
+    pub header: usize,
+    /// Bytes of one link.
+    pub link_bytes: usize,
+    /// Number of sections. They are, in this order: links, destinations,
+    /// trips, closed.
+    pub sections: usize,
+}
+
+/// All versions there are.
+#[rustfmt::skip]
+pub static LAYOUTS: [Layout; 2] = [
+    Layout { version: VERSION,        header: HEADER, link_bytes: LINK_BYTES, sections: 3 },
+    Layout { version: CLOSED_VERSION, header: 40,     link_bytes: LINK_BYTES, sections: 4 },
+];
+
+impl Layout {
+    /// The layout of a version, if there is that version.
+    #[inline]
+    pub fn of(version: u16) -> Option<&'static Layout> {
+        LAYOUTS.iter().find(|layout| layout.version == version)
+    }
+
+    /// The lengths of the sections; only the first [`Layout::sections`] count.
+    #[inline]
+    pub fn lengths(
+        &self,
+        nodes: usize,
+        links: usize,
+        destinations: usize,
+    ) -> [usize; MOST_SECTIONS] {
+        [
+            self.link_bytes * links,
+            2 * destinations,
+            2 * destinations * nodes,
+            nodes,
+        ]
+    }
+
+    /// Bytes of a study of this version without gaps.
+    #[inline]
+    pub fn packed_length(&self, nodes: usize, links: usize, destinations: usize) -> usize {
+        let lengths = self.lengths(nodes, links, destinations);
+        self.header + lengths[..self.sections].iter().sum::<usize>()
+    }
+}
+
+/// The counts of a file and its sections, as parts of the caller's bytes.
 #[derive(Clone, Copy, Debug, PartialEq, Eq)]
 pub struct Sections<'a> {
+    /// What is special to the file's version.
+    pub layout: &'static Layout,
     /// Number of nodes, n.
     pub nodes: usize,
     /// Number of links, m.
     pub links: usize,
     /// Number of destinations, p.
     pub destinations: usize,
-    /// The links, 10 bytes each.
+    /// The links, [`Layout::link_bytes`] each.
     pub link_part: &'a [u8],
     /// The destinations, 2 bytes each.
     pub destination_part: &'a [u8],
     /// The trips, 2 bytes for each destination and node.
     pub trip_part: &'a [u8],
+    /// The closed bytes, one for each node; none in version 1.
+    pub closed_part: &'a [u8],
 }
 
 /// Reads the two bytes at `place`.
@@ -57,17 +117,17 @@ pub fn numbers(part: &[u8]) -> impl Iterator<Item = u16> {
     pairs.iter().map(|&pair| u16::from_le_bytes(pair))
 }
 
-/// Bytes of a study without gaps.
+/// Bytes of a study of version 1 without gaps.
 #[inline]
 pub fn packed_length(nodes: usize, links: usize, destinations: usize) -> usize {
-    HEADER + LINK_BYTES * links + 2 * destinations + 2 * destinations * nodes
+    LAYOUTS[0].packed_length(nodes, links, destinations)
 }
 
 impl<'a> Sections<'a> {
     /// Puts questions 1 to 5 and finds the sections.
     pub fn find(file: &'a [u8]) -> Result<Self, Question> {
         Question::FileLength.ask((HEADER..=LONGEST_FILE).contains(&file.len()))?;
-        Question::Version.ask(u16_at(file, 0) == VERSION)?;
+        let layout = Layout::of(u16_at(file, 0)).ok_or(Question::Version)?;
 
         let nodes = usize::from(u16_at(file, 2));
         let links = usize::from(u16_at(file, 4));
@@ -79,52 +139,35 @@ impl<'a> Sections<'a> {
                 && destinations <= nodes,
         )?;
 
-        // Offsets and lengths are any numbers of 32 bits here, so their sums
-        // are taken in 64.
-        let pairs: [(u64, u64); 3] = std::array::from_fn(|section| {
-            let place = 8 + 8 * section;
-            (
-                u64::from(u32_at(file, place)),
-                u64::from(u32_at(file, place + 4)),
-            )
-        });
-        let ends = pairs.map(|(offset, length)| offset + length);
-        Question::Offsets.ask(
-            pairs[0].0 >= HEADER as u64
-                && ends[0] <= pairs[1].0
-                && ends[1] <= pairs[2].0
-                && ends[2] <= file.len() as u64,
-        )?;
-        Question::Lengths.ask(
-            pairs[0].1 == (LINK_BYTES * links) as u64
-                && pairs[1].1 == (2 * destinations) as u64
-                && pairs[2].1 == (2 * destinations * nodes) as u64,
-        )?;
-
-        // Every end lies within the file by now, so the numbers fit a usize.
-        let part = |section: usize| &file[pairs[section].0 as usize..ends[section] as usize];
+        let lengths = layout.lengths(nodes, links, destinations);
+        let [link_part, destination_part, trip_part, closed_part] =
+            find_parts(file, layout, &lengths)?;
         Ok(Sections {
+            layout,
             nodes,
             links,
             destinations,
-            link_part: part(0),
-            destination_part: part(1),
-            trip_part: part(2),
+            link_part,
+            destination_part,
+            trip_part,
+            closed_part,
         })
     }
 
     /// Length of this study without gaps.
     #[inline]
     pub fn packed_length(&self) -> usize {
-        packed_length(self.nodes, self.links, self.destinations)
+        self.layout
+            .packed_length(self.nodes, self.links, self.destinations)
     }
 
     /// Writes this study without gaps over the first bytes of `output`, which
-    /// holds at least [`Sections::packed_length`] of them.
+    /// holds at least [`Sections::packed_length`] of them. The version stays
+    /// the same.
     pub fn write_packed(&self, output: &mut [u8]) {
-        let (header, mut rest) = output.split_at_mut(HEADER);
+        let (header, mut rest) = output.split_at_mut(self.layout.header);
         let counts = [
-            VERSION,
+            self.layout.version,
             self.nodes as u16,
             self.links as u16,
             self.destinations as u16,
@@ -132,9 +175,14 @@ impl<'a> Sections<'a> {
         for (place, count) in counts.into_iter().enumerate() {
             header[2 * place..2 * place + 2].copy_from_slice(&count.to_le_bytes());
         }
-        let mut offset = HEADER;
-        let parts = [self.link_part, self.destination_part, self.trip_part];
-        for (section, part) in parts.into_iter().enumerate() {
+        let mut offset = header.len();
+        let parts = [
+            self.link_part,
+            self.destination_part,
+            self.trip_part,
+            self.closed_part,
+        ];
+        for (section, part) in parts.into_iter().take(self.layout.sections).enumerate() {
             let pair = &mut header[8 + 8 * section..16 + 8 * section];
             pair[..4].copy_from_slice(&(offset as u32).to_le_bytes());
             pair[4..].copy_from_slice(&(part.len() as u32).to_le_bytes());
@@ -144,4 +192,38 @@ impl<'a> Sections<'a> {
             offset += part.len();
         }
     }
+}
+
+/// Puts questions 4 and 5 to a file of at least 32 bytes and finds its
+/// sections, which are to have these lengths. Sections that the version does
+/// not have are empty.
+#[inline]
+fn find_parts<'a>(
+    file: &'a [u8],
+    layout: &Layout,
+    lengths: &[usize; MOST_SECTIONS],
+) -> Result<[&'a [u8]; MOST_SECTIONS], Question> {
+    // A file shorter than its header has no place for its sections.
+    Question::Offsets.ask(file.len() >= layout.header)?;
+    // Offsets and lengths are any numbers of 32 bits here, so their sums are
+    // taken in 64.
+    let mut offsets = [0; MOST_SECTIONS];
+    let mut end = layout.header as u64; // of what lies before the section
+    let (mut follow, mut fit) = (true, true);
+    for section in 0..layout.sections {
+        let offset = u64::from(u32_at(file, 8 + 8 * section));
+        let length = u64::from(u32_at(file, 12 + 8 * section));
+        follow &= end <= offset;
+        fit &= length == lengths[section] as u64;
+        end = offset + length;
+        offsets[section] = offset as usize;
+    }
+    Question::Offsets.ask(follow && end <= file.len() as u64)?;
+    Question::Lengths.ask(fit)?;
+
+    let mut parts: [&[u8]; MOST_SECTIONS] = [&[]; MOST_SECTIONS];
+    for section in 0..layout.sections {
+        parts[section] = &file[offsets[section]..][..lengths[section]];
+    }
+    Ok(parts)
 }

@@ -7,6 +7,10 @@
 //! Dijkstra's method, which settles one node of one destination after the
 //! other, looks at fewer links, but for many destinations takes several times
 //! as long over them. It serves where only one or two are left.
+//!
+//! A link into a closed node carries only flow to that node. So a search sets
+//! out with all links into its own destination and goes on with links into
+//! open nodes only.
 
 use crate::format::{MOST_LINKS, MOST_NODES};
 use crate::network::{Adjacency, ByLink, ByNode, at_link, at_node};
@@ -46,6 +50,7 @@ impl Label {
         Label(u64::from(time) << 32 | u64::from(node))
     }
 
+    /// The distance or time.
     #[inline(always)]
     fn distance(self) -> i32 {
         (self.0 >> 32) as i32
@@ -96,8 +101,8 @@ impl Times {
     }
 }
 
-/// The nodes with a path to one of the goals, those with the fewest links to
-/// go first.
+/// The nodes with a path to one of the goals, the goals first and then those
+/// with the fewest links to go.
 pub fn nodes_before(goals: &[u8], adjacency: &Adjacency) -> Vec<u8> {
     let mut met = [false; MOST_NODES];
     let mut nodes = Vec::with_capacity(MOST_NODES);
@@ -109,10 +114,16 @@ pub fn nodes_before(goals: &[u8], adjacency: &Adjacency) -> Vec<u8> {
     for &goal in goals {
         meet(goal, &mut nodes);
     }
+    let goal_count = nodes.len();
     let mut done = 0;
     while let Some(&node) = nodes.get(done) {
+        let tails = if done < goal_count {
+            adjacency.into.others_of(node)
+        } else {
+            adjacency.into.open_others_of(node)
+        };
         done += 1;
-        for &tail in adjacency.into.others_of(node) {
+        for &tail in tails {
             meet(tail, &mut nodes);
         }
     }
@@ -123,9 +134,12 @@ pub fn nodes_before(goals: &[u8], adjacency: &Adjacency) -> Vec<u8> {
 pub struct Trees {
     /// The destination of each lane.
     destinations: Vec<u8>,
-    /// The nodes with a path to one of the destinations, near ones first, or
-    /// roughly so: the order matters only to the speed of the search.
+    /// The nodes with a path to one of the destinations: first the open ones,
+    /// near ones before far ones, or roughly so, for the order matters only to
+    /// the speed of the search; then the closed ones.
     nodes: Vec<u8>,
+    /// How many of them are open.
+    open_count: usize,
     /// By node, then by lane.
     distances: ByNode<Lanes>,
     /// By lane, then by node.
@@ -137,8 +151,15 @@ impl Trees {
     /// nearer the destinations are to one another, the faster the search.
     pub fn new(destinations: Vec<u8>, adjacency: &Adjacency) -> Self {
         assert!(destinations.len() <= LANES);
+        let mut nodes = nodes_before(&destinations, adjacency);
+        let mut open_count = nodes.len();
+        if adjacency.has_closed_nodes() {
+            nodes.sort_by_key(|&node| adjacency.is_closed(node));
+            open_count = nodes.partition_point(|&node| !adjacency.is_closed(node));
+        }
         Trees {
-            nodes: nodes_before(&destinations, adjacency),
+            nodes,
+            open_count,
             distances: [[FAR; LANES]; MOST_NODES],
             next_links: vec![[NO_LINK; MOST_NODES]; destinations.len()],
             destinations,
@@ -194,8 +215,9 @@ impl Trees {
 
         let mut nearest = Label::new(0, self.destinations[lane]);
         labels[at_node(nearest.node())] = nearest;
+        let mut links = adjacency.into.range(nearest.node());
         loop {
-            for &link in &times.into[adjacency.into.range(nearest.node())] {
+            for &link in &times.into[links] {
                 let label = nearest.back_over(link);
                 let tail = at_node(link.node());
                 if label < labels[tail] {
@@ -211,6 +233,7 @@ impl Trees {
                 break;
             };
             nearest = least;
+            links = adjacency.into.open_range(nearest.node());
             // The last of the list fills the gap.
             met_count -= 1;
             let last = met[met_count];
@@ -218,8 +241,9 @@ impl Trees {
             met[at_node(gap)] = last;
             place[at_node(last.node())] = gap;
         }
-        for (distances, label) in self.distances.iter_mut().zip(labels) {
-            distances[lane] = label.distance();
+        // All other nodes have no path, and never had a distance.
+        for &node in &self.nodes {
+            self.distances[at_node(node)][lane] = labels[at_node(node)].distance();
         }
     }
 
@@ -231,24 +255,18 @@ impl Trees {
     /// is stale when one of its heads has come nearer since it looked last.
     /// At every moment each distance is that of some path, and in the end
     /// each is the least of what the links offer; as every link takes time,
-    /// only the least times are like that.
+    /// only the least times are like that. Nobody looks at closed nodes, so
+    /// these look only once, when all others have done.
     fn search_all(&mut self, times: &Times, adjacency: &Adjacency) {
         self.sort_nodes();
-        let mut stale = [false; MOST_NODES];
-        self.distances = [[FAR; LANES]; MOST_NODES];
-        for (lane, &destination) in self.destinations.iter().enumerate() {
-            self.distances[at_node(destination)][lane] = 0;
-            for &tail in adjacency.into.others_of(destination) {
-                stale[at_node(tail)] = true;
-            }
-        }
-
+        let mut stale = self.set_out(times, adjacency);
+        let (open_nodes, closed_nodes) = self.nodes.split_at(self.open_count);
         let mut look = |node: u8| -> bool {
             if !std::mem::take(&mut stale[at_node(node)]) {
                 return false;
             }
             let mut least = self.distances[at_node(node)];
-            for leg in &times.out[adjacency.out.range(node)] {
+            for leg in &times.out[adjacency.out.open_range(node)] {
                 let beyond = &self.distances[at_node(leg.head)];
                 for lane in 0..LANES {
                     least[lane] = least[lane].min(beyond[lane] + leg.time);
@@ -257,7 +275,7 @@ impl Trees {
             let nearer = least != self.distances[at_node(node)];
             if nearer {
                 self.distances[at_node(node)] = least;
-                for &tail in adjacency.into.others_of(node) {
+                for &tail in adjacency.into.open_others_of(node) {
                     stale[at_node(tail)] = true;
                 }
             }
@@ -266,22 +284,50 @@ impl Trees {
         // When nothing comes nearer in one sweep, that sweep has seen to all
         // stale nodes and made no new ones.
         loop {
-            let nodes = self.nodes.iter();
+            let nodes = open_nodes.iter();
             if !nodes.fold(false, |any, &node| look(node) | any) {
                 break;
             }
-            let nodes = self.nodes.iter().rev();
+            let nodes = open_nodes.iter().rev();
             if !nodes.fold(false, |any, &node| look(node) | any) {
                 break;
             }
         }
+        for &node in closed_nodes {
+            look(node);
+        }
     }
 
-    /// Sorts the nodes by the distances of the last search, those of the first
-    /// lane. From one search to the next the order changes little, and
+    /// Sets out with all nodes marked unreached but the destinations, and
+    /// tells which nodes are stale.
+    ///
+    /// Nodes look at open heads only. So what the links into a closed
+    /// destination offer, for its own lane, is taken over here.
+    fn set_out(&mut self, times: &Times, adjacency: &Adjacency) -> ByNode<bool> {
+        let into = &adjacency.into;
+        let mut stale = [false; MOST_NODES];
+        self.distances = [[FAR; LANES]; MOST_NODES];
+        for (lane, &destination) in self.destinations.iter().enumerate() {
+            self.distances[at_node(destination)][lane] = 0;
+            for &tail in into.open_others_of(destination) {
+                stale[at_node(tail)] = true;
+            }
+            for link in &times.into[into.closed_range(destination)] {
+                let own = &mut self.distances[at_node(link.node())][lane];
+                *own = link.distance().min(*own);
+                for &tail in into.open_others_of(link.node()) {
+                    stale[at_node(tail)] = true;
+                }
+            }
+        }
+        stale
+    }
+
+    /// Sorts the open nodes by the distances of the last search, those of the
+    /// first lane. From one search to the next the order changes little, and
     /// inserting is the fastest way to put it right.
     fn sort_nodes(&mut self) {
-        for end in 1..self.nodes.len() {
+        for end in 1..self.open_count {
             let node = self.nodes[end];
             let distance = self.distances[at_node(node)][0];
             let mut place = end;
@@ -301,7 +347,7 @@ impl Trees {
     pub fn find_next_links(&mut self, times: &Times, adjacency: &Adjacency) {
         for &node in &self.nodes {
             let own = &self.distances[at_node(node)];
-            let range = adjacency.out.range(node);
+            let range = adjacency.out.open_range(node);
             let legs = times.out[range.clone()].iter();
             let mut lowest = [i32::from(NO_LINK); LANES];
             for (leg, &link) in legs.zip(&adjacency.out.links[range]).rev() {
@@ -314,6 +360,23 @@ impl Trees {
             }
             for (links, link) in self.next_links.iter_mut().zip(lowest) {
                 links[at_node(node)] = link as u16;
+            }
+        }
+        self.find_last_links(times, adjacency);
+    }
+
+    /// Goes on with the links into closed destinations, each for its own lane:
+    /// one that fits is the next link where it has the lowest number so far.
+    fn find_last_links(&mut self, times: &Times, adjacency: &Adjacency) {
+        for (lane, &destination) in self.destinations.iter().enumerate() {
+            let range = adjacency.into.closed_range(destination);
+            let labels = times.into[range.clone()].iter();
+            for (label, &link) in labels.zip(&adjacency.into.links[range]) {
+                let tail = at_node(label.node());
+                if label.distance() == self.distances[tail][lane] {
+                    let lowest = &mut self.next_links[lane][tail];
+                    *lowest = link.min(*lowest);
+                }
             }
         }
     }

@@ -1,25 +1,27 @@
 //! Equilibrium assignment of trips to a road network.
 //!
-//! The second implementation of document 01, the scope, and of request A.1 of
-//! document 02, the page. Its answers are compared with the first
-//! implementation's, call by call, and its speed is the yardstick for the
-//! first one's.
+//! The second implementation of document 01, the scope, and of requests A.1
+//! and A.2 of document 02, the page and the closed nodes. Its answers are
+//! compared with the first implementation's, call by call, and its speed is
+//! the yardstick for the first one's.
 //!
 //! The layers, from the bottom up:
 //!
-//! | module          | what it knows                                         |
-//! |-----------------|-------------------------------------------------------|
-//! | [`questions`]   | the eighteen questions and their numbers              |
-//! | [`mod@format`]  | the bytes of a study file (questions 1 to 5)          |
-//! | [`network`]     | the decoded study (questions 6 to 11), who meets whom |
-//! | [`staircase`]   | a link's time and the area under its staircase        |
-//! | [`tables`]      | lent flow tables (questions 12, 15 and 16)            |
-//! | [`least_times`] | distances and next links to one destination           |
-//! | [`loading`]     | sending trips along next links                        |
-//! | [`assignment`]  | judging a table and moving it                         |
-//! | [`columns`]     | the lines of a page                                   |
-//! | [`calls`]       | the seven public calls                                |
-//! | [`mod@listing`] | what the programs `assign` and `page` print           |
+//! | module          | what it knows                                           |
+//! |-----------------|---------------------------------------------------------|
+//! | [`questions`]   | the twenty questions and their numbers                  |
+//! | [`mod@format`]  | the bytes of a study file (questions 1 to 5), versions  |
+//! | [`network`]     | the decoded study (questions 6 to 11 and 19)            |
+//! | `reach`         | who has a path (question 11)                            |
+//! | `adjacency`     | the links at each node                                  |
+//! | [`staircase`]   | a link's time and the area under its staircase          |
+//! | [`tables`]      | lent flow tables (questions 12, 15, 16 and 20)          |
+//! | [`least_times`] | distances and next links to one destination             |
+//! | [`loading`]     | sending trips along next links                          |
+//! | [`assignment`]  | judging a table and moving it                           |
+//! | [`columns`]     | the lines of a page                                     |
+//! | [`calls`]       | the seven public calls                                  |
+//! | [`mod@listing`] | what the programs `assign` and `page` print             |
 //!
 //! [`draft`], [`cases`] and [`stream`] make studies, lists of calls and
 //! recordings of them for comparison.
@@ -27,6 +29,7 @@
 #![forbid(unsafe_code)]
 #![warn(missing_docs)]
 
+mod adjacency;
 pub mod assignment;
 pub mod calls;
 pub mod cases;
@@ -38,6 +41,7 @@ pub mod listing;
 pub mod loading;
 pub mod network;
 pub mod questions;
+mod reach;
 pub mod staircase;
 pub mod stream;
 pub mod tables;

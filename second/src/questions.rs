@@ -11,12 +11,15 @@ pub const LARGEST_BUDGET: u32 = 1_024;
 pub const LARGEST_TOTAL: u32 = 65_535;
 
 /// A question; used as an error it is the first question answered "no".
+///
+/// They are put in the order of their numbers, but for 19, which comes after
+/// 8, and 20, which comes after 16 and before 18.
 #[derive(Clone, Copy, Debug, PartialEq, Eq)]
 #[repr(u8)]
 pub enum Question {
     /// 1: is the file 32 to 65,536 bytes long?
     FileLength = 1,
-    /// 2: is the version 1?
+    /// 2: is the version one there is?
     Version = 2,
     /// 3: are the three counts within their limits?
     Counts = 3,
@@ -50,6 +53,10 @@ pub enum Question {
     OutputLength = 17,
     /// 18: is the page slice long enough?
     PageLength = 18,
+    /// 19: is each closed byte 0 or 1?
+    ClosedBytes = 19,
+    /// 20: may every link carry the flow it has?
+    Carrying = 20,
 }
 
 impl Question {

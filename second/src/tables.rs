@@ -1,8 +1,8 @@
-//! Lent flow tables: question 12, and questions 15 and 16 for tables that
+//! Lent flow tables: question 12, and questions 15, 16 and 20 for tables that
 //! anybody may have made.
 
 use crate::format::MOST_LINKS;
-use crate::network::{Adjacency, ByLink, Study};
+use crate::network::{Adjacency, ByLink, Study, at_link};
 use crate::questions::Question;
 
 /// Question 12, put to a table's length. Hands back the length in use, p·m.
@@ -55,4 +55,35 @@ pub fn ask_conservation(
                 })
             });
     Question::Conservation.ask(conserves)
+}
+
+/// Question 20, for a table of p·m numbers with these totals by link.
+pub fn ask_carrying(
+    study: &Study,
+    adjacency: &Adjacency,
+    table: &[u32],
+    totals: &ByLink<u32>,
+) -> Result<(), Question> {
+    Question::Carrying.ask(only_permitted(study, adjacency, table, totals))
+}
+
+/// Whether every entry above 0 is on a link that may carry it.
+///
+/// A link into a closed node may carry only flow to that node. As no entry is
+/// below 0, all its other entries are 0 when this one is its whole total.
+fn only_permitted(
+    study: &Study,
+    adjacency: &Adjacency,
+    table: &[u32],
+    totals: &ByLink<u32>,
+) -> bool {
+    study.closed_nodes().all(|node| {
+        let destinations = &study.destinations[..study.destination_count];
+        let position = destinations.binary_search(&node);
+        let row = position.map(|position| &table[position * study.links..][..study.links]);
+        adjacency.into.links_of(node).iter().all(|&link| {
+            let own = row.map_or(0, |row| row[usize::from(link)]);
+            totals[at_link(link)] == own
+        })
+    })
 }

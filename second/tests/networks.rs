@@ -1,6 +1,6 @@
 //! Networks and tables out of the ordinary, and studies at every limit.
 
-use second::draft::{Dice, Draft, DraftLink, Plan, grid};
+use second::draft::{Dice, Draft, DraftLink, Plan, Versioned, grid};
 use second::staircase::Road;
 use second::{FINEST, MOVED, REACHED, SPENT, audit, check, pack, pass, run, start};
 
@@ -252,6 +252,32 @@ fn the_fullest_table() {
     assert_eq!(audit(&file, &table, 1_024).refusal, 16);
 }
 
+/// Sums of flows that are wrong by 2³² are wrong, with few destinations and
+/// with many.
+#[test]
+fn sums_beyond_32_bits() {
+    let most = 1_024 * 65_535_u32;
+    for count in 2..=32 {
+        let last = usize::from(count - 1);
+        let mut trips = vec![vec![0; usize::from(count)]; usize::from(count)];
+        trips[last][0] = 65_535;
+        let draft = Draft {
+            nodes: count,
+            links: vec![[0, count - 1, 3, 3, 900]; 66],
+            destinations: (0..count).collect(),
+            trips,
+        };
+        let file = draft.file();
+        let mut table = vec![0; draft.table_length()];
+        table[66 * last] = most;
+        assert_eq!(audit(&file, &table, 1_024).refusal, 0);
+        // All links as full as they may be, but for what makes it 2³² too much.
+        table[66 * last..].fill(most);
+        table[66 * last] -= (65 * u64::from(most) - (1 << 32)) as u32;
+        assert_eq!(audit(&file, &table, 1_024).refusal, 16);
+    }
+}
+
 /// A line of 127 links at the highest times: the largest distances.
 #[test]
 fn the_longest_way() {
@@ -350,14 +376,265 @@ fn studies_at_the_limits() {
     assert_eq!(check(&other.file()), 3);
 }
 
+/// The table that a start makes where these nodes are closed.
+fn started_closing(draft: &Draft, nodes: &[u16]) -> Vec<u32> {
+    let mut table = vec![u32::MAX; draft.table_length()];
+    assert_eq!(start(&draft.clone().closing(nodes).file(), &mut table), 0);
+    table
+}
+
+#[test]
+fn a_forbidden_link_that_would_fit() {
+    // From 0 to 3 by 1 or by 2, both 10: link 0 leads by 1.
+    let links = [
+        [0, 1, 5, 0, 1],
+        [0, 2, 5, 0, 1],
+        [1, 3, 5, 0, 1],
+        [2, 3, 5, 0, 1],
+    ];
+    let draft = draft(4, &links, &[3], &[&[6, 1, 0, 0]]);
+    assert_eq!(started(&draft), [6, 0, 7, 0]);
+    assert_eq!(started_closing(&draft, &[]), [6, 0, 7, 0]);
+    assert_eq!(started_closing(&draft, &[0, 3]), [6, 0, 7, 0]);
+    assert_eq!(started_closing(&draft, &[1]), [0, 6, 1, 6]);
+    assert_eq!(started_closing(&draft, &[2]), [6, 0, 7, 0]);
+    let stuck = draft.clone().closing(&[1, 2]);
+    assert_eq!(check(&stuck.file()), 11);
+    // A shorter way through the closed node makes no difference.
+    let mut shorter = draft;
+    shorter.links[0][2] = 1;
+    assert_eq!(started_closing(&shorter, &[1]), [0, 6, 1, 6]);
+    let answer = audit(&shorter.closing(&[1]).file(), &[0, 6, 1, 6], 1);
+    assert_eq!((answer.refusal, answer.gap), (0, 0));
+}
+
+/// A closed destination has next links into it as an open one has, with one
+/// destination searched alone and with many side by side.
+#[test]
+fn ties_at_a_closed_destination() {
+    let straight: DraftLink = [0, 2, 10, 0, 1];
+    let by_1: [DraftLink; 2] = [[0, 1, 4, 0, 1], [1, 2, 6, 0, 1]];
+    let back: DraftLink = [2, 0, 3, 0, 1];
+    for (links, first) in [
+        ([straight, by_1[0], by_1[1], back], 0),
+        ([by_1[0], straight, by_1[1], back], 0),
+        ([by_1[1], by_1[0], straight, back], 1),
+        ([by_1[1], straight, by_1[0], back], 1),
+    ] {
+        for others in 0..9 {
+            // More nodes, each with a link from 2 and one to it, and with
+            // trips from 2.
+            let mut study = draft(3 + others, &links, &[2], &[&[5, 0, 0]]);
+            study.trips[0].resize(3 + usize::from(others), 0);
+            for node in 3..3 + others {
+                study.links.push([2, node, 1, 0, 1]);
+                study.links.push([node, 2, 1, 0, 1]);
+                study.destinations.push(node);
+                let mut trips = vec![0; 3 + usize::from(others)];
+                trips[2] = 1;
+                study.trips.push(trips);
+            }
+            let all: Vec<u16> = (2..3 + others).collect();
+            for nodes in [[].as_slice(), &[2], &[0, 2], &all] {
+                let table = started_closing(&study, nodes);
+                assert_eq!(table[first], 5, "{links:?} {others} {nodes:?}");
+                assert_eq!(audit(&study.file(), &table, 1).gap, 0);
+            }
+            // With 1 closed there is only the straight way.
+            let straight = links.iter().position(|link| *link == straight);
+            assert_eq!(started_closing(&study, &[1])[straight.unwrap()], 5);
+        }
+    }
+}
+
+#[test]
+fn closed_destinations_are_not_passed_through() {
+    // To 2 by 1, or round by 3; 1 is a destination itself.
+    let links = [
+        [0, 1, 3, 1, 1],
+        [1, 2, 3, 1, 1],
+        [0, 3, 9, 1, 1],
+        [3, 2, 9, 1, 1],
+        [2, 0, 1, 1, 1],
+    ];
+    let draft = draft(4, &links, &[1, 2], &[&[4, 0, 1, 0], &[5, 2, 0, 0]]);
+    assert_eq!(started(&draft), [5, 0, 0, 0, 1, 5, 7, 0, 0, 0]);
+    let round = [5, 0, 0, 0, 1, 0, 2, 5, 5, 0];
+    assert_eq!(started_closing(&draft, &[1]), round);
+    assert_eq!(started_closing(&draft, &[1, 2]), round);
+    // From 2 to 1 they pass 0.
+    assert_eq!(check(&draft.closing(&[0, 1]).file()), 11);
+}
+
+/// The question is asked of each destination's flow, not of the total.
+#[test]
+fn flow_into_a_closed_node_by_destination() {
+    let links = [
+        [0, 1, 10, 0, 1],
+        [1, 2, 10, 0, 1],
+        [0, 2, 10, 0, 1],
+        [2, 1, 10, 0, 1],
+    ];
+    let draft = draft(3, &links, &[1, 2], &[&[3, 0, 0], &[3, 0, 0]]);
+    let file = draft.closing(&[1]).file();
+    // The total on link 0, into the closed node, is the same in both.
+    let apart = [3, 0, 0, 0, 0, 0, 3, 0];
+    let through = [0, 0, 3, 3, 3, 3, 0, 0];
+    assert_eq!(audit(&file, &apart, 1).refusal, 0);
+    assert_eq!(audit(&file, &through, 1).refusal, 20);
+    // To 1 by 2 is permitted, and so is to leave 1 and come back.
+    assert_eq!(audit(&file, &[0, 0, 3, 3, 0, 0, 3, 0], 1).refusal, 0);
+    assert_eq!(audit(&file, &[3, 2, 0, 2, 0, 0, 3, 0], 1).refusal, 0);
+    assert_eq!(audit(&file, &[3, 0, 0, 0, 0, 2, 3, 2], 1).refusal, 20);
+}
+
+#[test]
+fn a_closed_node_sends_and_receives() {
+    // A line 0 1 2 with all nodes closed: only neighbours have paths.
+    let links = [
+        [0, 1, 2, 2, 2],
+        [1, 2, 2, 2, 2],
+        [2, 1, 2, 2, 2],
+        [1, 0, 2, 2, 2],
+    ];
+    let near = draft(3, &links, &[0, 1, 2], &[&[0, 1, 0], &[3, 0, 5], &[0, 2, 0]]);
+    let table = started_closing(&near, &[0, 1, 2]);
+    assert_eq!(table, [0, 0, 0, 1, 3, 0, 5, 0, 0, 2, 0, 0]);
+    for (position, node) in [(0, 2), (2, 0)] {
+        let mut far = near.clone();
+        far.trips[position][node] = 1;
+        assert_eq!(check(&far.clone().closing(&[0, 2]).file()), 0);
+        assert_eq!(check(&far.closing(&[1]).file()), 11);
+    }
+}
+
+/// A node that has a path only through closed nodes has no distance, and flow
+/// for it may circulate where heads are open.
+#[test]
+fn nodes_behind_a_closed_node() {
+    // 2 and 3 go round by themselves; their only way to 0 leads by 1.
+    let links = [
+        [1, 0, 3, 1, 1],
+        [2, 1, 2, 8, 1],
+        [2, 3, 2, 8, 1],
+        [3, 2, 2, 8, 1],
+    ];
+    let study = draft(4, &links, &[0], &[&[0, 4, 0, 0]]).closing(&[1]);
+    let file = study.file();
+    assert_eq!(audit(&file, &[4, 0, 0, 0], 1).gap, 0);
+    let road = Road {
+        free: 2,
+        rise: 8,
+        capacity: 1,
+    };
+    let round = audit(&file, &[4, 0, 3, 3], 1);
+    assert_eq!(round.gap, 2 * 3 * u64::from(road.time(3, 1)));
+    let mut table = [4, 0, 3, 3];
+    assert_eq!(pass(&file, &mut table, 1).outcome, MOVED);
+    assert_eq!(table[1], 0);
+}
+
+/// Zones beside the streets, and street grids with nodes closed: nobody drives
+/// through a closed node, and closing nodes never shortens a way.
+#[test]
+fn zones() {
+    let mut dice = Dice::new(5);
+    for turn in 0..40 {
+        let links = grid(&mut dice, 5, 4, 512, 90, 40);
+        let plan = Plan {
+            nodes: (2, 2),
+            links: (1, 1),
+            destinations: dice.between(1, 12),
+            time: 90,
+            capacity: 40,
+            trips: 20,
+            tenths: 7,
+        };
+        let study: Versioned = if turn % 2 == 0 {
+            plan.with_zones(&mut dice, 20, 12, links)
+        } else {
+            let draft = plan.with_links(&mut dice, 20, links);
+            draft.closing_some(&mut dice, 2)
+        };
+        let (file, links) = (study.file(), study.draft.links.len());
+        let mut table = vec![1; study.draft.table_length()];
+        let answer = run(&file, &mut table, 30, 0);
+        assert_eq!(answer.refusal, 0);
+        for (place, &flow) in table.iter().enumerate() {
+            let destination = study.draft.destinations[place / links];
+            assert!(flow == 0 || study.may_carry(place % links, destination));
+        }
+        // With all nodes open the same table is no nearer to its least.
+        let open = audit(&study.draft.file(), &table, answer.share);
+        assert_eq!((open.refusal, open.cost), (0, answer.cost));
+        assert!(open.gap >= answer.gap);
+        // Nor does one that wanders by permitted links.
+        let wandering = study.wandering_table(&mut dice, 9);
+        assert!(matches!(audit(&file, &wandering, 9).refusal, 0 | 15));
+    }
+}
+
+/// Studies of version 2 with each count at its limit.
+#[test]
+fn closed_nodes_at_the_limits() {
+    let mut dice = Dice::new(6);
+    for (nodes, links, destinations, tenths) in [
+        (128, 512, 32, 1),
+        (128, 512, 32, 0),
+        (128, 512, 32, 10),
+        (128, 512, 1, 2),
+        (65, 400, 32, 3),
+        (64, 400, 9, 3),
+        (2, 512, 2, 10),
+        (2, 1, 1, 10),
+    ] {
+        let plan = Plan {
+            nodes: (nodes, nodes),
+            links: (links, links),
+            destinations,
+            time: 900,
+            capacity: 50,
+            trips: 12,
+            tenths: 8,
+        };
+        let mut draft = plan.draft(&mut dice);
+        while (draft.destinations.len() as u64) < destinations {
+            draft = plan.with_links(&mut dice, nodes as u16, draft.links);
+        }
+        let study = draft.closing_some(&mut dice, tenths);
+        let file = study.file();
+        assert_eq!(check(&file), 0);
+        let mut output = vec![1; file.len() + 1];
+        assert_eq!(pack(&file, &mut output[..file.len() - 1]), 17);
+        assert_eq!(pack(&file, &mut output), 0);
+        assert_eq!(output[..file.len()], file);
+        assert_eq!(output[file.len()], 1);
+
+        let length = study.draft.table_length();
+        let mut table = vec![7; length + 1];
+        assert_eq!(start(&file, &mut table[..length - 1]), 12);
+        let answer = run(&file, &mut table, 40, 0);
+        assert_eq!((answer.refusal, table[length]), (0, 7));
+        let audited = audit(&file, &table, answer.share);
+        assert_eq!(
+            (audited.refusal, audited.gap, audited.cost),
+            (0, answer.gap, answer.cost)
+        );
+    }
+}
+
 /// A run is a start and passes, as many as it says, and 'spent' cannot occur
 /// with the largest budget.
 #[test]
 fn a_run_is_a_start_and_passes() {
     let mut dice = Dice::new(4);
-    for _ in 0..400 {
+    for turn in 0..600 {
         let draft = Plan::small(&mut dice).draft(&mut dice);
-        let file = draft.file();
+        let study = match turn % 3 {
+            0 => draft.closing_some(&mut dice, 2),
+            _ => Versioned::from(draft),
+        };
+        let (draft, file) = (&study.draft, study.file());
         let budget = dice.pick(&[1, 2, 5, 20, 1_024]);
         let excess = dice.pick(&[0, 0, 2, 90]);
         let mut table = vec![6; draft.table_length() + 1];

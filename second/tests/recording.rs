@@ -2,6 +2,7 @@
 
 use std::collections::HashSet;
 
+use second::network::Study;
 use second::stream::{
     Call, Kind, Lent, Player, Reply, Second, answers, digest, read_calls, write_calls,
 };
@@ -17,25 +18,58 @@ fn the_list_is_long_and_the_stream_short() {
 /// Calls before the first ones that were made for pages.
 const WITHOUT_PAGES: usize = 4_013;
 
-/// The list is the same every time and everywhere.
+/// Calls before the first ones that were made for version 2.
+const WITHOUT_CLOSED_NODES: usize = 4_509;
+
+/// The list is the same every time and everywhere, and begins with what it was
+/// before there were pages, and before there were closed nodes.
 #[test]
 fn the_list_stays_the_same() {
     let calls = cases::all();
-    // First those without pages, as they were before there were any.
     let first_page = calls.iter().position(|call| call.kind == Kind::Page);
     assert_eq!(first_page, Some(WITHOUT_PAGES + 1));
-    for (calls, stream, lines) in [
+    for (count, stream, lines) in [
+        (WITHOUT_PAGES, 0xD928_78A1_C5BC_FF7D, 0x3EDF_99DB_4BE3_4612),
         (
-            &calls[..WITHOUT_PAGES],
-            0xD928_78A1_C5BC_FF7D,
-            0xF54C_547B_3317_B1A2,
+            WITHOUT_CLOSED_NODES,
+            0x6153_11DF_0DB6_1548,
+            0xE73C_6274_6DAF_CC73,
         ),
-        (&calls[..], 0x6153_11DF_0DB6_1548, 0x68C3_3E75_690D_4835),
+        (calls.len(), 0x4CF5_E60D_F0D2_0DCD, 0xFD51_74B0_5329_7677),
     ] {
+        let calls = &calls[..count];
         let answered = answers(&Second, calls);
-        assert_eq!(digest(write_calls(calls)), stream);
-        assert_eq!(digest(answered.into_bytes()), lines);
+        assert_eq!(digest(write_calls(calls)), stream, "{count}");
+        assert_eq!(digest(answered.into_bytes()), lines, "{count}");
     }
+}
+
+/// A file of version 1 that calls itself version 2 was refused 2 before there
+/// was a version 2, and is refused 4 since: its sections begin too early. That
+/// is all that has changed in the answers.
+#[test]
+fn answers_that_changed_with_version_2() {
+    let calls = &cases::all()[..WITHOUT_CLOSED_NODES];
+    let mut player = Player::default();
+    let mut changed = Vec::new();
+    for (place, call) in calls.iter().enumerate() {
+        let reply = player.play(&Second, call);
+        if player.file.starts_with(&[2, 0]) && player.file.len() >= 32 {
+            assert_eq!(reply.refusal(), 4);
+            changed.push(place);
+        }
+    }
+    assert_eq!(changed, [264, 265, 266, 267, 268, 269, 4_111]);
+
+    let mut before = String::new();
+    for (place, line) in answers(&Second, calls).lines().enumerate() {
+        before += &match changed.contains(&place) {
+            true => line.replacen(" 4 ", " 2 ", 1),
+            false => line.to_string(),
+        };
+        before.push('\n');
+    }
+    assert_eq!(digest(before.into_bytes()), 0x68C3_3E75_690D_4835);
 }
 
 #[test]
@@ -186,12 +220,12 @@ fn the_list_has_everything() {
         (Kind::Check, [].as_slice()),
         (Kind::Pack, &[17]),
         (Kind::Start, &[12]),
-        (Kind::Pass, &[12, 14, 15, 16]),
+        (Kind::Pass, &[12, 14, 15, 16, 20]),
         (Kind::Run, &[12, 13]),
-        (Kind::Audit, &[12, 14, 15, 16]),
-        (Kind::Page, &[12, 14, 15, 16, 18]),
+        (Kind::Audit, &[12, 14, 15, 16, 20]),
+        (Kind::Page, &[12, 14, 15, 16, 20, 18]),
     ] {
-        for number in (0..=11).chain(more.iter().copied()) {
+        for number in (0..=11).chain([19]).chain(more.iter().copied()) {
             assert!(
                 refusals.contains(&(kind.word(), number)),
                 "{kind:?} {number}"
@@ -202,4 +236,37 @@ fn the_list_has_everything() {
     assert!(endings.iter().all(|&count| count >= 20), "{endings:?}");
     assert!(doubled > 0 && longest > 100, "{doubled} {longest}");
     assert!(dearest > i64::MAX as u64);
+}
+
+/// Every call on studies with closed nodes, every outcome and every ending.
+#[test]
+fn the_list_has_closed_nodes() {
+    let mut player = Player::default();
+    let mut accepted: HashSet<&str> = HashSet::new();
+    let (mut outcomes, mut endings, mut longest) = ([0; 3], [0; 4], 0);
+    for call in cases::all() {
+        let reply = player.play(&Second, &call);
+        let closed = Study::read(&player.file).is_ok_and(|study| study.closed != 0);
+        if !closed {
+            continue;
+        }
+        if reply.refusal() == 0 {
+            accepted.insert(call.kind.word());
+        }
+        match reply {
+            Reply::Pass(answer) => outcomes[usize::from(answer.outcome)] += 1,
+            Reply::Run(answer) => {
+                endings[usize::from(answer.ending)] += 1;
+                longest = longest.max(answer.judged);
+            }
+            _ => {}
+        }
+    }
+    assert_eq!(accepted.len(), Kind::ALL.len());
+    assert!(outcomes.iter().all(|&count| count >= 3), "{outcomes:?}");
+    assert!(
+        endings.iter().skip(1).all(|&count| count >= 3),
+        "{endings:?}"
+    );
+    assert!(longest > 50, "{longest}");
 }

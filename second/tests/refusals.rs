@@ -1,6 +1,6 @@
 //! Every question at its boundary, by every call that puts it.
 
-use second::draft::{Draft, DraftLink};
+use second::draft::{Draft, DraftLink, Versioned};
 use second::{AuditAnswer, PassAnswer, RunAnswer, audit, check, pack, page, pass, run, start};
 
 /// A small acceptable study.
@@ -17,6 +17,18 @@ fn sample_with(change: impl FnOnce(&mut Draft)) -> Vec<u8> {
     let mut draft = sample();
     change(&mut draft);
     draft.file()
+}
+
+/// The same in version 2. The links form a ring, and node 2 is closed: from
+/// there everybody still gets everywhere, and nobody needs to pass it.
+fn closed_sample() -> Versioned {
+    sample().closing(&[2])
+}
+
+fn closed_sample_with(change: impl FnOnce(&mut Versioned)) -> Vec<u8> {
+    let mut study = closed_sample();
+    change(&mut study);
+    study.file()
 }
 
 /// All calls refuse with this number and change nothing, whatever comes after
@@ -90,8 +102,8 @@ fn with_u32(file: &[u8], place: usize, number: u32) -> Vec<u8> {
     file
 }
 
-/// The file with these three pairs of offset and length.
-fn with_pairs(file: &[u8], pairs: [(u32, u32); 3]) -> Vec<u8> {
+/// The file with these pairs of offset and length.
+fn with_pairs<const N: usize>(file: &[u8], pairs: [(u32, u32); N]) -> Vec<u8> {
     let mut file = file.to_vec();
     for (section, (offset, length)) in pairs.into_iter().enumerate() {
         file = with_u32(&file, 8 + 8 * section, offset);
@@ -122,12 +134,24 @@ fn question_1_length_of_the_file() {
 #[test]
 fn question_2_version() {
     let file = sample().file();
-    for version in [0, 2, 3, 256, 257, 65_535] {
+    let closed = closed_sample().file();
+    for version in [0, 3, 4, 255, 256, 257, 258, 512, 513, 65_535] {
         refused(&with_u16(&file, 0, version), 2);
+        refused(&with_u16(&closed, 0, version), 2);
     }
     // Even where nothing else is right.
-    refused(&with_u16(&[0xFF; 32], 0, 2), 2);
+    for version in [0, 3, 4, 65_535] {
+        refused(&with_u16(&[0xFF; 32], 0, version), 2);
+    }
     refused(&with_u16(&[0xFF; 32], 0, 1), 3);
+    refused(&with_u16(&[0xFF; 32], 0, 2), 3);
+    // The sections of version 1 begin too early for version 2; those of
+    // version 2 are right for version 1, which does not read the fourth.
+    refused(&with_u16(&file, 0, 2), 4);
+    accepted(&with_u16(&closed, 0, 1));
+    let odd = closed_sample_with(|study| study.closed = Some(vec![9; 3]));
+    refused(&odd, 19);
+    accepted(&with_u16(&odd, 0, 1));
 }
 
 #[test]
@@ -595,6 +619,276 @@ fn question_18_page() {
     assert_eq!(start(&full, &mut table), 0);
     for (length, number) in [(15_359, 18), (15_360, 0), (15_361, 0)] {
         assert_eq!(page(&full, &table, 1, &mut vec![0xCC; length]), number);
+    }
+}
+
+/// Questions 1 to 5 for files too short for the header of version 2.
+#[test]
+fn short_files_of_version_2() {
+    let file = closed_sample().file();
+    for length in 0..32 {
+        refused(&file[..length], 1);
+    }
+    for length in 32..file.len() {
+        refused(&file[..length], 4);
+    }
+    accepted(&file);
+    // Question 3 comes before 4, and question 2 before both.
+    for length in [32, 36, 39, 40] {
+        refused(&with_u16(&file, 2, 1)[..length], 3);
+        refused(&with_u16(&file, 4, 0)[..length], 3);
+        refused(&with_u16(&file, 6, 4)[..length], 3);
+        refused(&with_u16(&file, 0, 3)[..length], 2);
+        refused(&with_u16(&file, 0, 4)[..length], 2);
+    }
+    // A file of 39 bytes whose pairs, as far as there are any, are right.
+    let header = with_pairs(&file[..40], [(40, 0); 4]);
+    refused(&header, 5);
+    refused(&header[..39], 4);
+    refused(
+        &with_pairs(&header, [(39, 0), (40, 0), (40, 0), (40, 0)]),
+        4,
+    );
+    refused(
+        &with_pairs(&header, [(40, 0), (40, 0), (40, 0), (41, 0)]),
+        4,
+    );
+}
+
+#[test]
+fn question_4_order_of_four_sections() {
+    let study = closed_sample();
+    let file = study.file();
+    let close = [(40, 30), (70, 4), (74, 12), (86, 3)];
+    assert_eq!(file, with_pairs(&file, close));
+    assert_eq!(file.len(), 89);
+    for offset in [39, 32, 31, 1, 0] {
+        refused(&with_u32(&file, 8, offset), 4);
+    }
+    for place in (8..40).step_by(4) {
+        let here = u32::from_le_bytes(file[place..place + 4].try_into().unwrap());
+        refused(&with_u32(&file, place, here + 1), 4);
+        for number in [0x7FFF_FFFF, 0x8000_0000, u32::MAX - 39, u32::MAX] {
+            refused(&with_u32(&file, place, number), 4);
+        }
+    }
+    for (place, number) in [(16, 69), (24, 73), (32, 85), (32, 0), (32, 40)] {
+        refused(&with_u32(&file, place, number), 4);
+    }
+    // Each two sections in each other's place, in header and file.
+    for first in 0..4 {
+        for second in 0..first {
+            let mut pairs = close;
+            pairs.swap(first, second);
+            refused(&with_pairs(&file, pairs), 4);
+        }
+    }
+    let closed_first = [&file[..40], &file[86..], &file[40..86]].concat();
+    let pairs = [(43, 30), (73, 4), (77, 12), (40, 3)];
+    refused(&with_pairs(&closed_first, pairs), 4);
+    // Gaps, which are not read.
+    for place in 0..5 {
+        for length in [1, 2, 8, 1_000] {
+            let bytes = vec![0xFF; length];
+            let mut gaps: [&[u8]; 5] = [&[]; 5];
+            gaps[place] = &bytes;
+            let file = study.file_with_gaps(&gaps);
+            assert_eq!(file.len(), 89 + length);
+            accepted(&file);
+            refused(&file[..88], 4);
+        }
+    }
+    // The closed bytes end with the longest file, or one byte behind it.
+    let gap = vec![0; 65_536 - 89];
+    let full = study.file_with_gaps(&[&[], &[], &[], &gap]);
+    assert_eq!(full.len(), 65_536);
+    accepted(&full);
+    refused(&full[..65_535], 4);
+}
+
+#[test]
+fn question_5_fourth_length() {
+    let gap: &[u8] = &[0; 8];
+    let file = closed_sample().file_with_gaps(&[gap; 5]);
+    accepted(&file);
+    for (section, here) in [30, 4, 12, 3].into_iter().enumerate() {
+        let place = 12 + 8 * section;
+        for length in [here - 1, here + 1, 0, here + 8] {
+            refused(&with_u32(&file, place, length), 5);
+        }
+        refused(&with_u32(&file, place, here + 9), 4);
+    }
+    // Another number of nodes, with the trips of that number.
+    let mut study = closed_sample();
+    study.closed = Some(vec![0; 4]);
+    refused(&study.file(), 5);
+    study.closed = Some(vec![0; 2]);
+    refused(&study.file(), 5);
+    study.closed = Some(vec![]);
+    refused(&study.file(), 5);
+}
+
+#[test]
+fn question_19_closed_bytes() {
+    for node in 0..3 {
+        for byte in [2, 3, 128, 129, 254, 255] {
+            let closed = |study: &mut Versioned| {
+                study.closed = Some(vec![0; 3]);
+                study.closed.as_mut().unwrap()[node] = byte;
+            };
+            refused(&closed_sample_with(closed), 19);
+        }
+    }
+    for bytes in [vec![0; 3], vec![0, 0, 1]] {
+        accepted(&closed_sample_with(|study| study.closed = Some(bytes)));
+    }
+    // The last of all nodes.
+    let mut full = Draft {
+        nodes: 128,
+        links: vec![[0, 127, 1, 0, 1]],
+        destinations: vec![127],
+        trips: vec![vec![0; 128]],
+    }
+    .closing(&[63, 64, 127]);
+    accepted(&full.file());
+    for node in [0, 62, 63, 64, 65, 126, 127] {
+        let mut other = full.clone();
+        other.closed.as_mut().unwrap()[node] += 2;
+        refused(&other.file(), 19);
+    }
+    full.draft.trips[0][0] = 5;
+    accepted(&full.file());
+}
+
+#[test]
+fn question_11_paths_and_closed_nodes() {
+    // From 2 to 1 they pass 0, from 0 to 2 they pass 1.
+    let closing = |nodes: &[u16]| sample().closing(nodes).file();
+    accepted(&closing(&[]));
+    accepted(&closing(&[2]));
+    for nodes in [[0].as_slice(), &[1], &[0, 1], &[0, 2], &[1, 2], &[0, 1, 2]] {
+        refused(&closing(nodes), 11);
+    }
+    // Without these trips there is nothing to refuse.
+    let fewer = |trips: [[u16; 3]; 2], nodes: &[u16]| {
+        let mut draft = sample();
+        draft.trips = trips.map(Vec::from).to_vec();
+        draft.closing(nodes).file()
+    };
+    accepted(&fewer([[3, 0, 0], [4, 5, 0]], &[0]));
+    accepted(&fewer([[3, 0, 2], [0, 5, 0]], &[1]));
+    accepted(&fewer([[3, 0, 0], [0, 5, 0]], &[0, 1, 2]));
+    refused(&fewer([[3, 0, 1], [0, 5, 0]], &[0, 1, 2]), 11);
+    refused(&fewer([[3, 0, 0], [1, 5, 0]], &[0, 1, 2]), 11);
+}
+
+/// Flow to `row`'s destination once round the ring, on top of the start.
+fn round_the_ring(file: &[u8], row: usize, amount: u32) -> Vec<u32> {
+    let mut table = vec![0; 6];
+    assert_eq!(start(file, &mut table), 0);
+    for link in 0..3 {
+        table[3 * row + link] += amount;
+    }
+    table
+}
+
+#[test]
+fn question_20_flow_that_a_link_may_not_carry() {
+    let mut draft = sample();
+    draft.links.iter_mut().for_each(|link| link[4] = 9);
+    let open = draft.file();
+    let file = draft.closing(&[2]).file();
+    // To 1 the ring passes the closed node; to 2 it ends there, leaves it and
+    // comes back.
+    for (row, number) in [(0, 20), (1, 0)] {
+        let table = round_the_ring(&file, row, 1);
+        assert_eq!(audit(&open, &table, 1).refusal, 0);
+        assert_eq!(audit(&file, &table, 1).refusal, number);
+        let mut after = table.clone();
+        let answer = pass(&file, &mut after, 1);
+        assert_eq!(answer.refusal, number);
+        if number == 20 {
+            let expected = PassAnswer {
+                refusal: 20,
+                ..PassAnswer::default()
+            };
+            assert_eq!(answer, expected);
+            assert_eq!(after, table);
+            page_refused(&file, &table, 1, 20);
+        }
+    }
+    // Before it come 12, 14, 15 and 16.
+    let table = round_the_ring(&file, 0, 1);
+    for share in [0, 1_025] {
+        assert_eq!(audit(&file, &table, share).refusal, 14);
+        page_refused(&file, &table, share, 14);
+    }
+    assert_eq!(audit(&file, &table[..5], 1).refusal, 12);
+    assert_eq!(audit(&file, &table, 2).refusal, 16);
+    let many = round_the_ring(&file, 0, 15);
+    assert_eq!(audit(&file, &many, 1).refusal, 15);
+    page_refused(&file, &many, 1, 15);
+    // Only the first numbers count.
+    let longer = [round_the_ring(&file, 1, 1), vec![u32::MAX; 3]].concat();
+    assert_eq!(audit(&file, &longer, 1).refusal, 0);
+    // Start and run do not put the question.
+    assert_eq!(start(&file, &mut table.clone()), 0);
+    assert_eq!(run(&file, &mut table.clone(), 4, 0).refusal, 0);
+}
+
+#[test]
+fn question_17_output_of_version_2() {
+    let study = closed_sample();
+    for gaps in [[0; 5], [1, 2, 3, 4, 5], [0, 0, 0, 0, 500]] {
+        let bytes = gaps.map(|length| vec![6; length]);
+        let file = study.file_with_gaps(&bytes.each_ref().map(Vec::as_slice));
+        for length in [0, 1, 78, 86, 88] {
+            let mut output = vec![0xCC; length];
+            assert_eq!(pack(&file, &mut output), 17);
+            assert_eq!(output, vec![0xCC; length]);
+        }
+        for length in [89, 90, 5_000] {
+            let mut output = vec![0xCC; length];
+            assert_eq!(pack(&file, &mut output), 0);
+            assert_eq!(output[..89], study.file());
+            assert!(output[89..].iter().all(|&byte| byte == 0xCC));
+        }
+    }
+}
+
+/// With faults for several questions at once, the first one counts; 19 comes
+/// between 8 and 9.
+#[test]
+fn the_first_question_counts_in_version_2() {
+    type Fault = (u8, fn(&mut Versioned));
+    let faults: [Fault; 8] = [
+        (3, |study| study.draft.nodes = 200),
+        (6, |study| study.draft.links.push([0, 0, 1, 1, 1])),
+        (7, |study| study.draft.links.insert(0, [0, 1, 0, 1, 1])),
+        (8, |study| study.draft.destinations.reverse()),
+        (19, |study| study.closed = Some(vec![0, 2, 1])),
+        (9, |study| {
+            study.draft.trips[0][1] = 1;
+            study.draft.trips[0][2] = 1;
+            study.draft.trips[1][1] = 1;
+        }),
+        (10, |study| study.draft.trips[0][0] = 65_535),
+        (11, |study| {
+            let closed = study.closed.as_mut().unwrap();
+            closed[0] |= 1;
+            closed[1] |= 1;
+        }),
+    ];
+    for first in 0..faults.len() {
+        for second in first..faults.len() {
+            let file = closed_sample_with(|study| {
+                faults[first].1(study);
+                if first != second {
+                    faults[second].1(study);
+                }
+            });
+            refused(&file, faults[first].0);
+        }
     }
 }
 

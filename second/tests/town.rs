@@ -1,4 +1,4 @@
-//! The cases of the town of two roads.
+//! The cases of the town of two roads, and of a town with a zone in the middle.
 
 use second::draft::Draft;
 use second::staircase::Road;
@@ -506,4 +506,183 @@ fn refused_pages_of_a_run() {
     assert_eq!(page_listed(&input(0, 0, &[0; 40])), "refused 2\n");
     let own = town_with(|draft| draft.trips[0] = vec![0, 1]);
     assert_eq!(page_listed(&input(0, 0, &own)), "refused 9\n");
+}
+
+/// From 0 to 2 by the zone 1, which takes 10, or round it, which takes 15; the
+/// zone has a trip of its own.
+fn middle() -> Draft {
+    Draft {
+        nodes: 3,
+        links: vec![[0, 1, 5, 0, 1], [1, 2, 5, 0, 1], [0, 2, 15, 0, 1]],
+        destinations: vec![2],
+        trips: vec![vec![2, 1, 0]],
+    }
+}
+
+/// The zone open in version 1, open in version 2 and closed.
+fn middles() -> [Vec<u8>; 3] {
+    [
+        middle().file(),
+        middle().closing(&[]).file(),
+        middle().closing(&[1]).file(),
+    ]
+}
+
+#[test]
+fn the_file_of_version_2() {
+    let file = middle().closing(&[1]).file();
+    assert_eq!(file.len(), 81);
+    #[rustfmt::skip]
+    let header = [
+        2, 0, 3, 0, 3, 0, 1, 0,
+        40, 0, 0, 0, 30, 0, 0, 0,
+        70, 0, 0, 0, 2, 0, 0, 0,
+        72, 0, 0, 0, 6, 0, 0, 0,
+        78, 0, 0, 0, 3, 0, 0, 0,
+    ];
+    assert_eq!(file[..40], header);
+    assert_eq!(file[40..78], middle().file()[32..]);
+    assert_eq!(file[78..], [0, 1, 0]);
+    assert_eq!(check(&file), 0);
+}
+
+#[test]
+fn through_the_zone_or_round_it() {
+    let starts = middles().map(|file| {
+        let mut table = [9; 4];
+        assert_eq!(start(&file, &mut table), 0);
+        table
+    });
+    assert_eq!(starts, [[2, 3, 0, 9], [2, 3, 0, 9], [0, 1, 2, 9]]);
+}
+
+#[test]
+fn gap_and_cost_of_both() {
+    // Times are 5, 5 and 15 at every flow. Through the zone 2·5 + 3·5 are
+    // spent, round it 5 + 2·15.
+    let through = |gap| AuditAnswer {
+        refusal: 0,
+        gap,
+        cost: 64 * 25,
+    };
+    let round = |gap| AuditAnswer {
+        refusal: 0,
+        gap,
+        cost: 64 * 35,
+    };
+    let refused = AuditAnswer {
+        refusal: 20,
+        ..AuditAnswer::default()
+    };
+    let [first, open, closed] = middles();
+    for file in [first, open] {
+        assert_eq!(audit(&file, &[2, 3, 0], 1), through(0));
+        assert_eq!(audit(&file, &[0, 1, 2], 1), round(10));
+    }
+    // Where the zone is closed, to go round it is the least there is.
+    assert_eq!(audit(&closed, &[2, 3, 0], 1), refused);
+    assert_eq!(audit(&closed, &[0, 1, 2], 1), round(0));
+}
+
+#[test]
+fn flow_through_the_zone_is_refused() {
+    let closed = &middles()[2];
+    for (table, share, number) in [
+        ([2, 3, 0], 1, 20),
+        ([1, 2, 1], 1, 20),
+        ([1, 10, 17], 9, 20),
+        ([0, 9, 18], 9, 0),
+        ([1, 9, 17], 9, 16),
+        ([28, 9, 18], 9, 15),
+        ([2, 3, 0], 0, 14),
+    ] {
+        assert_eq!(audit(closed, &table, share).refusal, number);
+        let mut after = table;
+        let answer = pass(closed, &mut after, share);
+        assert_eq!(answer.refusal, number);
+        if number != 0 {
+            assert_eq!((answer.gap, answer.cost, answer.share), (0, 0, 0));
+            assert_eq!(after, table);
+        }
+        for (length, number) in [(90, number), (89, if number == 0 { 18 } else { number })] {
+            let mut bytes = vec![0xAB; length];
+            assert_eq!(page(closed, &table, share, &mut bytes), number);
+            assert!(number == 0 || bytes == vec![0xAB; length]);
+        }
+    }
+    assert_eq!(start(closed, &mut [2, 3, 0]), 0);
+    assert_eq!(run(closed, &mut [2, 3, 0], 5, 0).refusal, 0);
+}
+
+#[test]
+fn a_run_round_the_zone() {
+    // At four times capacity the way round takes 15 + 256·9, and still nobody
+    // goes through the zone.
+    let mut draft = middle();
+    draft.links[2] = [0, 2, 15, 9, 1];
+    draft.trips[0] = vec![4, 1, 0];
+    let mut table = [7; 3];
+    let answer = run(&draft.clone().closing(&[1]).file(), &mut table, 1_024, 0);
+    assert_eq!((answer.ending, answer.judged), (REACHED, 1));
+    assert_eq!((answer.share, answer.gap, table), (1, 0, [0, 1, 4]));
+    let answer = run(&draft.closing(&[]).file(), &mut table, 1_024, 0);
+    assert_eq!((answer.ending, table), (REACHED, [4, 5, 0]));
+}
+
+#[test]
+fn the_zone_as_a_destination() {
+    let mut draft = middle();
+    draft.destinations = vec![1, 2];
+    draft.trips = vec![vec![3, 0, 0], vec![2, 1, 0]];
+    let mut table = [0; 6];
+    assert_eq!(start(&draft.closing(&[1]).file(), &mut table), 0);
+    assert_eq!(table, [3, 0, 0, 0, 1, 2]);
+}
+
+#[test]
+fn packing_version_2() {
+    let study = middle().closing(&[1]);
+    let file = study.file_with_gaps(&[&[1], &[2; 9], &[3; 4], &[4; 2], &[5; 3]]);
+    assert_eq!(file.len(), 81 + 19);
+    let mut output = [0xAB; 83];
+    assert_eq!(pack(&file, &mut output), 0);
+    assert_eq!(output[..81], study.file());
+    assert_eq!(output[81..], [0xAB; 2]);
+    let mut again = [0; 81];
+    assert_eq!(pack(&output[..81], &mut again), 0);
+    assert_eq!(again[..], study.file());
+    // Version 1 needs no more than it did.
+    for (file, length, number) in [
+        (&file, 80, 17),
+        (&file, 81, 0),
+        (&middle().file(), 69, 17),
+        (&middle().file(), 70, 0),
+    ] {
+        assert_eq!(pack(file, &mut vec![0; length]), number);
+    }
+}
+
+#[test]
+fn listings_of_version_2() {
+    let [first, open, closed] = middles();
+    let expected = "reached\njudged 1\nshare 1\ngap 0\ncost 2240\n\
+        link 0 0 5\nlink 1 1 5\nlink 2 2 15\n";
+    assert_eq!(listed(&input(10, 0, &closed)), expected);
+    assert_eq!(listed(&input(10, 0, &open)), listed(&input(10, 0, &first)));
+    let expected = concat!(
+        "  0   0   1     0.00     0.05\n",
+        "  1   1   2     1.00     0.05\n",
+        "  2   0   2     2.00     0.15\n",
+    );
+    assert_eq!(page_listed(&input(10, 0, &closed)), expected);
+    assert_eq!(listed(&input(10, 0, &closed[..39])), "refused 4\n");
+    let odd = middle().with_closed(vec![0, 2, 0]).file();
+    assert_eq!(listed(&input(10, 0, &odd)), "refused 19\n");
+    // The longest file.
+    for (length, first) in [(65_536, "reached"), (65_537, "refused 1")] {
+        let mut file = closed.clone();
+        file.resize(length, 2);
+        let text = listed(&input(10, 0, &file));
+        assert_eq!(text.lines().next(), Some(first));
+    }
 }

@@ -3,10 +3,10 @@
 //! Check answers with a number; here that number's first culprit is found, so
 //! that a modeller knows which link, destination or node to look at.
 
-use crate::format::{CAPACITIES, FREE_TIMES, Link, MOST_TRIPS, RISES, Study};
+use crate::format::{CAPACITIES, CLOSED_BYTES, FREE_TIMES, Link, MOST_TRIPS, RISES, Study};
 use crate::words::{count, grouped, range};
 
-/// The first culprit for a refusal of question 6 to 11, in words.
+/// The first culprit for a refusal of question 6 to 11 or 19, in words.
 pub fn culprit(study: &Study, number: u8) -> Option<String> {
     let by_link =
         |explain: fn(&Study, &Link) -> Option<String>| {
@@ -24,10 +24,17 @@ pub fn culprit(study: &Study, number: u8) -> Option<String> {
             (total > MOST_TRIPS)
                 .then(|| format!("{}, limit {}", count(total, "trip"), grouped(MOST_TRIPS)))
         }
-        11 => stranded(study).map(|Stranded { from, to, trips }| {
-            let trips = count(trips, "trip");
-            format!("node {from} has {trips} to destination {to} and no path to it")
+        11 => stranded(study).map(|stranded| {
+            let Stranded { from, to, .. } = stranded;
+            let trips = count(stranded.trips, "trip");
+            let but = if stranded.shut {
+                " but through closed nodes"
+            } else {
+                ""
+            };
+            format!("node {from} has {trips} to destination {to} and no path to it{but}")
         }),
+        19 => wrong_closed_byte(study),
         _ => None,
     }
 }
@@ -79,6 +86,18 @@ fn own_trips(study: &Study) -> Option<String> {
     })
 }
 
+fn wrong_closed_byte(study: &Study) -> Option<String> {
+    let bytes = study.closed.iter().flatten();
+    bytes
+        .map(|&byte| u16::from(byte))
+        .enumerate()
+        .find(|(_, byte)| !CLOSED_BYTES.contains(byte))
+        .map(|(node, byte)| {
+            let limits = range(&CLOSED_BYTES);
+            format!("node {node}: closed byte {byte}, limit {limits}")
+        })
+}
+
 /// Trips without a path.
 #[derive(Clone, Copy, Debug, PartialEq, Eq)]
 pub struct Stranded {
@@ -88,31 +107,40 @@ pub struct Stranded {
     pub to: u16,
     /// How many there are.
     pub trips: u16,
+    /// There would be a path if all nodes were open.
+    pub shut: bool,
 }
 
 /// The first trips without a path, by destination, then by node.
 pub fn stranded(study: &Study) -> Option<Stranded> {
     study.destinations.iter().find_map(|destination| {
-        let reached = nodes_with_path(study, destination.node);
+        let to = destination.node;
+        let reached = nodes_with_path(study, to, |link| may_carry(study, link, to));
         (0..)
             .zip(destination.trips.iter().zip(reached))
             .find(|&(_, (&trips, reached))| trips != 0 && !reached)
             .map(|(from, (&trips, _))| Stranded {
                 from,
-                to: destination.node,
+                to,
                 trips,
+                shut: nodes_with_path(study, to, |_| true)[usize::from(from)],
             })
     })
 }
 
-/// For each node, has it a path to `to`? Links whose ends are no nodes lead
-/// nowhere.
-fn nodes_with_path(study: &Study, to: u16) -> Vec<bool> {
+/// May a link carry flow to this destination?
+fn may_carry(study: &Study, link: &Link, to: u16) -> bool {
+    link.head == to || !study.is_closed(link.head)
+}
+
+/// For each node, has it a path of permitted links to `to`? Links whose ends
+/// are no nodes lead nowhere.
+fn nodes_with_path(study: &Study, to: u16, permitted: impl Fn(&Link) -> bool) -> Vec<bool> {
     let mut reached: Vec<bool> = (0..study.nodes).map(|node| node == to).collect();
     let mut growing = true;
     while growing {
         growing = false;
-        for link in &study.links {
+        for link in study.links.iter().filter(|link| permitted(link)) {
             let from_head = reached.get(usize::from(link.head)) == Some(&true);
             if let Some(tail) = reached.get_mut(usize::from(link.tail))
                 && from_head

@@ -1,4 +1,4 @@
-//! The bytes of a study file, version 1.
+//! The bytes of a study file, versions 1 and 2.
 //!
 //! Reading puts questions 1 to 5 and reports the figures that fail them.
 //! What the numbers inside the sections mean is not judged here.
@@ -7,10 +7,12 @@ use std::ops::RangeInclusive;
 
 use crate::words::{count, grouped, range};
 
-/// Bytes in the header.
-pub const HEADER: usize = 32;
-/// The only version there is.
+/// The first version.
 pub const VERSION: u16 = 1;
+/// The version with closed nodes.
+pub const CLOSED_VERSION: u16 = 2;
+/// The versions there are.
+pub const VERSIONS: RangeInclusive<u16> = VERSION..=CLOSED_VERSION;
 /// Bytes of one link.
 pub const LINK_BYTES: usize = 10;
 
@@ -33,6 +35,8 @@ pub const CAPACITIES: RangeInclusive<u16> = 1..=u16::MAX;
 pub const TRIPS: RangeInclusive<u16> = 0..=u16::MAX;
 /// The largest total of trips.
 pub const MOST_TRIPS: u32 = 65_535;
+/// Closed bytes a node may have: 0 where it is open, 1 where it is closed.
+pub const CLOSED_BYTES: RangeInclusive<u16> = 0..=1;
 
 /// One link of a study.
 #[derive(Clone, Copy, Debug, PartialEq, Eq)]
@@ -74,6 +78,9 @@ pub struct Study {
     pub links: Vec<Link>,
     /// The destinations, in the order of the file.
     pub destinations: Vec<Destination>,
+    /// The closed bytes, by node from 0, for every node of the study; none in
+    /// version 1.
+    pub closed: Option<Vec<u8>>,
 }
 
 /// A file that one of questions 1 to 5 refuses.
@@ -98,29 +105,60 @@ impl Study {
             )]
         })?;
 
-        let header = Header::read(file);
-        ask(2, header.version == VERSION, || {
-            vec![format!("version {}, must be {VERSION}", header.version)]
+        let counts = Counts::read(file);
+        let version = counts.version;
+        ask(2, VERSIONS.contains(&version), || {
+            vec![format!("version {version}, limit {}", range(&VERSIONS))]
         })?;
-        header.ask_counts()?;
-        header.ask_places(length)?;
-        header.ask_lengths()?;
+        counts.ask()?;
+        ask(4, file.len() >= header_bytes(version), || {
+            let (found, due) = (count(length, "byte"), header_bytes(version));
+            vec![format!(
+                "{found}, but the header of version {version} has {due}"
+            )]
+        })?;
+        let places = places(file, version);
+        ask_places(&places, header_bytes(version), length)?;
+        counts.ask_lengths(&places)?;
 
-        let [links, destinations, trips] = header.sections.map(|(offset, length)| {
+        let section = |number: usize| {
+            let (offset, length) = places[number];
             // Within the file, by question 4.
             &file[offset as usize..(offset + length) as usize]
-        });
+        };
         Ok(Study {
-            nodes: header.nodes,
-            links: links.chunks_exact(LINK_BYTES).map(read_link).collect(),
-            destinations: numbers(destinations)
-                .zip(trips.chunks_exact(2 * usize::from(header.nodes)))
+            nodes: counts.nodes,
+            links: section(0).chunks_exact(LINK_BYTES).map(read_link).collect(),
+            destinations: numbers(section(1))
+                .zip(section(2).chunks_exact(2 * usize::from(counts.nodes)))
                 .map(|(node, trips)| Destination {
                     node,
                     trips: numbers(trips).collect(),
                 })
                 .collect(),
+            closed: (version == CLOSED_VERSION).then(|| section(3).to_vec()),
         })
+    }
+
+    /// The version of its file.
+    pub fn version(&self) -> u16 {
+        match self.closed {
+            None => VERSION,
+            Some(_) => CLOSED_VERSION,
+        }
+    }
+
+    /// Is this node closed?
+    pub fn is_closed(&self, node: u16) -> bool {
+        let bytes = self.closed.as_deref().unwrap_or_default();
+        bytes.get(usize::from(node)) == Some(&1)
+    }
+
+    /// How many nodes are closed.
+    pub fn closed_nodes(&self) -> u16 {
+        (0..self.nodes)
+            .map(|node| u16::from(self.is_closed(node)))
+            .sum()
     }
 
     /// The file without gaps, sections in order after the header.
@@ -145,21 +183,25 @@ impl Study {
             );
         }
 
+        let mut sections = vec![links, destinations, trips];
+        sections.extend(self.closed.clone());
+
         let mut file = Vec::new();
         let counts = [
-            VERSION,
+            self.version(),
             self.nodes,
             number(self.links.len()),
             number(self.destinations.len()),
         ];
         file.extend(counts.iter().flat_map(|count| count.to_le_bytes()));
-        let mut offset = HEADER;
-        for section in [&links, &destinations, &trips] {
+        let mut offset = header_bytes(self.version());
+        for section in &sections {
             file.extend((offset as u32).to_le_bytes());
             file.extend((section.len() as u32).to_le_bytes());
             offset += section.len();
         }
-        [file, links, destinations, trips].concat()
+        file.extend(sections.concat());
+        file
     }
 
     /// All trips.
@@ -168,42 +210,89 @@ impl Study {
     }
 }
 
-/// The sections' names, in the order of the file.
-const SECTIONS: [&str; 3] = ["links", "destinations", "trips"];
+/// The sections' names, in the order of the file; version 1 has no closed
+/// bytes.
+const SECTIONS: [&str; 4] = ["links", "destinations", "trips", "closed bytes"];
 
-/// A header as it stands in the file, whatever it says.
-struct Header {
+/// How many sections a version has.
+fn section_count(version: u16) -> usize {
+    match version {
+        CLOSED_VERSION => 4,
+        _ => 3,
+    }
+}
+
+/// Bytes in the header of a version: four numbers, then offset and length of
+/// each section.
+fn header_bytes(version: u16) -> usize {
+    8 + 8 * section_count(version)
+}
+
+/// Offset and length of a section: numbers of 32 bits, kept in 64 so that
+/// their sums fit.
+type Place = (u64, u64);
+
+/// The sections' places as they stand in the header, whatever they say.
+fn places(file: &[u8], version: u16) -> Vec<Place> {
+    let long = |place: usize| {
+        u64::from(number_at(file, place)) | u64::from(number_at(file, place + 2)) << 16
+    };
+    (0..section_count(version))
+        .map(|section| 8 + 8 * section)
+        .map(|place| (long(place), long(place + 4)))
+        .collect()
+}
+
+/// Question 4, of a file that has its header.
+fn ask_places(places: &[Place], header: usize, file: u64) -> Result<(), Refusal> {
+    let mut found = Vec::new();
+    let first = places[0].0;
+    if first < header as u64 {
+        found.push(format!(
+            "links begin at byte {first}, must be {header} or later"
+        ));
+    }
+    for (place, &(offset, length)) in places.iter().enumerate() {
+        let (limit, what) = match places.get(place + 1) {
+            Some(next) => (next.0, format!("where {} begin", SECTIONS[place + 1])),
+            None => (file, "the end of the file".to_owned()),
+        };
+        let end = offset + length;
+        if end > limit {
+            found.push(format!(
+                "{} begin at byte {} and have {}, so they end at {}, limit {}, {what}",
+                SECTIONS[place],
+                grouped(offset),
+                count(length, "byte"),
+                grouped(end),
+                grouped(limit),
+            ));
+        }
+    }
+    ask(4, found.is_empty(), || found)
+}
+
+/// The numbers at the beginning of the header, whatever they say.
+struct Counts {
     version: u16,
     nodes: u16,
     links: u16,
     destinations: u16,
-    /// Offset and length of each section: numbers of 32 bits, kept in 64 so
-    /// that their sums fit.
-    sections: [(u64, u64); 3],
 }
 
-impl Header {
+impl Counts {
     /// Reads the header of a file that passes question 1.
     fn read(file: &[u8]) -> Self {
-        let long = |place: usize| {
-            u64::from(u32::from_le_bytes([
-                file[place],
-                file[place + 1],
-                file[place + 2],
-                file[place + 3],
-            ]))
-        };
-        Header {
+        Counts {
             version: number_at(file, 0),
             nodes: number_at(file, 2),
             links: number_at(file, 4),
             destinations: number_at(file, 6),
-            sections: [8, 16, 24].map(|place| (long(place), long(place + 4))),
         }
     }
 
     /// Question 3.
-    fn ask_counts(&self) -> Result<(), Refusal> {
+    fn ask(&self) -> Result<(), Refusal> {
         let mut found = Vec::new();
         for (name, count, limits) in [
             ("nodes", self.nodes, NODES),
@@ -225,43 +314,14 @@ impl Header {
         ask(3, found.is_empty(), || found)
     }
 
-    /// Question 4.
-    fn ask_places(&self, file: u64) -> Result<(), Refusal> {
-        let mut found = Vec::new();
-        let first = self.sections[0].0;
-        if first < HEADER as u64 {
-            found.push(format!(
-                "links begin at byte {first}, must be {HEADER} or later"
-            ));
-        }
-        for (place, (offset, length)) in self.sections.into_iter().enumerate() {
-            let (limit, what) = match self.sections.get(place + 1) {
-                Some(next) => (next.0, format!("where {} begin", SECTIONS[place + 1])),
-                None => (file, "the end of the file".to_owned()),
-            };
-            let end = offset + length;
-            if end > limit {
-                found.push(format!(
-                    "{} begin at byte {} and have {}, so they end at {}, limit {}, {what}",
-                    SECTIONS[place],
-                    grouped(offset),
-                    count(length, "byte"),
-                    grouped(end),
-                    grouped(limit),
-                ));
-            }
-        }
-        ask(4, found.is_empty(), || found)
-    }
-
-    /// Question 5.
-    fn ask_lengths(&self) -> Result<(), Refusal> {
+    /// The length of each section by the counts, and how it comes about.
+    fn lengths(&self) -> [(u64, String); 4] {
         let (nodes, links, destinations) = (
             u64::from(self.nodes),
             u64::from(self.links),
             u64::from(self.destinations),
         );
-        let due = [
+        [
             (
                 LINK_BYTES as u64 * links,
                 format!("10 × {}", count(links, "link")),
@@ -278,14 +338,19 @@ impl Header {
                     count(nodes, "node")
                 ),
             ),
-        ];
+            (nodes, format!("1 × {}", count(nodes, "node"))),
+        ]
+    }
+
+    /// Question 5.
+    fn ask_lengths(&self, places: &[Place]) -> Result<(), Refusal> {
         let mut found = Vec::new();
-        for (place, (due, product)) in due.into_iter().enumerate() {
-            let length = self.sections[place].1;
+        for ((name, &(_, length)), (due, product)) in
+            SECTIONS.into_iter().zip(places).zip(self.lengths())
+        {
             if length != due {
                 found.push(format!(
-                    "{} have {}, must have {} = {product}",
-                    SECTIONS[place],
+                    "{name} have {}, must have {} = {product}",
                     count(length, "byte"),
                     grouped(due)
                 ));

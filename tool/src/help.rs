@@ -20,7 +20,8 @@ and where, and no file is written), 2 the command line makes no sense.
 
 /// `study from-tntp --help`.
 pub const FROM_TNTP: &str = "\
-Makes a study file, version 1, from a TNTP net file and trips file.
+Makes a study file from a TNTP net file and trips file: version 2 where nodes
+are closed, version 1 where none is.
 
 Usage: study from-tntp NET TRIPS --out FILE
                        [--vehicles-per-trip N] [--time-unit UNIT]
@@ -41,23 +42,26 @@ What becomes of the figures:
   capacity / N              capacity, in trips, 1 to 65,535
   flow / N                  trips, 0 to 65,535, at most 65,535 in all
   nodes that receive trips  destinations, ascending, at most 32
+  nodes below <FIRST THRU NODE>
+                            closed: only their own traffic uses them
   length, speed, type       not used
 There are at most 128 nodes and 512 links, and no flow from a node to itself.
 
 Figures are read exactly. Where one has to be rounded, to the nearest whole
 number and halves up, standard error tells how many of each kind were, and the
 largest rounding; so it does with figures that are not 0 and became 0, and with
-what a study has no place for (tolls, nodes that may not be passed through).
+what a study has no place for (tolls, factors of tolls and distances). It also
+tells which nodes are closed. A net file without <FIRST THRU NODE> closes none.
 
 A figure that does not fit, a row that is cut short, metadata that disagree
-with the rows, trips without a path: a message with file, line, figure and
-limit, exit status 1, and no file is written. <TOTAL OD FLOW> is compared to
-the places that it is written with.
+with the rows, trips without a path, or with none but through closed nodes: a
+message with file, line, figure and limit, exit status 1, and no file is
+written. <TOTAL OD FLOW> is compared to the places that it is written with.
 ";
 
 /// `study from-text --help`.
 pub const FROM_TEXT: &str = "\
-Makes a study file, version 1, from the text that `study show` prints.
+Makes a study file from the text that `study show` prints.
 
 Usage: study from-text TEXT --out FILE
 
@@ -80,9 +84,12 @@ The text, for a town of two roads:
   total: 2 trips
   check: accepted
 
-- The four lines of the header come first, in this order: the file's version,
-  then the counts of what follows (2 to 128 nodes, 1 to 512 links, 1 to 32
+- The four lines of the header come first, in this order: the file's version, 1
+  or 2, then the counts of what follows (2 to 128 nodes, 1 to 512 links, 1 to 32
   destinations and no more than nodes).
+- In version 2 the closed nodes come next, in lines such as `closed 0 1 2`.
+  Nodes that are not mentioned are open. `closed 0 1:7` gives node 1 the closed
+  byte 7, which check refuses.
 - A `link` line for each link, in order: number, tail, head, free time and rise
   in hundredths of a minute, capacity in trips.
 - A `destination` line for each destination, in order, each followed by a
@@ -93,24 +100,25 @@ The text, for a town of two roads:
 Nodes and links count from 0. From `#` to the end of a line is a comment; blank
 lines and the width of blanks do not matter. Numbers are 0 to 65,535.
 
-A text may describe a study that check refuses under questions 6 to 11: the
-file is written, and the answer of check tells what is wrong. Any other fault
-is a message with file and line, exit status 1, and no file is written.
+A text may describe a study that check refuses under questions 6 to 11 or 19:
+the file is written, and the answer of check tells what is wrong. Any other
+fault is a message with file and line, exit status 1, and no file is written.
 ";
 
 /// `study show --help`.
 pub const SHOW: &str = "\
-Prints a study file as text: counts, links, destinations with their trips, the
-total, and what check answers, in words.
+Prints a study file as text: version, counts, closed nodes, links, destinations
+with their trips, the total, and what check answers, in words.
 
 Usage: study show FILE
 
 `study from-text` reads the text back and makes the same file, without gaps
 between its sections; `study from-text --help` explains the text.
 
-A file that check refuses under questions 6 to 11 is shown with the first link,
-destination or node at fault. Of a file that it refuses under questions 1 to 5
-only the refusal is shown, with the figures found; the exit status is then 1.
+A file that check refuses under questions 6 to 11 or 19 is shown with the first
+link, destination or node at fault. Of a file that it refuses under questions 1
+to 5 only the refusal is shown, with the figures found; the exit status is then
+1.
 ";
 
 /// `study refusals --help`.
@@ -119,7 +127,7 @@ Prints the numbers with which calls are refused, and what each means.
 
 Usage: study refusals
 
-Questions are put in the order of their numbers, and the first one answered
-`no` gives its number. Check puts 1 to 11; pack 1 to 11, then 17; start 1 to
-12; run 1 to 13; pass and audit 1 to 12, then 14 to 16; page as audit, then 18.
+The first question answered `no` gives its number. Check puts 1 to 8, 19, then 9
+to 11; pack as check, then 17; start as check, then 12; run as start, then 13;
+pass and audit as start, then 14 to 16, then 20; page as audit, then 18.
 ";

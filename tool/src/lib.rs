@@ -1,6 +1,6 @@
 //! Study files made from text and shown as text.
 //!
-//! A study file is binary ("document 01"); nobody writes one by hand. This
+//! A study file is binary (documents 01 and 02); nobody writes one by hand. This
 //! library and the program `study` on top of it are the way in for a modeller.
 //!
 //! | module         | what it knows                                            |
@@ -9,7 +9,7 @@
 //! | [`source`]     | text files, and problems with their file and line        |
 //! | [`words`]      | the refusal numbers in plain words, numbers for people   |
 //! | [`mod@format`] | the bytes of a study file, questions 1 to 5              |
-//! | [`culprit`]    | what in a study makes check refuse it, questions 6 to 11 |
+//! | [`culprit`]    | what makes check refuse a study, questions 6 to 11, 19   |
 //! | [`text`]       | a study as text, both ways                               |
 //! | [`tntp`]       | a study from a net file and a trips file                 |
 //!

@@ -190,8 +190,12 @@ fn refusals(args: &Args) -> Result<ExitCode, Failure> {
 /// What a command says of the study it has written.
 fn summary(out: &Path, study: &Study, file: &[u8]) -> String {
     let refusal = second::check(file);
+    let closed = match study.closed_nodes() {
+        0 => String::new(),
+        closed => format!(" ({closed} closed)"),
+    };
     let mut summary = format!(
-        "{}: {}, {}, {}, {}, {}\ncheck: {}\n",
+        "{}: {}, {}{closed}, {}, {}, {}\ncheck: {}\n",
         out.display(),
         count(file.len() as u64, "byte"),
         count(study.nodes, "node"),

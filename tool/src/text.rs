@@ -21,6 +21,9 @@
 //!
 //! - The four lines of the header come first, in this order: the file's
 //!   version, then the counts of what follows.
+//! - In version 2 the closed nodes come next, in lines such as `closed 0 1 2`;
+//!   nodes not mentioned are open. Where a node's closed byte is neither 0 nor
+//!   1, it stands behind the node: `closed 0 1 2:255`.
 //! - A `link` line for each link, in order: number, tail, head, free time and
 //!   rise in hundredths of a minute, capacity in trips.
 //! - A `destination` line for each destination, in order, each followed by a
@@ -31,15 +34,18 @@
 //!
 //! Nodes and links count from 0. From `#` to the end of a line is a comment;
 //! blank lines and the width of blanks do not matter. The counts obey
-//! question 3; any other number is one of 16 bits, so a text can describe a
-//! study that check refuses under questions 6 to 11.
+//! question 3; any other number is one of 16 bits, or of 8 in a closed byte, so
+//! a text can describe a study that check refuses under questions 6 to 11 and
+//! 19.
 
 use std::fmt::Write;
 use std::iter::Peekable;
 use std::ops::RangeInclusive;
 
 use crate::culprit::culprit;
-use crate::format::{DESTINATIONS, Destination, LINKS, Link, NODES, Study, VERSION};
+use crate::format::{
+    CLOSED_VERSION, DESTINATIONS, Destination, LINKS, Link, NODES, Study, VERSIONS,
+};
 use crate::source::{Problem, Source};
 use crate::words::{answer, count};
 
@@ -56,10 +62,11 @@ fn try_write(study: &Study, refusal: u8) -> Result<String, std::fmt::Error> {
         "# Times in hundredths of a minute, capacities in trips."
     )?;
     writeln!(out, "# Nodes and links count from 0.")?;
-    writeln!(out, "study {VERSION}")?;
+    writeln!(out, "study {}", study.version())?;
     writeln!(out, "nodes {}", study.nodes)?;
     writeln!(out, "links {}", study.links.len())?;
     writeln!(out, "destinations {}", study.destinations.len())?;
+    out.push_str(&closed_lines(study));
 
     writeln!(out)?;
     writeln!(out, "#    number  tail  head   free   rise  capacity")?;
@@ -89,6 +96,26 @@ fn try_write(study: &Study, refusal: u8) -> Result<String, std::fmt::Error> {
         writeln!(out, "# {culprit}")?;
     }
     Ok(text)
+}
+
+/// Closed nodes on a line.
+const CLOSED_ON_A_LINE: usize = 16;
+
+/// The lines of closed nodes, with a blank line before them if there are any.
+fn closed_lines(study: &Study) -> String {
+    let bytes = study.closed.iter().flatten().enumerate();
+    let nodes: Vec<String> = bytes
+        .filter_map(|(node, byte)| match byte {
+            0 => None,
+            1 => Some(node.to_string()),
+            byte => Some(format!("{node}:{byte}")),
+        })
+        .collect();
+    let lines = nodes
+        .chunks(CLOSED_ON_A_LINE)
+        .map(|nodes| format!("closed {}\n", nodes.join(" ")));
+    let blank = if nodes.is_empty() { "" } else { "\n" };
+    blank.to_owned() + &lines.collect::<String>()
 }
 
 /// The line that gives the total of trips.
@@ -137,11 +164,12 @@ pub fn read(source: &Source) -> Result<Reading, Problem> {
         lines: source.lines('#').peekable(),
     };
 
-    reader.header("study", &(VERSION..=VERSION))?;
+    let version = reader.header("study", &VERSIONS)?;
     let nodes = reader.header("nodes", &NODES)?;
     let link_count = reader.header("links", &LINKS)?;
     let most = nodes.min(*DESTINATIONS.end());
     let destination_count = reader.header("destinations", &(*DESTINATIONS.start()..=most))?;
+    let closed = reader.closed(version, nodes)?;
 
     let links = (0..link_count)
         .map(|number| reader.link(number, link_count))
@@ -159,6 +187,7 @@ pub fn read(source: &Source) -> Result<Reading, Problem> {
         nodes,
         links,
         destinations,
+        closed,
     };
     Ok(Reading { study, stated })
 }
@@ -207,6 +236,45 @@ impl<'a, Lines: Iterator<Item = (usize, &'a str)>> Reader<'a, Lines> {
     /// A number of 16 bits.
     fn any_number(&self, line: usize, name: &str, text: &str) -> Result<u16, Problem> {
         self.source.whole(line, name, text, &(0..=u16::MAX))
+    }
+
+    /// The lines of closed nodes: the closed bytes of version 2, none in
+    /// version 1.
+    fn closed(&mut self, version: u16, nodes: u16) -> Result<Option<Vec<u8>>, Problem> {
+        let mut bytes: Vec<Option<u8>> = vec![None; usize::from(nodes)];
+        while let Some((line, text)) = self.next("closed") {
+            if version != CLOSED_VERSION {
+                let what = format!(
+                    "closed nodes in a study of version {version}, must be {CLOSED_VERSION}"
+                );
+                return Err(self.source.problem(line, what));
+            }
+            if text.is_empty() {
+                let what = "`closed`, must be `closed NODE NODE ...`";
+                return Err(self.source.problem(line, what));
+            }
+            for item in text.split_whitespace() {
+                let (node, byte) = self.closed_node(line, item, nodes)?;
+                let place = &mut bytes[usize::from(node)];
+                if place.is_some() {
+                    let what = format!("closed node {node} for the second time");
+                    return Err(self.source.problem(line, what));
+                }
+                *place = Some(byte);
+            }
+        }
+        let bytes = bytes.into_iter().map(Option::unwrap_or_default).collect();
+        Ok((version == CLOSED_VERSION).then_some(bytes))
+    }
+
+    /// A closed node, and its closed byte if that is not 1.
+    fn closed_node(&self, line: usize, item: &str, nodes: u16) -> Result<(u16, u8), Problem> {
+        let (node, byte) = item.split_once(':').unwrap_or((item, "1"));
+        let node = self
+            .source
+            .whole(line, "closed node", node, &(0..=nodes - 1))?;
+        let byte = self.source.whole(line, "closed byte", byte, &(0..=255))?;
+        Ok((node, byte as u8))
     }
 
     /// The line of a link.

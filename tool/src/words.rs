@@ -5,20 +5,21 @@ use std::fmt::Display;
 use std::ops::RangeInclusive;
 
 /// What is wrong when a call is refused, by number: number 1 comes first.
-pub const REFUSALS: [&str; 18] = [
+pub const REFUSALS: [&str; 20] = [
     "the file is not 32 to 65,536 bytes long",
-    "the version is not 1",
+    "the version is not 1 or 2",
     "nodes are not 2 to 128, links not 1 to 512, destinations not 1 to 32, \
      or there are more destinations than nodes",
-    "a section begins inside the header, runs into the next one or past the end of the file",
+    "a section begins inside the header, runs into the next one or past the end of the file, \
+     or the file is shorter than its version's header (32 bytes, 40 in version 2)",
     "the length of a section does not fit the counts: 10 bytes a link, 2 a destination, \
-     2 for each destination and node",
+     2 for each destination and node and, in version 2, 1 a node",
     "a link's tail or head is not a node, or both are the same node",
     "a link's free time is not 1 to 16,383, its rise not 0 to 16,383, or its capacity is 0",
     "a destination is not a node, or the destinations are not strictly ascending",
     "a destination has trips to itself",
     "the trips add up to more than 65,535",
-    "a node with trips to a destination has no path to it",
+    "a node with trips to a destination has no path to it that leads through no closed node",
     "the flow table holds fewer numbers than destinations × links",
     "the budget is not 1 to 1,024",
     "the share is not 1 to 1,024",
@@ -27,6 +28,8 @@ pub const REFUSALS: [&str; 18] = [
      what enters it plus share × the trips that begin there",
     "the output slice is shorter than the packed study",
     "the page slice is shorter than 30 bytes a link",
+    "a node's closed byte is neither 0 nor 1",
+    "the flow table has flow on a link into a closed node that is not flow to that node",
 ];
 
 /// What a refusal means, if the number is one of the table's.

@@ -4,7 +4,7 @@
 mod common;
 
 use common::Dice;
-use study_tool::culprit::culprit;
+use study_tool::culprit::{culprit, stranded};
 use study_tool::format::{Destination, Link, Study};
 use study_tool::source::Source;
 use study_tool::text;
@@ -63,14 +63,32 @@ fn study(dice: &mut Dice) -> Study {
         nodes,
         links,
         destinations,
+        closed: closed(dice, nodes, faults),
     }
 }
+
+/// Closed bytes, in two studies of three: shares from none to all, with faults
+/// or without.
+fn closed(dice: &mut Dice, nodes: u16, faults: bool) -> Option<Vec<u8>> {
+    let tenths = dice.number(0, 10);
+    let byte = |dice: &mut Dice| match dice.number(1, 10) {
+        _ if faults && dice.once_in(25) => dice.number(2, 255) as u8,
+        number => u8::from(number <= tenths),
+    };
+    let bytes = (0..nodes).map(|_| byte(dice)).collect();
+    (!dice.once_in(3)).then_some(bytes)
+}
+
+/// The questions that look into the sections, in their order.
+const INNER: [u8; 7] = [6, 7, 8, 19, 9, 10, 11];
 
 #[test]
 fn refusals_are_explained() {
     let mut dice = Dice(1);
-    let mut seen = [0; 12];
-    for _ in 0..5_000 {
+    let mut seen = [0; 21];
+    // Studies whose first trips without a path have one but for closed nodes.
+    let mut shut = 0;
+    for _ in 0..10_000 {
         let study = study(&mut dice);
         let file = study.packed();
         let answer = second::check(&file);
@@ -78,8 +96,26 @@ fn refusals_are_explained() {
 
         // Questions before the one answered "no" have no culprit; after it
         // they may have.
-        let first = (6..=11).find(|&number| culprit(&study, number).is_some());
+        let first = INNER
+            .into_iter()
+            .find(|&number| culprit(&study, number).is_some());
         assert_eq!(first.unwrap_or(0), answer, "{study:?}");
+
+        // With all nodes open, a path is there exactly when they are at fault.
+        if answer == 11 {
+            let stranded = stranded(&study).expect("it has a culprit");
+            let mut open = study.clone();
+            open.closed = None;
+            open.destinations.iter_mut().for_each(|destination| {
+                let to = destination.node == stranded.to;
+                for (from, trips) in (0..).zip(&mut destination.trips) {
+                    *trips *= u16::from(to && from == stranded.from);
+                }
+            });
+            let there = second::check(&open.packed()) == 0;
+            assert_eq!(stranded.shut, there, "{study:?}");
+            shut += u32::from(there);
+        }
 
         assert_eq!(Study::read(&file).as_ref(), Ok(&study));
         if answer == 0 {
@@ -93,19 +129,20 @@ fn refusals_are_explained() {
         assert_eq!(reading.study, study);
         assert_eq!(reading.stale(answer), []);
     }
-    for number in [0, 6, 7, 8, 9, 10, 11] {
+    for number in [0, 6, 7, 8, 9, 10, 11, 19] {
         assert!(seen[number] > 10, "{number} is rare: {seen:?}");
     }
+    assert!(shut > 100, "{shut}");
 }
 
 #[test]
 fn headers_are_judged_alike() {
     let mut dice = Dice(2);
-    let mut seen = [0; 12];
-    for _ in 0..12_000 {
+    let mut seen = [0; 21];
+    for _ in 0..20_000 {
         let mut file = study(&mut dice).packed();
         for _ in 0..dice.number(0, 2) {
-            let place = usize::from(dice.number(0, 31));
+            let place = usize::from(dice.number(0, 39));
             file[place] = match dice.number(0, 2) {
                 0 => file[place].wrapping_add(1),
                 1 => file[place].wrapping_sub(1),

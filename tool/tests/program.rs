@@ -10,23 +10,32 @@ fn refusals() {
     let folder = Folder::new("program-refusals");
     let table = folder.study(&["refusals"]).ok();
     let lines: Vec<&str> = table.lines().collect();
-    assert_eq!(lines.len(), 18);
+    assert_eq!(lines.len(), 20);
     for (number, line) in (1..).zip(&lines) {
         let meaning = words::refusal(number).expect("one of the table's");
         assert_eq!(*line, format!("{number:2}  {meaning}"));
     }
     assert_eq!(
         lines[10],
-        "11  a node with trips to a destination has no path to it"
+        "11  a node with trips to a destination has no path to it that leads through no closed node"
     );
     assert_eq!(words::refusal(0), None);
-    assert_eq!(words::refusal(19), None);
+    assert_eq!(words::refusal(21), None);
     assert_eq!(words::answer(0), "accepted");
     assert_eq!(
         words::answer(18),
         "refused 18: the page slice is shorter than 30 bytes a link"
     );
-    assert_eq!(words::answer(19), "refused 19");
+    assert_eq!(
+        words::answer(19),
+        "refused 19: a node's closed byte is neither 0 nor 1"
+    );
+    assert_eq!(
+        words::answer(20),
+        "refused 20: the flow table has flow on a link into a closed node that is not flow to \
+         that node"
+    );
+    assert_eq!(words::answer(21), "refused 21");
 }
 
 #[test]
@@ -57,6 +66,23 @@ fn help_shows_a_text_that_is_read() {
     assert_eq!(outcome.stderr, "");
     outcome.ok();
     assert_eq!(folder.study(&["show", "out"]).ok(), TOWN);
+}
+
+/// What help says of closed nodes is so.
+#[test]
+fn help_on_closed_nodes() {
+    let folder = Folder::new("program-closed");
+    let help = folder.study(&["from-text", "--help"]).ok();
+    assert!(help.contains("`closed 0 1 2`") && help.contains("`closed 0 1:7`"));
+    let town = TOWN.replace("study 1\n", "study 2\n");
+    let text = town.replace("destinations 1\n", "destinations 1\nclosed 0 1:7\n");
+    folder.put("town.txt", text);
+    let said = folder
+        .study(&["from-text", "town.txt", "--out", "out"])
+        .ok();
+    let answer = format!("check: {}\n", words::answer(19));
+    assert!(said.contains(&answer), "{said}");
+    assert_eq!(folder.bytes("out")[66..], [1, 7]);
 }
 
 #[test]

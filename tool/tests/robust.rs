@@ -2,12 +2,13 @@
 
 mod common;
 
-use common::{Dice, TOWN};
+use common::{Dice, TOWN, ZONE};
 use study_tool::source::Source;
 use study_tool::tntp::Options;
 use study_tool::{text, tntp};
 
 const NET: &str = "\
+<FIRST THRU NODE> 2
 <NUMBER OF ZONES> 3
 <NUMBER OF NODES> 3
 <NUMBER OF LINKS> 2
@@ -24,7 +25,7 @@ Origin 1
 ";
 
 /// Pieces that mean something in one text or another.
-const PIECES: [&str; 30] = [
+const PIECES: [&str; 33] = [
     "",
     " ",
     "\n",
@@ -51,6 +52,9 @@ const PIECES: [&str; 30] = [
     "from",
     "destination",
     "links 1",
+    "closed",
+    "closed 0 1",
+    ":2",
     "×",
     "\u{feff}",
     "\r",
@@ -75,23 +79,25 @@ fn spoilt(text: &str, dice: &mut Dice) -> String {
 #[test]
 fn texts() {
     let mut dice = Dice(3);
-    let (mut read, mut refused) = (0, 0);
-    for _ in 0..4_000 {
-        let source = Source::new("town.txt", spoilt(TOWN, &mut dice));
-        match text::read(&source) {
-            Ok(reading) => {
-                read += 1;
-                let answer = second::check(&reading.study.packed());
-                assert!(!(1..=5).contains(&answer), "{answer}");
-                reading.stale(answer);
-            }
-            Err(problem) => {
-                refused += 1;
-                assert!(problem.to_string().starts_with("town.txt: line "));
+    for town in [TOWN, ZONE] {
+        let (mut read, mut refused) = (0, 0);
+        for _ in 0..4_000 {
+            let source = Source::new("town.txt", spoilt(town, &mut dice));
+            match text::read(&source) {
+                Ok(reading) => {
+                    read += 1;
+                    let answer = second::check(&reading.study.packed());
+                    assert!(!(1..=5).contains(&answer), "{answer}");
+                    reading.stale(answer);
+                }
+                Err(problem) => {
+                    refused += 1;
+                    assert!(problem.to_string().starts_with("town.txt: line "));
+                }
             }
         }
+        assert!(read > 400 && refused > 400, "{read} {refused}");
     }
-    assert!(read > 400 && refused > 400, "{read} {refused}");
 }
 
 #[test]

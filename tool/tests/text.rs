@@ -2,7 +2,7 @@
 
 mod common;
 
-use common::{Folder, TOWN, TOWN_FILE, with};
+use common::{Folder, TOWN, TOWN_FILE, ZONE, ZONE_FILE, with};
 
 const COMMAND: [&str; 4] = ["from-text", "town.txt", "--out", "out"];
 
@@ -18,13 +18,26 @@ fn bad(name: &str, from: &str, to: &str, message: &str) {
     folder.fails(&COMMAND, &format!("town.txt: {message}"));
 }
 
+/// The town with a zone, and a fault.
+#[track_caller]
+fn bad_zone(name: &str, from: &str, to: &str, message: &str) {
+    let folder = folder(&format!("zone-{name}"), &with(ZONE, from, to));
+    folder.fails(&COMMAND, &format!("town.txt: {message}"));
+}
+
 /// The town with a change: from-text writes a file, check answers so, and
 /// show prints the text again.
 #[track_caller]
 fn refused(name: &str, edits: &[(&str, &str)], answer: &str, culprit: &str) {
+    refused_of(TOWN, name, edits, answer, culprit);
+}
+
+/// The same of any accepted text.
+#[track_caller]
+fn refused_of(town: &str, name: &str, edits: &[(&str, &str)], answer: &str, culprit: &str) {
     let text = edits
         .iter()
-        .fold(TOWN.to_owned(), |text, (from, to)| with(&text, from, to));
+        .fold(town.to_owned(), |text, (from, to)| with(&text, from, to));
     let text = with(
         &text,
         "check: accepted\n",
@@ -52,6 +65,81 @@ fn the_town_of_two_roads() {
     );
     assert_eq!(folder.bytes("out"), TOWN_FILE);
     assert_eq!(folder.study(&["show", "out"]).ok(), TOWN);
+}
+
+/// From text to this file and back; what from-text says of it.
+#[track_caller]
+fn goes_round(name: &str, text: &str, file: &[u8]) -> String {
+    let folder = folder(name, text);
+    let outcome = folder.study(&COMMAND);
+    assert_eq!(outcome.stderr, "");
+    assert_eq!(folder.bytes("out"), file);
+    assert_eq!(folder.study(&["show", "out"]).ok(), text);
+    outcome.ok()
+}
+
+#[test]
+fn the_town_with_a_zone() {
+    assert_eq!(
+        goes_round("zone", ZONE, &ZONE_FILE),
+        "out: 94 bytes, 4 nodes (1 closed), 4 links, 1 destination, 3 trips\ncheck: accepted\n"
+    );
+}
+
+/// Version 2 without a closed node stays version 2.
+#[test]
+fn a_zone_that_is_open() {
+    let mut file = ZONE_FILE;
+    file[91] = 0;
+    assert_eq!(
+        goes_round("zone-open", &with(ZONE, "closed 1\n\n", ""), &file),
+        "out: 94 bytes, 4 nodes, 4 links, 1 destination, 3 trips\ncheck: accepted\n"
+    );
+    let mut file = TOWN_FILE[..8].to_vec();
+    file[0] = 2;
+    file.extend([40, 0, 0, 0, 20, 0, 0, 0, 60, 0, 0, 0, 2, 0, 0, 0]);
+    file.extend([62, 0, 0, 0, 4, 0, 0, 0, 66, 0, 0, 0, 2, 0, 0, 0]);
+    file.extend(&TOWN_FILE[32..]);
+    file.extend([0, 0]);
+    goes_round("town-2", &with(TOWN, "study 1", "study 2"), &file);
+}
+
+/// Lines of 16 nodes.
+#[test]
+fn many_closed_nodes() {
+    let list = |nodes: std::ops::Range<u16>| {
+        let nodes: Vec<String> = nodes.map(|node| node.to_string()).collect();
+        format!("closed {}\n", nodes.join(" "))
+    };
+    let text = with(ZONE, "nodes 4", "nodes 35");
+    let lines = [list(0..16), list(16..32), list(32..35)].concat();
+    let text = with(&text, "closed 1\n", &lines);
+    let text = with(
+        &text,
+        "  from 0: 2\n  from 1: 1\n",
+        "  from 1: 1\n  from 3: 2\n",
+    );
+    let folder = folder("zone-many", &text);
+    let said = folder.study(&COMMAND).ok();
+    assert!(said.contains("35 nodes (35 closed), "), "{said}");
+    let file = folder.bytes("out");
+    assert_eq!(file[file.len() - 35..], [1; 35]);
+    assert_eq!(folder.study(&["show", "out"]).ok(), text);
+}
+
+#[test]
+fn forms_of_closed_lines_that_make_no_difference() {
+    for (name, lines) in [
+        ("bare", "closed 1"),
+        ("byte", "closed 1:1"),
+        ("zeros", "closed 0:0\t001:01   3:0 # the zone"),
+        ("lines", "closed 2:0\n\n  closed 1\r"),
+    ] {
+        let folder = folder(&format!("zone-{name}"), &with(ZONE, "closed 1", lines));
+        folder.study(&COMMAND).ok();
+        assert_eq!(folder.bytes("out"), ZONE_FILE, "{name}");
+        assert_eq!(folder.study(&["show", "out"]).ok(), ZONE, "{name}");
+    }
 }
 
 #[test]
@@ -192,8 +280,89 @@ fn refused_11() {
             ("destination 1 ", "destination 0 "),
             ("from 0: 2", "from 1: 2"),
         ],
-        "11: a node with trips to a destination has no path to it",
+        NO_PATH,
         "node 1 has 2 trips to destination 0 and no path to it",
+    );
+}
+
+/// Refusal 11.
+const NO_PATH: &str =
+    "11: a node with trips to a destination has no path to it that leads through no closed node";
+
+/// Links 0 and 1 of the town with a zone alone, which lead through the zone.
+const THROUGH: [(&str, &str); 3] = [
+    ("links 4", "links 2"),
+    ("link      2     0     3     10      0         1\n", ""),
+    ("link      3     3     2     10      0         1\n", ""),
+];
+
+#[test]
+fn refused_11_because_a_zone_is_closed() {
+    let culprit = "node 0 has 2 trips to destination 2 and no path to it but through closed nodes";
+    refused_of(ZONE, "11-zone", &THROUGH, NO_PATH, culprit);
+    // A second closed node plays no part, and neither do closed ends.
+    let others = [&THROUGH[..], &[("closed 1", "closed 0 1 2 3")]].concat();
+    refused_of(ZONE, "11-zones", &others, NO_PATH, culprit);
+
+    // Open, it is accepted, in either version.
+    let open = |name: &str, version: &str| {
+        let edits = [&THROUGH[..], &[("closed 1\n\n", ""), ("study 2", version)]].concat();
+        let text = edits
+            .iter()
+            .fold(ZONE.to_owned(), |text, (from, to)| with(&text, from, to));
+        let folder = folder(name, &text);
+        let said = folder.study(&COMMAND).ok();
+        assert!(said.ends_with("check: accepted\n"), "{said}");
+        assert_eq!(folder.study(&["show", "out"]).ok(), text);
+    };
+    open("open-2", "study 2");
+    open("open-1", "study 1");
+}
+
+#[test]
+fn refused_11_with_no_path_at_all() {
+    refused_of(
+        ZONE,
+        "11-none",
+        &[
+            ("     3     2     10", "     2     3     10"),
+            ("     1     2      5", "     2     1      5"),
+        ],
+        NO_PATH,
+        "node 0 has 2 trips to destination 2 and no path to it",
+    );
+}
+
+#[test]
+fn refused_19() {
+    let answer = "19: a node's closed byte is neither 0 nor 1";
+    refused_of(
+        ZONE,
+        "19",
+        &[("closed 1", "closed 1:2")],
+        answer,
+        "node 1: closed byte 2, limit 0 to 1",
+    );
+    refused_of(
+        ZONE,
+        "19-last",
+        &[("closed 1", "closed 0 1 3:255")],
+        answer,
+        "node 3: closed byte 255, limit 0 to 1",
+    );
+    // Asked before 9, and after 8.
+    let edits = [("closed 1", "closed 1:2"), ("  from 1: 1", "  from 2: 1")];
+    let culprit = "node 1: closed byte 2, limit 0 to 1";
+    refused_of(ZONE, "19-before-9", &edits, answer, culprit);
+    refused_of(
+        ZONE,
+        "19-after-8",
+        &[
+            ("closed 1", "closed 1:2"),
+            ("destination 2", "destination 4"),
+        ],
+        "8: a destination is not a node, or the destinations are not strictly ascending",
+        "destination 4, limit 0 to 3",
     );
 }
 
@@ -280,7 +449,14 @@ fn not_a_whole_number() {
 
 #[test]
 fn counts_out_of_range() {
-    bad("version", "study 1", "study 2", "line 3: study 2, limit 1");
+    for version in [0, 3] {
+        bad(
+            &format!("version-{version}"),
+            "study 1",
+            &format!("study {version}"),
+            &format!("line 3: study {version}, limit 1 to 2"),
+        );
+    }
     bad(
         "nodes",
         "nodes 2",
@@ -369,6 +545,70 @@ fn lines_out_of_place() {
 }
 
 #[test]
+fn closed_lines_at_fault() {
+    bad_zone(
+        "version",
+        "study 2",
+        "study 1",
+        "line 8: closed nodes in a study of version 1, must be 2",
+    );
+    bad_zone(
+        "node",
+        "closed 1",
+        "closed 1 4",
+        "line 8: closed node 4, limit 0 to 3",
+    );
+    bad_zone(
+        "word",
+        "closed 1",
+        "closed one",
+        "line 8: closed node `one` is not a whole number, limit 0 to 3",
+    );
+    bad_zone(
+        "comma",
+        "closed 1",
+        "closed 1, 2",
+        "line 8: closed node `1,` is not a whole number, limit 0 to 3",
+    );
+    bad_zone(
+        "blank",
+        "closed 1",
+        "closed 1: 1",
+        "line 8: closed byte `` is not a whole number, limit 0 to 255",
+    );
+    bad_zone(
+        "byte",
+        "closed 1",
+        "closed 1:256",
+        "line 8: closed byte 256, limit 0 to 255",
+    );
+    bad_zone(
+        "twice",
+        "closed 1",
+        "closed 1\nclosed 0 1:0",
+        "line 9: closed node 1 for the second time",
+    );
+    bad_zone(
+        "empty",
+        "closed 1",
+        "closed",
+        "line 8: `closed`, must be `closed NODE NODE ...`",
+    );
+    bad_zone(
+        "place",
+        "closed 1\n\n",
+        "link 0 0 1 5 20 2\nclosed 1\n",
+        "line 9: found `closed 1` where link 1 of 4 (they count from 0) is due",
+    );
+    bad_zone(
+        "end",
+        "total",
+        "closed 1\ntotal",
+        "line 20: found `closed 1` where `from`, `total:`, `check:` or the end is due",
+    );
+}
+
+#[test]
 fn not_text() {
     let folder = Folder::new("text-binary");
     folder.put("town.txt", b"study 1\nnodes \xff\n");
@@ -388,10 +628,18 @@ fn shows_only(name: &str, file: &[u8], shown: &str) {
     assert_eq!(outcome.status, 1);
 }
 
-fn town_with(place: usize, bytes: &[u8]) -> Vec<u8> {
-    let mut file = TOWN_FILE.to_vec();
+fn edited(file: &[u8], place: usize, bytes: &[u8]) -> Vec<u8> {
+    let mut file = file.to_vec();
     file[place..place + bytes.len()].copy_from_slice(bytes);
     file
+}
+
+fn town_with(place: usize, bytes: &[u8]) -> Vec<u8> {
+    edited(&TOWN_FILE, place, bytes)
+}
+
+fn zone_with(place: usize, bytes: &[u8]) -> Vec<u8> {
+    edited(&ZONE_FILE, place, bytes)
 }
 
 #[test]
@@ -416,11 +664,16 @@ fn refused_1() {
 
 #[test]
 fn refused_2() {
-    shows_only(
-        "2",
-        &town_with(0, &[2]),
-        "check: refused 2: the version is not 1\nfound: version 2, must be 1\n",
-    );
+    for version in [0, 3] {
+        shows_only(
+            &format!("2-{version}"),
+            &town_with(0, &[version]),
+            &format!(
+                "check: refused 2: the version is not 1 or 2\n\
+                 found: version {version}, limit 1 to 2\n"
+            ),
+        );
+    }
 }
 
 #[test]
@@ -439,10 +692,55 @@ fn refused_3() {
     );
 }
 
+const ANSWER_4: &str = "check: refused 4: a section begins inside the header, runs into the next \
+                        one or past the end of the file, or the file is shorter than its version's \
+                        header (32 bytes, 40 in version 2)\n";
+
+#[test]
+fn refused_4_in_version_2() {
+    let answer = ANSWER_4;
+    shows_only(
+        "4-39",
+        &ZONE_FILE[..39],
+        &format!("{answer}found: 39 bytes, but the header of version 2 has 40\n"),
+    );
+    shows_only(
+        "4-32",
+        &ZONE_FILE[..32],
+        &format!("{answer}found: 32 bytes, but the header of version 2 has 40\n"),
+    );
+    shows_only(
+        "4-links",
+        &zone_with(8, &[39]),
+        &format!("{answer}found: links begin at byte 39, must be 40 or later\n"),
+    );
+    shows_only(
+        "4-closed",
+        &zone_with(32, &[89]),
+        &format!(
+            "{answer}found: trips begin at byte 82 and have 8 bytes, so they end at 90, \
+             limit 89, where closed bytes begin\n"
+        ),
+    );
+    shows_only(
+        "4-closed-end",
+        &ZONE_FILE[..93],
+        &format!(
+            "{answer}found: closed bytes begin at byte 90 and have 4 bytes, so they end at 94, \
+             limit 93, the end of the file\n"
+        ),
+    );
+    // The town of two roads has no place for a fourth pair.
+    let shown = "found: links begin at byte 32, must be 40 or later";
+    let folder = Folder::new("show-4-town");
+    folder.put("file", town_with(0, &[2]));
+    let outcome = folder.study(&["show", "file"]);
+    assert!(outcome.stdout.starts_with(&format!("{answer}{shown}")));
+}
+
 #[test]
 fn refused_4() {
-    let answer = "check: refused 4: a section begins inside the header, runs into the next one or \
-                  past the end of the file\n";
+    let answer = ANSWER_4;
     shows_only(
         "4-header",
         &town_with(8, &[31]),
@@ -480,8 +778,15 @@ fn refused_5() {
         "5",
         &town_with(28, &[2]),
         "check: refused 5: the length of a section does not fit the counts: 10 bytes a link, \
-         2 a destination, 2 for each destination and node\n\
+         2 a destination, 2 for each destination and node and, in version 2, 1 a node\n\
          found: trips have 2 bytes, must have 4 = 2 × 1 destination × 2 nodes\n",
+    );
+    shows_only(
+        "5-closed",
+        &zone_with(36, &[3]),
+        "check: refused 5: the length of a section does not fit the counts: 10 bytes a link, \
+         2 a destination, 2 for each destination and node and, in version 2, 1 a node\n\
+         found: closed bytes have 3 bytes, must have 4 = 1 × 4 nodes\n",
     );
 }
 
@@ -513,11 +818,23 @@ fn gaps_are_left_out() {
     file.extend(&TOWN_FILE[54..]);
     file.push(7);
 
-    let folder = Folder::new("show-gaps");
+    shown_and_packed("gaps", &file, TOWN, &TOWN_FILE);
+
+    // A byte more before the closed bytes of the zone, and one at the end.
+    let mut file = zone_with(32, &[91]);
+    file.insert(90, 7);
+    file.push(7);
+    shown_and_packed("zone-gaps", &file, ZONE, &ZONE_FILE);
+}
+
+/// Show prints this text of a file, and from-text makes the packed file of it.
+#[track_caller]
+fn shown_and_packed(name: &str, file: &[u8], text: &str, packed: &[u8]) {
+    let folder = Folder::new(&format!("show-{name}"));
     folder.put("file", file);
     let shown = folder.study(&["show", "file"]).ok();
-    assert_eq!(shown, TOWN);
+    assert_eq!(shown, text);
     folder.put("town.txt", shown);
     folder.study(&COMMAND).ok();
-    assert_eq!(folder.bytes("out"), TOWN_FILE);
+    assert_eq!(folder.bytes("out"), packed);
 }

@@ -195,8 +195,7 @@ fn trips_that_round_to_0_are_reported() {
 
 #[test]
 fn what_a_study_has_no_place_for_is_reported() {
-    let net = with(NET, "<FIRST THRU NODE> 1", "<FIRST THRU NODE> 3");
-    let net = with(&net, "0.15\t4\t0\t0\t1", "0.15\t4\t0\t2.5\t1");
+    let net = with(NET, "0.15\t4\t0\t0\t1", "0.15\t4\t0\t2.5\t1");
     let net = with(
         &net,
         "<END OF METADATA>",
@@ -206,15 +205,183 @@ fn what_a_study_has_no_place_for_is_reported() {
     assert_eq!(outcome.status, 0, "{outcome:?}");
     assert!(
         outcome.stderr.starts_with(
-            "net.tntp: line 3: <FIRST THRU NODE> 3 is left out: \
-             in a version 1 study any node may be passed through\n\
-             net.tntp: line 5: <DISTANCE FACTOR> 0.04 is left out: \
+            "net.tntp: line 5: <DISTANCE FACTOR> 0.04 is left out: \
              a link's time is its free time and rise\n\
              net.tntp: 1 link with a toll: tolls are left out, a study has none\n\
              rounded"
         ),
         "{}",
         outcome.stderr
+    );
+}
+
+// Closed nodes.
+
+/// Zones 1 and 2 in the middle of streets 3 to 6, and zone 1 with a straight
+/// link to zone 2.
+const ZONED_NET: &str = "\
+<NUMBER OF ZONES> 2
+<NUMBER OF NODES> 6
+<FIRST THRU NODE> 3
+<NUMBER OF LINKS> 9
+<END OF METADATA>
+\t1\t3\t10\t1\t1\t0\t4\t0\t0\t1\t;
+\t3\t4\t10\t1\t1\t0\t4\t0\t0\t1\t;
+\t4\t5\t10\t1\t1\t0\t4\t0\t0\t1\t;
+\t5\t6\t10\t1\t1\t0\t4\t0\t0\t1\t;
+\t6\t2\t10\t1\t1\t0\t4\t0\t0\t1\t;
+\t2\t3\t10\t1\t1\t0\t4\t0\t0\t1\t;
+\t3\t1\t10\t1\t1\t0\t4\t0\t0\t1\t;
+\t1\t6\t10\t1\t1\t0\t4\t0\t0\t1\t;
+\t1\t2\t10\t1\t9\t0\t4\t0\t0\t1\t;
+";
+
+/// Trips between the zones, both ways.
+const ZONED_TRIPS: &str = "\
+<NUMBER OF ZONES> 2
+<TOTAL OD FLOW> 7.0
+<END OF METADATA>
+Origin 1
+2 : 4.0;
+Origin 2
+1 : 3.0;
+";
+
+/// The closed bytes of what a net with this first thru node becomes.
+#[track_caller]
+fn closed_from(name: &str, net: &str, trips: &str) -> (Option<Vec<u8>>, Folder) {
+    let folder = folder(name, net, trips);
+    folder.study(&COMMAND).ok();
+    let file = folder.bytes("out");
+    assert_eq!(second::check(&file), 0);
+    let study = Study::read(&file).expect("a study");
+    assert_eq!(study.packed(), file);
+
+    let shown = folder.study(&["show", "out"]).ok();
+    folder.put("text", &shown);
+    folder.study(&["from-text", "text", "--out", "again"]).ok();
+    assert_eq!(folder.bytes("again"), file);
+    (study.closed, folder)
+}
+
+#[test]
+fn closed_zones() {
+    let (closed, folder) = closed_from("zoned", ZONED_NET, ZONED_TRIPS);
+    assert_eq!(closed, Some(vec![1, 1, 0, 0, 0, 0]));
+    let outcome = folder.study(&COMMAND);
+    assert_eq!(
+        outcome.stderr,
+        "net.tntp: line 3: <FIRST THRU NODE> 3: nodes 1 to 2 are closed, which makes a version 2 \
+         study\nno figure was rounded\n"
+    );
+    assert_eq!(
+        outcome.stdout,
+        "out: 164 bytes, 6 nodes (2 closed), 9 links, 2 destinations, 7 trips\n\
+         check: accepted\n"
+    );
+    let shown = folder.study(&["show", "out"]).ok();
+    assert!(
+        shown.contains("study 2\nnodes 6\nlinks 9\ndestinations 2\n\nclosed 0 1\n\n#"),
+        "{shown}"
+    );
+    // Trips go to a closed zone, and begin at one.
+    let file = folder.bytes("out");
+    let mut table = [9; 18];
+    assert_eq!(second::start(&file, &mut table), 0);
+    assert_eq!(table[..9], [0, 0, 0, 0, 0, 3, 3, 0, 0]);
+    assert_eq!(table[9..], [0, 0, 0, 0, 4, 0, 0, 4, 0]);
+}
+
+#[test]
+fn first_thru_nodes() {
+    for (first, closed) in [
+        (1, None),
+        (2, Some(vec![1, 0, 0, 0, 0, 0])),
+        (3, Some(vec![1, 1, 0, 0, 0, 0])),
+    ] {
+        let net = with(ZONED_NET, "THRU NODE> 3", &format!("THRU NODE> {first}"));
+        let (found, _) = closed_from(&format!("first-{first}"), &net, ZONED_TRIPS);
+        assert_eq!(found, closed, "{first}");
+    }
+    // Beyond the zones node 3 is closed as well, and trips to 1 come by it.
+    let net = with(ZONED_NET, "THRU NODE> 3", "THRU NODE> 4");
+    folder("first-4", &net, ZONED_TRIPS).fails(
+        &COMMAND,
+        "trips.tntp: line 7: origin 2 has trips to 1, but every path there leads through a node \
+         below <FIRST THRU NODE> 4",
+    );
+    // All nodes closed: each trip has a link of its own.
+    let net = with(NET, "THRU NODE> 1", "THRU NODE> 4");
+    let trips = "<END OF METADATA>\nOrigin 1\n2 : 1;\nOrigin 2\n3 : 1;\nOrigin 3\n1 : 1;\n";
+    let (closed, _) = closed_from("first-all", &net, trips);
+    assert_eq!(closed, Some(vec![1; 3]));
+}
+
+#[test]
+fn one_closed_node() {
+    let net = with(NET, "THRU NODE> 1", "THRU NODE> 2");
+    let outcome = folder("first-one", &net, TRIPS).study(&COMMAND);
+    assert!(
+        outcome.stderr.starts_with(
+            "net.tntp: line 3: <FIRST THRU NODE> 2: node 1 is closed, which makes a version 2 \
+             study\nrounded"
+        ),
+        "{}",
+        outcome.stderr
+    );
+    assert!(outcome.stdout.contains(" 3 nodes (1 closed), "));
+}
+
+#[test]
+fn no_first_thru_node() {
+    let net = with(NET, "<FIRST THRU NODE> 1\n", "");
+    let (closed, without) = closed_from("first-none", &net, TRIPS);
+    assert_eq!(closed, None);
+    let (_, stated) = closed_from("first-stated", NET, TRIPS);
+    assert_eq!(without.bytes("out"), stated.bytes("out"));
+}
+
+#[test]
+fn first_thru_node_at_fault() {
+    for (name, value, message) in [
+        ("0", "0", "0, limit 1 to 4"),
+        ("5", "5", "5, limit 1 to 4"),
+        ("65536", "65536", "65536, limit 1 to 4"),
+        ("word", "none", "`none` is not a whole number, limit 1 to 4"),
+        ("part", "1.5", "`1.5` is not a whole number, limit 1 to 4"),
+        ("minus", "-1", "`-1` is not a whole number, limit 1 to 4"),
+        ("nothing", "", "`` is not a whole number, limit 1 to 4"),
+    ] {
+        bad_net(
+            &format!("first-{name}"),
+            "<FIRST THRU NODE> 1",
+            &format!("<FIRST THRU NODE> {value}"),
+            &format!("line 3: <FIRST THRU NODE> {message}"),
+        );
+    }
+    bad_net(
+        "first-twice",
+        "<FIRST THRU NODE> 1\n",
+        "<FIRST THRU NODE> 1\n<first thru node> 1\n",
+        "line 4: <FIRST THRU NODE> for the second time, first on line 3",
+    );
+}
+
+/// In the triangle, trips from 1 to 3 go through 2.
+#[test]
+fn trips_without_a_path_but_through_zones() {
+    let net = with(NET, "THRU NODE> 1", "THRU NODE> 3");
+    folder("shut", &net, TRIPS).fails(
+        &COMMAND,
+        "trips.tntp: line 6: origin 1 has trips to 3, but every path there leads through a node \
+         below <FIRST THRU NODE> 3",
+    );
+    folder("opened", NET, TRIPS).study(&COMMAND).ok();
+    // No path at all is said so, whatever is closed.
+    let net = with(&net, "\t3\t1\t60", "\t1\t3\t60");
+    folder("shut-none", &net, TRIPS).fails(
+        &COMMAND,
+        "trips.tntp: line 8: origin 3 has trips to 1, but no path of links leads there",
     );
 }
 

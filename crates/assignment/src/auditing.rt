@@ -8,7 +8,7 @@ use calls::AuditAnswer;
 pub fn audit(file: &[u8], table: &[u32], share: u32) -> AuditAnswer
     ensures { λ r. ⌜ r ≡ auditAnswer (now (file .entry)) (now (table .entry)) share ⌝ }
 {
-    let mut rows = [[0u16, 0, 0, 0, 0]; 512];
+    let mut rows = [[0u16, 0, 0, 0, 0, 0]; 512];
     let mut places = [0u16; 32];
     let mut entries = [0u16; 4096];
     let opening = network::decode(file, &mut rows, &mut places, &mut entries);

@@ -11,7 +11,7 @@ pub fn pass(file: &[u8], table: &mut [u32], share: u32) -> PassAnswer
     ensures { λ r. ⌜ r ≡ passAnswer (now (file .entry)) (now (table .entry)) share ⌝ }
     ensures { λ r. ⌜ now (table .exit) ≡ passTable (now (file .entry)) (now (table .entry)) share ⌝ }
 {
-    let mut rows = [[0u16, 0, 0, 0, 0]; 512];
+    let mut rows = [[0u16, 0, 0, 0, 0, 0]; 512];
     let mut places = [0u16; 32];
     let mut entries = [0u16; 4096];
     let opening = network::decode(file, &mut rows, &mut places, &mut entries);

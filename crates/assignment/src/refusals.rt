@@ -1,4 +1,4 @@
-// The questions of each call, in document 01's order, over a file whose fields are decoded. The file itself is here for the contracts alone.
+// The questions of each call, in order, over a file whose fields are decoded. Of the file itself only the closed bytes are read.
 ghost use mathlib.Core.Path.{_≡_};
 ghost use lib.ListN.{replicate};
 ghost use Rattle.calls.specs.Questions.{budgetFits};
@@ -6,12 +6,12 @@ ghost use Rattle.calls.specs.Calls.{startNumber, tableNumber, runNumber};
 ghost use Rattle.travel.specs.Links.{tableTotals};
 ghost use Rattle.assignment.specs.Parts.{PartsOf};
 
-// Start's number: the first of questions 1 to 12 that refuses, or 0.
+// Start's number: the first of questions 1 to 8, 19 and 9 to 12 that refuses, or 0.
 pub fn start_refusal(
     file: &[u8],
     opening: u8,
     nodes: usize,
-    links: &[[u16; 5]],
+    links: &[[u16; 6]],
     destinations: &[u16],
     trips: &[u16],
     table: &[u32],
@@ -22,7 +22,8 @@ pub fn start_refusal(
     if opening != 0 {
         return opening;
     }
-    let refusal = questions::study_refusal(nodes, links, destinations, trips);
+    let closed = study::accepted_section(file, study::CLOSED);
+    let refusal = questions::study_refusal(nodes, links, destinations, closed, trips);
     if refusal != 0 {
         return refusal;
     }
@@ -32,12 +33,12 @@ pub fn start_refusal(
     0
 }
 
-// Pass's and audit's number: as start's, and then questions 14 to 16.
+// Pass's and audit's number: as start's, and then questions 14 to 16 and 20.
 pub fn table_refusal(
     file: &[u8],
     opening: u8,
     nodes: usize,
-    links: &[[u16; 5]],
+    links: &[[u16; 6]],
     destinations: &[u16],
     trips: &[u16],
     table: &[u32],
@@ -65,7 +66,7 @@ pub fn totals_refusal(
     file: &[u8],
     opening: u8,
     nodes: usize,
-    links: &[[u16; 5]],
+    links: &[[u16; 6]],
     destinations: &[u16],
     trips: &[u16],
     table: &[u32],
@@ -98,7 +99,7 @@ pub fn run_refusal(
     file: &[u8],
     opening: u8,
     nodes: usize,
-    links: &[[u16; 5]],
+    links: &[[u16; 6]],
     destinations: &[u16],
     trips: &[u16],
     table: &[u32],

@@ -15,7 +15,7 @@ pub fn run(file: &[u8], table: &mut [u32], budget: u32, excess: u16) -> RunAnswe
     ensures { λ r. ⌜ r ≡ runAnswer (now (file .entry)) (now (table .entry)) budget excess ⌝ }
     ensures { λ r. ⌜ now (table .exit) ≡ runTable (now (file .entry)) (now (table .entry)) budget excess ⌝ }
 {
-    let mut rows = [[0u16, 0, 0, 0, 0]; 512];
+    let mut rows = [[0u16, 0, 0, 0, 0, 0]; 512];
     let mut places = [0u16; 32];
     let mut entries = [0u16; 4096];
     let opening = network::decode(file, &mut rows, &mut places, &mut entries);
@@ -46,7 +46,7 @@ pub fn run(file: &[u8], table: &mut [u32], budget: u32, excess: u16) -> RunAnswe
 fn turns(
     file: &[u8],
     nodes: usize,
-    links: &[[u16; 5]],
+    links: &[[u16; 6]],
     destinations: &[u16],
     trips: &[u16],
     table: &mut [u32],

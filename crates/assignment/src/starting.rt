@@ -7,7 +7,7 @@ pub fn start(file: &[u8], table: &mut [u32]) -> u8
     ensures { λ r. ⌜ r ≡ startNumber (now (file .entry)) (now (table .entry)) ⌝ }
     ensures { λ r. ⌜ now (table .exit) ≡ startTable (now (file .entry)) (now (table .entry)) ⌝ }
 {
-    let mut rows = [[0u16, 0, 0, 0, 0]; 512];
+    let mut rows = [[0u16, 0, 0, 0, 0, 0]; 512];
     let mut places = [0u16; 32];
     let mut entries = [0u16; 4096];
     let opening = network::decode(file, &mut rows, &mut places, &mut entries);

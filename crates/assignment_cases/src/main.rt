@@ -28,7 +28,7 @@ struct Sizes {
 }
 
 fn main() {
-    let mut file_space = [0u8; 64];
+    let mut file_space = [0u8; 96];
     let mut table_space = [0u32; 5];
     let file: &mut [u8] = &mut file_space;
     let table: &mut [u32] = &mut table_space;

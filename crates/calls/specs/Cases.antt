@@ -1,26 +1,28 @@
 -- Document 01, 'A town of two roads': cases P1 to P10 and the listing's run, and cases of document 02's requests, computed from the
 -- definitions. One list of cases, one test, one lemma that the test holds of all.
 use Prim.Native.Nat.{ℕ}
+use native.Mathlib.Omega.{arith}
 use mathlib.Core.Path.{_≡_, refl}
 use mathlib.Core.Bool.{Bool, true, false, _&&_}
 use mathlib.Core.List.{List, [], _∷_, _++_}
-use lib.ListN.{replicate}
+use lib.ListN.{take, drop, replicate}
 use lib.Dec.{eqb}
 use Rattle.text.specs.Decimal.{digitsWithin, decimal, hundredths, aligned}
 use Rattle.study.specs.Bytes.{u16, u32}
-use Rattle.study.specs.Header.{version, nodeField, linkField, destinationField, offset, size}
-use Rattle.study.specs.Questions.{lengthFits, versionKnown, countsFit, sectionsInOrder, sizesFit, opening, refusal}
-use Rattle.study.specs.Sections.{nodes, links, destinations, part}
-use Rattle.study.specs.Fields.{tail, head, freeTime, rise, capacity, destination, trips}
+use Rattle.study.specs.Versions.{versions, formOf}
+use Rattle.study.specs.Header.{version, nodeField, linkField, destinationField, hasSection, offset, size, closedField}
+use Rattle.study.specs.Questions.{lengthFits, versionKnown, countsFit, sectionsApart, sectionsInOrder, sizesFit, opening, refusal}
+use Rattle.study.specs.Sections.{nodes, links, destinations, closedCount, part, closedPart}
+use Rattle.study.specs.Fields.{tail, head, freeTime, rise, capacity, destination, trips, closedByte}
 use Rattle.theory.specs.Finite.{sum, all, first, largest, tabulate, rows}
 use Rattle.theory.specs.Network.{Network, totalTrips}
-use Rattle.theory.specs.Flows.{linkTotal, total, sumAt, balances, conserves, totalsFit, step, stepTime, timeAt, times}
-use Rattle.theory.specs.Routes.{leastOf, fromHead, round, rounds, distances, fitsNext, nextLinks, walk, loadingRow, loading}
+use Rattle.theory.specs.Flows.{linkTotal, total, sumAt, balances, conserves, permits, totalsFit, step, stepTime, timeAt, times}
+use Rattle.theory.specs.Routes.{routing, IsPath, leastOf, fromHead, round, rounds, distances, fitsNext, nextLinks, walk, loadingRow, loading}
 use Rattle.theory.specs.Cost.{staircase, linkCost, cost, leastTimes, spentTimes, gap}
 use Rattle.theory.specs.Moves.{Shared, started, movedTimes, qualifies, chosen, added, doubled, move, afterMoves, reaches, stops, judged, lastJudged}
-use Rattle.theory.specs.Study.{network}
+use Rattle.theory.specs.Study.{mayUse, network}
 use Rattle.calls.specs.Study.{linkRow, linkRows, destinationNodes, tripEntries, networkOf}
-use Rattle.calls.specs.Questions.{endsFit, timesFit, destinationsFit, noTripsWithin, totalFits, hasPath, tripsReach, tableHolds, budgetFits, shareFits}
+use Rattle.calls.specs.Questions.{endsFit, timesFit, destinationsFit, closedFit, noTripsWithin, totalFits, hasPath, tripsReach, tableHolds, budgetFits, shareFits}
 use Rattle.calls.specs.Questions.{packedSize, outputHolds, studyQuestions, shareQuestions, checkQuestions, packQuestions, startQuestions, runQuestions, tableQuestions, pageHolds, pageQuestions}
 use Rattle.calls.specs.Pack.{bytes16, bytes32, packedHeader, packed}
 use Rattle.calls.specs.Page.{volume, pageLine, lineOf, pageOf}
@@ -56,6 +58,44 @@ fullTown =
     ++ (1 ∷ 0 ∷ [])
     ++ (255 ∷ 255 ∷ 0 ∷ 0 ∷ [])
 
+-- A.2: a small town with a zone, node 1, in the middle between node 0 and node 2, and a way round by node 3. Links: 0 1 5 20 2, 1 2 5 0 1,
+-- 0 3 10 0 1 and 3 2 10 0 1; destination 2; trips 2 from node 0 and 1 from the zone, and as many from the destination to itself as is said
+-- (none, or the study is refused 9); the zone's closed byte. File 94 bytes.
+unfoldable pub zoneTown : ℕ → ℕ → List ℕ
+zoneTown own closed =
+    2 ∷ 0 ∷ 4 ∷ 0 ∷ 4 ∷ 0 ∷ 1 ∷ 0 ∷ []
+    ++ (40 ∷ 0 ∷ 0 ∷ 0 ∷ 40 ∷ 0 ∷ 0 ∷ 0 ∷ 80 ∷ 0 ∷ 0 ∷ 0 ∷ 2 ∷ 0 ∷ 0 ∷ 0 ∷ 82 ∷ 0 ∷ 0 ∷ 0 ∷ 8 ∷ 0 ∷ 0 ∷ 0 ∷ 90 ∷ 0 ∷ 0 ∷ 0 ∷ 4 ∷ 0 ∷ 0 ∷ 0 ∷ [])
+    ++ (0 ∷ 0 ∷ 1 ∷ 0 ∷ 5 ∷ 0 ∷ 20 ∷ 0 ∷ 2 ∷ 0 ∷ [])
+    ++ (1 ∷ 0 ∷ 2 ∷ 0 ∷ 5 ∷ 0 ∷ 0 ∷ 0 ∷ 1 ∷ 0 ∷ [])
+    ++ (0 ∷ 0 ∷ 3 ∷ 0 ∷ 10 ∷ 0 ∷ 0 ∷ 0 ∷ 1 ∷ 0 ∷ [])
+    ++ (3 ∷ 0 ∷ 2 ∷ 0 ∷ 10 ∷ 0 ∷ 0 ∷ 0 ∷ 1 ∷ 0 ∷ [])
+    ++ (2 ∷ 0 ∷ [])
+    ++ (2 ∷ 0 ∷ 1 ∷ 0 ∷ own ∷ 0 ∷ 0 ∷ 0 ∷ [])
+    ++ (0 ∷ closed ∷ 0 ∷ 0 ∷ [])
+
+-- The zone as a destination too: links 0 1 5 0 1, 1 2 5 0 1 and 0 2 20 0 1; destinations 1 and 2; a trip from node 0 to each; node 1 closed.
+unfoldable pub zoneServed : List ℕ
+zoneServed =
+    2 ∷ 0 ∷ 3 ∷ 0 ∷ 3 ∷ 0 ∷ 2 ∷ 0 ∷ []
+    ++ (40 ∷ 0 ∷ 0 ∷ 0 ∷ 30 ∷ 0 ∷ 0 ∷ 0 ∷ 70 ∷ 0 ∷ 0 ∷ 0 ∷ 4 ∷ 0 ∷ 0 ∷ 0 ∷ 74 ∷ 0 ∷ 0 ∷ 0 ∷ 12 ∷ 0 ∷ 0 ∷ 0 ∷ 86 ∷ 0 ∷ 0 ∷ 0 ∷ 3 ∷ 0 ∷ 0 ∷ 0 ∷ [])
+    ++ (0 ∷ 0 ∷ 1 ∷ 0 ∷ 5 ∷ 0 ∷ 0 ∷ 0 ∷ 1 ∷ 0 ∷ [])
+    ++ (1 ∷ 0 ∷ 2 ∷ 0 ∷ 5 ∷ 0 ∷ 0 ∷ 0 ∷ 1 ∷ 0 ∷ [])
+    ++ (0 ∷ 0 ∷ 2 ∷ 0 ∷ 20 ∷ 0 ∷ 0 ∷ 0 ∷ 1 ∷ 0 ∷ [])
+    ++ (1 ∷ 0 ∷ 2 ∷ 0 ∷ [])
+    ++ (1 ∷ 0 ∷ 0 ∷ 0 ∷ 0 ∷ 0 ∷ 1 ∷ 0 ∷ 0 ∷ 0 ∷ 0 ∷ 0 ∷ [])
+    ++ (0 ∷ 1 ∷ 0 ∷ [])
+
+-- A zone with no way round it: links 0 1 5 0 1 and 1 2 5 0 1, destination 2, a trip from node 0; the zone's closed byte.
+unfoldable pub zoneOnly : ℕ → List ℕ
+zoneOnly closed =
+    2 ∷ 0 ∷ 3 ∷ 0 ∷ 2 ∷ 0 ∷ 1 ∷ 0 ∷ []
+    ++ (40 ∷ 0 ∷ 0 ∷ 0 ∷ 20 ∷ 0 ∷ 0 ∷ 0 ∷ 60 ∷ 0 ∷ 0 ∷ 0 ∷ 2 ∷ 0 ∷ 0 ∷ 0 ∷ 62 ∷ 0 ∷ 0 ∷ 0 ∷ 6 ∷ 0 ∷ 0 ∷ 0 ∷ 68 ∷ 0 ∷ 0 ∷ 0 ∷ 3 ∷ 0 ∷ 0 ∷ 0 ∷ [])
+    ++ (0 ∷ 0 ∷ 1 ∷ 0 ∷ 5 ∷ 0 ∷ 0 ∷ 0 ∷ 1 ∷ 0 ∷ [])
+    ++ (1 ∷ 0 ∷ 2 ∷ 0 ∷ 5 ∷ 0 ∷ 0 ∷ 0 ∷ 1 ∷ 0 ∷ [])
+    ++ (2 ∷ 0 ∷ [])
+    ++ (1 ∷ 0 ∷ 0 ∷ 0 ∷ 0 ∷ 0 ∷ [])
+    ++ (0 ∷ closed ∷ 0 ∷ [])
+
 -- A case: what the definitions give, and what the paper says.
 pub record Case : Type 0 where
   pub found : List ℕ
@@ -87,6 +127,10 @@ ran budget excess =
     let a = runAnswer town (7 ∷ 7 ∷ []) budget excess in
     endingNumber (a .ending) ∷ a .judged ∷ a .share ∷ a .gap ∷ runTable town (7 ∷ 7 ∷ []) budget excess
 
+-- The gap and cost that an audit answers.
+abbrev pub audited : List ℕ → List ℕ → ℕ → List ℕ
+audited file table share = let a = auditAnswer file table share in a .gap ∷ a .cost ∷ []
+
 -- The lines of the town's page at share 9: "  0   0   1     1.77     0.15" and "  1   0   1     0.22     0.15", and that of the full road:
 -- "  0   0   1 65535.00 42104.31".
 unfoldable pub townLines : List ℕ
@@ -113,7 +157,7 @@ cases =
     ∷ case (chosen g 8 (total g (16 ∷ 0 ∷ [])) (total g (loading g (times g 8 (16 ∷ 0 ∷ [])))) ∷ []) (1 ∷ [])
     -- P8 Share 9, flows 16, 2: times 15, 15, gap 0, cost 13,104.
     ∷ case (times g 9 (16 ∷ 2 ∷ [])) (15 ∷ 15 ∷ [])
-    ∷ case (auditAnswer town (16 ∷ 2 ∷ []) 9 .gap ∷ auditAnswer town (16 ∷ 2 ∷ []) 9 .cost ∷ []) (0 ∷ 13104 ∷ [])
+    ∷ case (audited town (16 ∷ 2 ∷ []) 9) (0 ∷ 13104 ∷ [])
     -- P9 Budget 3, excess 0: spent, 3 judged, share 4, flows 8, 0, gap 40.
     ∷ case (ran 3 0) (3 ∷ 3 ∷ 4 ∷ 40 ∷ 8 ∷ 0 ∷ [])
     -- P10 Excess 5: reached, 1 judged. (Excess 4 reaches only at the fifth.)
@@ -131,6 +175,25 @@ cases =
     ∷ case (pageSlice town (16 ∷ 2 ∷ []) 9 (replicate 61 7)) (townLines ++ (7 ∷ []))
     ∷ case (pageSlice fullTown (65535 ∷ []) 1 (replicate 30 7)) fullLine
     ∷ case (pageNumber town (16 ∷ 2 ∷ []) 9 (replicate 59 7) ∷ pageNumber town (16 ∷ 1 ∷ []) 9 [] ∷ []) (18 ∷ 16 ∷ [])
+    -- A.2: the zone open, and trips pass through it; closed, and they go round. Gap and cost of both.
+    ∷ case (startTable (zoneTown 0 0) (replicate 4 7)) (2 ∷ 3 ∷ 0 ∷ 0 ∷ [])
+    ∷ case (startTable (zoneTown 0 1) (replicate 4 7)) (0 ∷ 1 ∷ 2 ∷ 2 ∷ [])
+    ∷ case (audited (zoneTown 0 0) (2 ∷ 3 ∷ 0 ∷ 0 ∷ []) 1) (20 ∷ 2048 ∷ [])
+    ∷ case (audited (zoneTown 0 1) (0 ∷ 1 ∷ 2 ∷ 2 ∷ []) 1) (0 ∷ 2880 ∷ [])
+    -- Flow through it is refused 20, after 16; flow to it is not, though the link's total is the same.
+    ∷ case (tableNumber (zoneTown 0 1) (2 ∷ 3 ∷ 0 ∷ 0 ∷ []) 1 ∷ tableNumber (zoneTown 0 1) (2 ∷ 2 ∷ 0 ∷ 0 ∷ []) 1 ∷ []) (20 ∷ 16 ∷ [])
+    ∷ case (startTable zoneServed (replicate 6 7)) (1 ∷ 0 ∷ 0 ∷ 0 ∷ 0 ∷ 1 ∷ [])
+    ∷ case (tableNumber zoneServed (2 ∷ 0 ∷ 0 ∷ 0 ∷ 0 ∷ 2 ∷ []) 2 ∷ tableNumber zoneServed (2 ∷ 0 ∷ 0 ∷ 1 ∷ 1 ∷ 1 ∷ []) 2 ∷ []) (0 ∷ 20 ∷ [])
+    -- 20 comes before 18.
+    ∷ case (pageNumber (zoneTown 0 1) (2 ∷ 3 ∷ 0 ∷ 0 ∷ []) 1 [] ∷ pageNumber (zoneTown 0 1) (0 ∷ 1 ∷ 2 ∷ 2 ∷ []) 1 [] ∷ []) (20 ∷ 18 ∷ [])
+    -- A closed byte of 2 is refused 19, before 9. The zone with no way round it: 11 where it is closed.
+    ∷ case (checkNumber (zoneTown 0 2) ∷ checkNumber (zoneTown 1 2) ∷ checkNumber (zoneTown 1 1) ∷ []) (19 ∷ 19 ∷ 9 ∷ [])
+    ∷ case (checkNumber (zoneOnly 0) ∷ checkNumber (zoneOnly 1) ∷ []) (0 ∷ 11 ∷ [])
+    -- A version 2 file of 39 bytes is refused 4; so is one whose header is there, but not its sections. Version 3 is refused 2.
+    ∷ case (checkNumber (take 39 (zoneTown 0 1)) ∷ checkNumber (take 40 (zoneTown 0 1)) ∷ checkNumber (3 ∷ drop 1 (zoneTown 0 1)) ∷ []) (4 ∷ 4 ∷ 2 ∷ [])
+    -- Pack keeps the version and wants its whole packed size.
+    ∷ case (packOutput (zoneTown 0 1) (replicate 95 7)) (zoneTown 0 1 ++ (7 ∷ []))
+    ∷ case (packNumber (zoneTown 0 1) (replicate 93 7) ∷ packNumber (zoneTown 0 1) (replicate 94 7) ∷ []) (17 ∷ 0 ∷ [])
     ∷ []
 
 -- One lemma, by computation: the test holds of every case; and what the theorems ask of a study, a table, a share and a budget can be
@@ -141,17 +204,27 @@ pub record Computed : Type 0 where
   pub start : startNumber town (7 ∷ 7 ∷ []) ≡ 0
   pub table : tableNumber town (16 ∷ 2 ∷ []) 9 ≡ 0
   pub run : runNumber town (7 ∷ 7 ∷ []) 10 ≡ 0
-  pub conserving : conserves (networkOf town) 9 (16 ∷ 2 ∷ []) ≡ true
   pub stranded : checkNumber strandedTown ≡ 11
   pub roads : links town ≡ 2
   pub page : pageNumber town (16 ∷ 2 ∷ []) 9 (replicate 60 7) ≡ 0
   pub full : tableNumber fullTown (65535 ∷ []) 1 ≡ 0
   pub full-volume : volume 1 (total (networkOf fullTown) (65535 ∷ []) 0) ≡ 6553500
   pub full-line : lineOf (networkOf fullTown) 1 (65535 ∷ []) 0 ≡ fullLine
+  pub zone-closed : checkNumber (zoneOnly 1) ≡ 11
+  pub zone-open : checkNumber (zoneOnly 0) ≡ 0
+  pub zone-passed : tableNumber (zoneOnly 0) (1 ∷ 1 ∷ []) 1 ≡ 0
+  pub first-version : version town ≡ 1
+  pub zone-sizes : (networkOf (zoneTown 0 1) .links ≡ 4) × (networkOf (zoneTown 0 1) .commodities ≡ 1)
+  pub zone-head : networkOf (zoneTown 0 1) .head 0 ≡ 1
+  pub zone-destination : networkOf (zoneTown 0 1) .destination 0 ≡ 2
+  pub zone-byte : closedByte (closedPart (zoneTown 0 1)) 1 ≡ 1
+  pub zone-pack : packNumber (zoneTown 0 1) (replicate 94 7) ≡ 0
+  pub zone-way : IsPath (routing (networkOf (zoneTown 0 1)) (5 ∷ 5 ∷ 10 ∷ 10 ∷ []) 0) 0 (2 ∷ 3 ∷ [])
+  pub zone-avoided : tableNumber (zoneTown 0 1) (0 ∷ 1 ∷ 2 ∷ 2 ∷ []) 1 ≡ 0
   pub full-time : timeAt (networkOf fullTown) 1 (total (networkOf fullTown) (65535 ∷ [])) 0 ≡ 4210431
 
 pub computed : Computed
-unfolding cases case town strandedTown fullTown townLines fullLine digitsWithin decimal hundredths aligned u16 u32 version nodeField linkField destinationField offset size lengthFits versionKnown countsFit sectionsInOrder sizesFit opening refusal nodes links destinations part tail head freeTime rise capacity destination trips sum all first largest tabulate rows totalTrips linkTotal sumAt balances conserves totalsFit step stepTime times leastOf fromHead round rounds distances fitsNext nextLinks walk loadingRow loading staircase linkCost cost leastTimes spentTimes gap started movedTimes qualifies chosen added doubled move afterMoves reaches stops judged lastJudged linkRow linkRows destinationNodes tripEntries network networkOf endsFit timesFit destinationsFit noTripsWithin totalFits hasPath tripsReach tableHolds budgetFits shareFits packedSize outputHolds studyQuestions shareQuestions checkQuestions packQuestions startQuestions runQuestions tableQuestions overwritten checkNumber startNumber startTable tableNumber auditAnswer passAnswer passTable runNumber endingAt runAnswer runTable pageHolds pageQuestions pageLine lineOf pageOf pageNumber pageSlice
+unfolding cases case town strandedTown fullTown zoneTown zoneServed zoneOnly townLines fullLine digitsWithin decimal hundredths aligned u16 u32 versions formOf version nodeField linkField destinationField hasSection offset size closedField lengthFits versionKnown countsFit sectionsApart sectionsInOrder sizesFit opening refusal nodes links destinations closedCount part tail head freeTime rise capacity destination trips closedByte sum all first largest tabulate rows totalTrips linkTotal sumAt balances conserves permits totalsFit step stepTime times leastOf fromHead round rounds distances fitsNext nextLinks walk loadingRow loading staircase linkCost cost leastTimes spentTimes gap started movedTimes qualifies chosen added doubled move afterMoves reaches stops judged lastJudged linkRow linkRows destinationNodes tripEntries mayUse network networkOf endsFit timesFit destinationsFit closedFit noTripsWithin totalFits hasPath tripsReach tableHolds budgetFits shareFits packedSize outputHolds studyQuestions shareQuestions checkQuestions packQuestions startQuestions runQuestions tableQuestions bytes16 bytes32 packedHeader packed packNumber packOutput overwritten checkNumber startNumber startTable tableNumber auditAnswer passAnswer passTable runNumber endingAt runAnswer runTable pageHolds pageQuestions pageLine lineOf pageOf pageNumber pageSlice
 computed =
     record {
       every-case-holds = refl;
@@ -159,12 +232,22 @@ computed =
       start = refl;
       table = refl;
       run = refl;
-      conserving = refl;
       stranded = refl;
       roads = refl;
       page = refl;
       full = refl;
       full-volume = refl;
       full-line = refl;
+      zone-closed = refl;
+      zone-open = refl;
+      zone-passed = refl;
+      first-version = refl;
+      zone-sizes = (refl, refl);
+      zone-head = refl;
+      zone-destination = refl;
+      zone-byte = refl;
+      zone-pack = refl;
+      zone-way = (omega arith, refl, refl, (omega arith, refl, refl, refl));
+      zone-avoided = refl;
       full-time = refl;
     }

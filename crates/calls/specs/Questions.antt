@@ -7,10 +7,13 @@ use mathlib.Core.Option.{none}
 use lib.ListN.{length, getD, replicate}
 use lib.Dec.{leb, ltb, eqb}
 use Rattle.study.specs.Questions.{Question, within, opening}
-use Rattle.study.specs.Sections.{nodes, links, destinations}
+use Rattle.study.specs.Versions.{formOf}
+use Rattle.study.specs.Header.{version}
+use Rattle.study.specs.Sections.{nodes, links, destinations, closedCount, closedPart}
+use Rattle.study.specs.Fields.{closedByte}
 use Rattle.theory.specs.Finite.{all, tabulate}
 use Rattle.theory.specs.Network.{Network, totalTrips}
-use Rattle.theory.specs.Flows.{totalsFit, conserves}
+use Rattle.theory.specs.Flows.{totalsFit, conserves, permits}
 use Rattle.theory.specs.Routes.{routing, distances, isSome}
 use Rattle.theory.specs.Moves.{tableSize}
 use Rattle.theory.specs.Study.{freeTime, rise, capacity, network}
@@ -30,6 +33,10 @@ unfoldable pub destinationsFit : Network → Bool
 destinationsFit g =
     all (g .commodities) (λ k. ltb (g .destination k) (g .nodes))
     && all (g .commodities - 1) (λ k. ltb (g .destination k) (g .destination (k + 1)))
+
+-- 19 (A.2). Is every closed byte 0 or 1?
+unfoldable pub closedFit : List ℕ → Bool
+closedFit closedBytes = all (length closedBytes) (λ j. leb (closedByte closedBytes j) 1)
 
 -- 9. Is D(s,s) zero for every destination?
 unfoldable pub noTripsWithin : Network → Bool
@@ -64,9 +71,14 @@ budgetFits budget = within 1 1024 budget
 unfoldable pub shareFits : ℕ → Bool
 shareFits share = within 1 1024 share
 
--- The packed size: 32 + 10m + 2p + 2pn bytes.
+-- The packed size: 32 + 10m + 2p + 2pn bytes in version 1, 40 + 10m + 2p + 2pn + n in version 2.
 unfoldable pub packedSize : List ℕ → ℕ
-packedSize file = 32 + 10 * links file + 2 * destinations file + 2 * destinations file * nodes file
+packedSize file =
+    formOf (version file) .header
+    + formOf (version file) .link * links file
+    + 2 * destinations file
+    + 2 * destinations file * nodes file
+    + closedCount file
 
 -- 17. Is the output slice at least that long?
 unfoldable pub outputHolds : List ℕ → List ℕ → Bool
@@ -80,43 +92,46 @@ pageHolds g page = leb (30 * g .links) (length page)
 abbrev pub ask : ℕ → Bool → Question
 ask number answer = record { number = number; yes = answer }
 
--- Questions 6 to 11 of a study whose file passes 1 to 5;
-unfoldable pub studyQuestions : ℕ → List (List ℕ) → List ℕ → List ℕ → List Question
-studyQuestions n rows nodeList entries =
+-- Questions 6 to 11 of a study whose file passes 1 to 5, with 19 after 8;
+unfoldable pub studyQuestions : ℕ → List (List ℕ) → List ℕ → List ℕ → List ℕ → List Question
+studyQuestions n rows nodeList closedBytes entries =
     let g = network n rows nodeList entries in
     ask 6 (endsFit g)
     ∷ ask 7 (timesFit rows)
     ∷ ask 8 (destinationsFit g)
+    ∷ ask 19 (closedFit closedBytes)
     ∷ ask 9 (noTripsWithin g)
     ∷ ask 10 (totalFits g)
     ∷ ask 11 (tripsReach g)
     ∷ []
 
--- questions 14 to 16 of a table and a share.
+-- questions 14 to 16 of a table and a share, then 20 (A.2): is there no flow on a link that may not carry it?
 unfoldable pub shareQuestions : Network → List ℕ → ℕ → List Question
 shareQuestions g table share =
     ask 14 (shareFits share)
     ∷ ask 15 (totalsFit g share table)
     ∷ ask 16 (conserves g share table)
+    ∷ ask 20 (permits g table)
     ∷ []
 
--- Check puts 1 to 11;
+-- Check puts 1 to 8, 19, 9 to 11;
 unfoldable pub checkQuestions : List ℕ → List Question
-checkQuestions file = opening file ++ studyQuestions (nodes file) (linkRows file) (destinationNodes file) (tripEntries file)
+checkQuestions file =
+    opening file ++ studyQuestions (nodes file) (linkRows file) (destinationNodes file) (closedPart file) (tripEntries file)
 
--- pack 1 to 11, then 17;
+-- pack those, then 17;
 unfoldable pub packQuestions : List ℕ → List ℕ → List Question
 packQuestions file output = checkQuestions file ++ (ask 17 (outputHolds file output) ∷ [])
 
--- start 1 to 12;
+-- start those, then 12;
 unfoldable pub startQuestions : List ℕ → List ℕ → List Question
 startQuestions file table = checkQuestions file ++ (ask 12 (tableHolds (networkOf file) table) ∷ [])
 
--- run 1 to 13;
+-- run as start, then 13;
 unfoldable pub runQuestions : List ℕ → List ℕ → ℕ → List Question
 runQuestions file table budget = startQuestions file table ++ (ask 13 (budgetFits budget) ∷ [])
 
--- pass and audit 1 to 12, then 14 to 16;
+-- pass and audit as start, then 14 to 16 and 20;
 unfoldable pub tableQuestions : List ℕ → List ℕ → ℕ → List Question
 tableQuestions file table share = startQuestions file table ++ shareQuestions (networkOf file) table share
 

@@ -1,20 +1,27 @@
--- The study that a version 1 file holds, as rows of numbers, and the network that it describes. Fields are read through the promises of
+-- The study that a file of any version holds, as rows of numbers, and the network that it describes. Fields are read through the promises of
 -- `study`.
 use Prim.Native.Nat.{ℕ}
 use mathlib.Core.List.{List, [], _∷_}
-use Rattle.study.specs.Sections.{nodes, links, destinations, linkPart, destinationPart, tripPart}
-use Rattle.study.specs.Fields.{tail, head, freeTime, rise, capacity, destination, trips}
+use Rattle.study.specs.Sections.{nodes, links, destinations, linkPart, destinationPart, tripPart, closedPart}
+use Rattle.study.specs.Fields.{tail, head, freeTime, rise, capacity, destination, trips, closedByte}
 use Rattle.theory.specs.Finite.{tabulate, rows}
 use Rattle.theory.specs.Network.{Network}
 use Rattle.theory.specs.Study.{network}
 
--- The fields of a link, in the order of the columns of a row.
-unfoldable pub linkRow : List ℕ → ℕ → List ℕ
-linkRow linkBytes l = tail linkBytes l ∷ head linkBytes l ∷ freeTime linkBytes l ∷ rise linkBytes l ∷ capacity linkBytes l ∷ []
+-- The fields of a link, in the order of the columns of a row. The last is the closed byte of its head (A.2): 0 where the file has none.
+unfoldable pub linkRow : List ℕ → List ℕ → ℕ → List ℕ
+linkRow linkBytes closedBytes l =
+    tail linkBytes l
+    ∷ head linkBytes l
+    ∷ freeTime linkBytes l
+    ∷ rise linkBytes l
+    ∷ capacity linkBytes l
+    ∷ closedByte closedBytes (head linkBytes l)
+    ∷ []
 
 -- The rows of all links, in link order.
 unfoldable pub linkRows : List ℕ → List (List ℕ)
-linkRows file = tabulate (links file) (linkRow (linkPart file))
+linkRows file = tabulate (links file) (linkRow (linkPart file) (closedPart file))
 
 -- The node of every destination, in order.
 unfoldable pub destinationNodes : List ℕ → List ℕ

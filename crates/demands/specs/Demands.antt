@@ -13,7 +13,7 @@ use Rattle.theory.specs.Network.{totalTrips}
 use Rattle.theory.specs.Flows.{Carries}
 use Rattle.theory.specs.Cost.{cost}
 use Rattle.theory.specs.Moves.{Shared, tableSize, started, lastJudged}
-use Rattle.theory.specs.Laws.Conserving.{Balanced}
+use Rattle.theory.specs.Laws.Conserving.{Carried}
 use Rattle.theory.specs.Laws.Runs.{Judged}
 use Rattle.calls.specs.Study.{networkOf}
 use Rattle.calls.specs.Questions.{packedSize}
@@ -27,7 +27,7 @@ use Rattle.calls.specs.Laws.Calls.{refusedAudit, audit-accepted, pack-kept, pag
 use Rattle.demands.specs.Packing.{pack-reads-back, pack-twice}
 use Rattle.demands.specs.Packing.Same.{SameStudy}
 use Rattle.demands.specs.Refusals.{first-failing, PassRefused, RunRefused, refused-start, refused-audit, refused-pass, refused-run}
-use Rattle.demands.specs.Results.{Fresh, start-fresh, run-fresh, start-balances, run-balances, auditable-balances}
+use Rattle.demands.specs.Results.{Fresh, start-fresh, run-fresh, start-carried, run-carried, auditable-carried}
 use Rattle.demands.specs.RunEndings.{reached-exactly, counted}
 use Rattle.demands.specs.Sequences.{start-auditable, calls-auditable}
 use Rattle.demands.specs.Unreachable.{unreachable-exactly}
@@ -60,17 +60,17 @@ demand-1 =
     }
 
 -- Demand 2. Every result equals the definitions: that is the calls' contracts. Earlier table contents play no part in a start or a run;
--- at every node other than the destination, what leaves equals what enters plus the trips that begin there; a study that passes the
--- earlier questions is refused as unreachable exactly when no table at any share of at least 1 can carry its trips; packing a study and
--- reading it back gives the same study.
+-- at every node other than the destination, what leaves equals what enters plus the trips that begin there, and no link carries flow that it
+-- may not carry; a study that passes the earlier questions is refused as unreachable exactly when no permitted table at any share of at least
+-- 1 can carry its trips; packing a study and reading it back gives the same study.
 pub record Demand2 : Type 0 where
   pub fresh-start : (file table : List ℕ) → startNumber file table ≡ 0 → Fresh (tableSize (networkOf file)) (started (networkOf file) .table) table (startTable file table)
   pub fresh-run : (file table : List ℕ) (budget excess : ℕ) → runNumber file table budget ≡ 0
       → Fresh (tableSize (networkOf file)) (lastJudged (networkOf file) budget excess .table) table (runTable file table budget excess)
-  pub start-conserves : (file table : List ℕ) → startNumber file table ≡ 0 → Balanced (networkOf file) 1 (startTable file table)
+  pub start-conserves : (file table : List ℕ) → startNumber file table ≡ 0 → Carried (networkOf file) 1 (startTable file table)
   pub run-conserves : (file table : List ℕ) (budget excess : ℕ) → runNumber file table budget ≡ 0
-      → Balanced (networkOf file) (runAnswer file table budget excess .share) (runTable file table budget excess)
-  pub accepted-conserves : (file table : List ℕ) (share : ℕ) → tableNumber file table share ≡ 0 → Balanced (networkOf file) share table
+      → Carried (networkOf file) (runAnswer file table budget excess .share) (runTable file table budget excess)
+  pub accepted-conserves : (file table : List ℕ) (share : ℕ) → tableNumber file table share ≡ 0 → Carried (networkOf file) share table
   pub unreachable : (file : List ℕ) → Described file
       → (checkNumber file ≡ 11) ↔ ((share : ℕ) (table : List ℕ) → 1 ≤ share → Carries (networkOf file) share table → ⊥)
   pub packing : (file output : List ℕ) → packNumber file output ≡ 0 → SameStudy (take (packedSize file) (packOutput file output)) file
@@ -82,9 +82,9 @@ demand-2 =
     record {
       fresh-start = start-fresh;
       fresh-run = run-fresh;
-      start-conserves = start-balances;
-      run-conserves = run-balances;
-      accepted-conserves = auditable-balances;
+      start-conserves = start-carried;
+      run-conserves = run-carried;
+      accepted-conserves = auditable-carried;
       unreachable = unreachable-exactly;
       packing = pack-reads-back;
       packing-again = pack-twice;

@@ -1,22 +1,26 @@
--- The hypotheses of the demands and of the requests' theorems can be met: the town of two roads meets each of them.
-use Prim.Native.Nat.{_*_}
+-- The hypotheses of the demands and of the requests' theorems can be met: the town of two roads and the town with a zone meet each of them.
+use Prim.Native.Nat.{ℕ, _*_}
 use native.Mathlib.Omega.{arith}
+use mathlib.Core.Path.{_≡_}
 use mathlib.Core.List.{[], _∷_}
-use lib.ListN.{replicate}
+use lib.ListN.{take, replicate}
+use Rattle.study.specs.Header.{version}
 use Rattle.study.specs.Sections.{links}
-use Rattle.theory.specs.Flows.{Carries}
+use Rattle.theory.specs.Flows.{entry, Carries}
 use Rattle.calls.specs.Study.{networkOf}
 use Rattle.calls.specs.Sequence.{Call, afterStart, afterCalls}
-use Rattle.calls.specs.Cases.{town, computed}
+use Rattle.calls.specs.Cases.{town, zoneTown, computed}
 use Rattle.calls.specs.Page.{pageOf}
-use Rattle.calls.specs.Calls.{pageSlice}
-use Rattle.calls.specs.Laws.Questions.{Described, check-passed}
-use Rattle.calls.specs.Laws.Reach.{all-permitted}
+use Rattle.calls.specs.Questions.{packedSize}
+use Rattle.calls.specs.Calls.{packOutput, pageSlice}
+use Rattle.calls.specs.Laws.Questions.{Described, check-passed, table-both}
+use Rattle.calls.specs.Laws.Reach.{passed-carries}
 use Rattle.calls.specs.Laws.Page.{LineFits}
 use Rattle.demands.specs.Demands.{Certified, demand-3}
 use Rattle.demands.specs.Results.{Fresh}
 use Rattle.demands.specs.Pages.{OfLine}
-use Rattle.demands.specs.Requests.{request-A1}
+use Rattle.demands.specs.Zones.{Closed, Avoids}
+use Rattle.demands.specs.Requests.{request-A1, request-A2}
 
 -- A study that passes questions 1 to 11.
 pub town-described : Described town
@@ -24,7 +28,7 @@ town-described = check-passed town (computed .check) .described
 
 -- A rival: the equilibrium table at share 9.
 pub town-rival : Carries (networkOf town) 9 (16 ∷ 2 ∷ [])
-town-rival = all-permitted town 9 (16 ∷ 2 ∷ []) (computed .conserving)
+town-rival = passed-carries town (16 ∷ 2 ∷ []) 9 (table-both town (16 ∷ 2 ∷ []) 9 (computed .table) .1)
 
 -- An accepted start, followed by a list of calls of which some are refused.
 pub town-list : Certified town (afterCalls town (afterStart town (7 ∷ 7 ∷ [])) (Call.pass 1 ∷ Call.audit 3 ∷ Call.pass 5 ∷ Call.pass 2 ∷ []))
@@ -40,3 +44,23 @@ town-line = request-A1 .fits town (16 ∷ 2 ∷ []) 9 (computed .table) 1 (omega
 
 pub town-page : Fresh (30 * links town) (pageOf (networkOf town) 9 (16 ∷ 2 ∷ [])) (replicate 60 7) (pageSlice town (16 ∷ 2 ∷ []) 9 (replicate 60 7))
 town-page = request-A1 .slice town (16 ∷ 2 ∷ []) 9 (replicate 60 7) (computed .page)
+
+-- A version 1 file, and so no closed node in it.
+pub town-open : (node : ℕ) → Closed town node → ⊥
+town-open = request-A2 .version-1 town (computed .first-version)
+
+-- A path round the zone, and a table that the audit accepts, with a link into the zone and no flow on it to the destination beyond.
+pub zone-path : Avoids (zoneTown 0 1) 0 (2 ∷ 3 ∷ [])
+zone-path = request-A2 .path (zoneTown 0 1) (5 ∷ 5 ∷ 10 ∷ 10 ∷ []) 0 0 (2 ∷ 3 ∷ []) (computed .zone-way)
+
+pub zone-table : entry (networkOf (zoneTown 0 1) .links) (0 ∷ 1 ∷ 2 ∷ 2 ∷ []) 0 0 ≡ 0
+zone-table =
+    request-A2 .flow (zoneTown 0 1) (0 ∷ 1 ∷ 2 ∷ 2 ∷ []) 1 (computed .zone-avoided) 0 0
+    (omega (arith, computed .zone-sizes .1))
+    (omega (arith, computed .zone-sizes .0))
+    (rw (computed .zone-head) (computed .zone-byte))
+    (λ e. omega (arith, computed .zone-head, computed .zone-destination))
+
+-- A version 2 file that pack does not refuse.
+pub zone-packed : version (take (packedSize (zoneTown 0 1)) (packOutput (zoneTown 0 1) (replicate 94 7))) ≡ version (zoneTown 0 1)
+zone-packed = request-A2 .pack (zoneTown 0 1) (replicate 94 7) (computed .zone-pack)

@@ -9,4 +9,5 @@ pub mod RunEndings
 pub mod Packing
 pub mod Unreachable
 pub mod Pages
+pub mod Zones
 pub mod Instances

@@ -15,7 +15,7 @@ use Rattle.calls.specs.Pack.{packed}
 use Rattle.calls.specs.Calls.{overwritten, checkNumber, packNumber, packOutput}
 use Rattle.calls.specs.Laws.Questions.{pack-number, check-passed}
 use Rattle.calls.specs.Laws.Calls.{pack-kept}
-use Rattle.demands.specs.Packing.ReadBack.{packed-length, packed-shorter, packed-accepted, packed-nodes, packed-links, packed-destinations, packed-link-part, packed-destination-part, packed-trip-part}
+use Rattle.demands.specs.Packing.ReadBack.{packed-length, packed-shorter, packed-version, packed-accepted, packed-nodes, packed-links, packed-destinations, packed-link-part, packed-destination-part, packed-trip-part, packed-closed-part}
 use Rattle.demands.specs.Packing.Same.{SameStudy, same-packed, same-check, same-pack-output}
 pub mod Bytes
 pub mod Header
@@ -29,12 +29,14 @@ pub packing-reads-back : (file rest : List ℕ) → refusal file ≡ 0 → lengt
 packing-reads-back file rest e fits =
     record {
       same-refusal = packed-accepted file rest e fits ∙ sym e;
+      same-version = packed-version file rest e fits;
       same-nodes = packed-nodes file rest e fits;
       same-links = packed-links file rest e fits;
       same-destinations = packed-destinations file rest e fits;
       same-link-part = packed-link-part file rest e fits;
       same-destination-part = packed-destination-part file rest e fits;
       same-trip-part = packed-trip-part file rest e fits;
+      same-closed-part = packed-closed-part file rest e fits;
     }
 
 -- With no later bytes the packed file is never too long: packing makes no file longer.
@@ -42,7 +44,7 @@ pub packed-same : (file : List ℕ) → refusal file ≡ 0 → SameStudy (packed
 packed-same file e =
     let limits = accepted file e in
     let shorter = packed-shorter file e in
-    rw append-nil at (packing-reads-back file [] e (rw (append-nil, packed-length) (omega arith)))
+    rw append-nil at (packing-reads-back file [] e (rw (append-nil, packed-length file (limits .version-known)) (omega arith)))
 
 -- The packed file passes the same questions.
 pub packed-check : (file : List ℕ) → refusal file ≡ 0 → checkNumber (packed file) ≡ checkNumber file
@@ -77,12 +79,13 @@ pub record Written (file output : List ℕ) : Type 0 where
 pub pack-writes : (file output : List ℕ) → packNumber file output ≡ 0 → Written file output
 unfolding packOutput overwritten
 pack-writes file output e =
-    let whole : packOutput file output ≡ packed file ++ drop (packedSize file) output = rw (e, packed-length) in
+    let long = packed-length file (accepted file (pack-opened file output e) .version-known) in
+    let whole : packOutput file output ≡ packed file ++ drop (packedSize file) output = rw (e, long) in
     record {
       whole = whole;
-      first-bytes = rw whole (take-at (packed file) (drop (packedSize file) output) (packedSize file) (packed-length file));
-      later-bytes = rw whole (drop-at (packed file) (drop (packedSize file) output) (packedSize file) (packed-length file));
-      same-length = rw (whole, length-append, packed-length, length-drop) (omega (arith, pack-both file output e .1));
+      first-bytes = rw whole (take-at (packed file) (drop (packedSize file) output) (packedSize file) long);
+      later-bytes = rw whole (drop-at (packed file) (drop (packedSize file) output) (packedSize file) long);
+      same-length = rw (whole, length-append, long, length-drop) (omega (arith, pack-both file output e .1));
     }
 
 -- Where it refuses, it leaves the output slice as it was.

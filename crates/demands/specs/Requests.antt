@@ -2,15 +2,22 @@
 -- citation. The demands themselves speak of all calls and all versions, and stand in `Demands`.
 use Prim.Native.Nat.{ℕ, _*_, _+_, _<_}
 use mathlib.Core.Path.{_≡_}
+use mathlib.Core.Bool.{true}
 use mathlib.Core.List.{List}
-use lib.ListN.{length, getD}
+use mathlib.Core.Logic.{_↔_}
+use lib.ListN.{length, getD, take}
+use Rattle.study.specs.Header.{version}
 use Rattle.study.specs.Sections.{links}
 use Rattle.text.specs.Decimal.{decimal, hundredths}
+use Rattle.theory.specs.Flows.{entry}
+use Rattle.theory.specs.Routes.{routing, IsPath}
 use Rattle.calls.specs.Study.{networkOf}
+use Rattle.calls.specs.Questions.{packedSize}
 use Rattle.calls.specs.Page.{lineOf, pageOf}
-use Rattle.calls.specs.Calls.{tableNumber, pageNumber, pageSlice}
+use Rattle.calls.specs.Calls.{packNumber, packOutput, tableNumber, pageNumber, pageSlice}
 use Rattle.calls.specs.Laws.Page.{LineRange, LineFits}
 use Rattle.demands.specs.Results.{Fresh}
+use Rattle.demands.specs.Zones.{Closed, Avoids, OnlyClosed, permitted-exactly, version-1-open, path-avoids, flow-avoids, pack-version, only-closed}
 use Rattle.demands.specs.Pages.{Plain, Pointed, OfLine, Largest, decimal-plain, hundredths-pointed, full-road, numbers-range, numbers-fit, line-length, line-place, page-length, page-fresh}
 
 -- A.1, volumes on paper. Whatever table the audit accepts, every number fits its columns (3, 3, 3, 8 and 8), so each line has exactly 30
@@ -42,4 +49,29 @@ request-A1 =
       range = numbers-range;
       largest = full-road;
       slice = page-fresh;
+    }
+
+-- A.2, no driving through zones. The demands hold of both versions as they stand, since the file decides the network. A link whose head is
+-- closed may carry only flow to that head, and version 1 has every node open; so no path leads through a closed node, and no table that the
+-- audit accepts has flow through one. Pack keeps a file's version. A study is refused as unreachable only because a node is closed: open, a
+-- table through that node would carry its trips.
+pub record RequestA2 : Type 0 where
+  pub permission : (file : List ℕ) (l : ℕ) → l < networkOf file .links → (k : ℕ)
+      → (networkOf file .mayUse k l ≡ true) ↔ (Closed file (networkOf file .head l) → networkOf file .head l ≡ networkOf file .destination k)
+  pub version-1 : (file : List ℕ) → version file ≡ 1 → (node : ℕ) → Closed file node → ⊥
+  pub path : (file times : List ℕ) (k j : ℕ) (path : List ℕ) → IsPath (routing (networkOf file) times k) j path → Avoids file k path
+  pub flow : (file table : List ℕ) (share : ℕ) → tableNumber file table share ≡ 0 → (k l : ℕ) → k < networkOf file .commodities → l < networkOf file .links
+      → Closed file (networkOf file .head l) → (networkOf file .head l ≡ networkOf file .destination k → ⊥) → entry (networkOf file .links) table k l ≡ 0
+  pub pack : (file output : List ℕ) → packNumber file output ≡ 0 → version (take (packedSize file) (packOutput file output)) ≡ version file
+  pub only-closed : OnlyClosed
+
+pub request-A2 : RequestA2
+request-A2 =
+    record {
+      permission = permitted-exactly;
+      version-1 = version-1-open;
+      path = path-avoids;
+      flow = flow-avoids;
+      pack = pack-version;
+      only-closed = only-closed;
     }

@@ -9,19 +9,21 @@ use lib.ListN.{length, take, drop}
 use lib.Seq.{take-at, drop-at}
 use Rattle.theory.specs.Network.{Network}
 use Rattle.theory.specs.Moves.{Shared, tableSize, started, move, afterMoves, judged, lastJudged}
-use Rattle.theory.specs.Laws.Conserving.{Balanced, conserves-balanced}
+use Rattle.theory.specs.Laws.Conserving.{Carried, carries-carried}
 use Rattle.calls.specs.Study.{networkOf}
 use Rattle.calls.specs.Calls.{overwritten, startNumber, startTable, tableNumber, passAnswer, passTable, runNumber, runAnswer, runTable}
 use Rattle.calls.specs.Sequence.{Call, afterStart, afterCall}
 use Rattle.calls.specs.Laws.Questions.{Passed, SharePassed, check-passed, start-both, run-both, table-both}
+use Rattle.calls.specs.Laws.Reach.{passed-carries}
 use Rattle.calls.specs.Laws.Calls.{start-written, pass-accepted, pass-table, run-accepted, run-written}
 use Rattle.calls.specs.Laws.Tables.{started-length, run-length, run-passes, overwritten-passes}
 use Rattle.demands.specs.Sequences.{start-auditable, call-auditable}
 
 -- A table that the audit's questions accept balances at every node other than the destination: what leaves equals what enters plus the
--- trips that begin there.
-pub auditable-balances : (file table : List ℕ) (share : ℕ) → tableNumber file table share ≡ 0 → Balanced (networkOf file) share table
-auditable-balances file table share e = conserves-balanced (networkOf file) share table (table-both file table share e .1 .conserving)
+-- trips that begin there. And it is permitted: no link carries flow that it may not carry.
+pub auditable-carried : (file table : List ℕ) (share : ℕ) → tableNumber file table share ≡ 0 → Carried (networkOf file) share table
+auditable-carried file table share e =
+    carries-carried (networkOf file) share table (passed-carries file table share (table-both file table share e .1))
 
 -- Lent memory after a call that writes it anew, as the table after a start or a run: first numbers that its earlier contents play no part
 -- in, then the later numbers as they were.
@@ -43,9 +45,9 @@ module _ (file table : List ℕ) where
       rw (start-written file table s)
       (overwritten-fresh (tableSize (networkOf file)) (started (networkOf file) .table) table (started-length file (check-passed file (start-both file table s .0))))
 
-  pub start-balances : startNumber file table ≡ 0 → Balanced (networkOf file) 1 (startTable file table)
+  pub start-carried : startNumber file table ≡ 0 → Carried (networkOf file) 1 (startTable file table)
   unfolding afterStart
-  start-balances s = auditable-balances file (startTable file table) 1 (start-auditable file table s)
+  start-carried s = auditable-carried file (startTable file table) 1 (start-auditable file table s)
 
 module _ (file table : List ℕ) (budget excess : ℕ) where
   run-study : runNumber file table budget ≡ 0 → Passed file
@@ -64,13 +66,14 @@ module _ (file table : List ℕ) (budget excess : ℕ) where
       → runAnswer file table budget excess ≡ runAnswer file other budget excess
   run-same-answer other r s = run-accepted file table budget excess r ∙ sym (run-accepted file other budget excess s)
 
-  pub run-balances : runNumber file table budget ≡ 0
-      → Balanced (networkOf file) (runAnswer file table budget excess .share) (runTable file table budget excess)
+  pub run-carried : runNumber file table budget ≡ 0
+      → Carried (networkOf file) (runAnswer file table budget excess .share) (runTable file table budget excess)
   unfolding lastJudged
-  run-balances r =
+  run-carried r =
       let g = networkOf file in
       let study = run-study r in
       let i = pred (judged g budget excess) in
       rw (run-accepted file table budget excess r, run-written file table budget excess r)
-      (conserves-balanced g (afterMoves g i .share) (overwritten (afterMoves g i .table) table)
-      (overwritten-passes file study (afterMoves g i .table) table (afterMoves g i .share) (run-length file study i) (run-passes file study i) .conserving))
+      (carries-carried g (afterMoves g i .share) (overwritten (afterMoves g i .table) table)
+      (passed-carries file (overwritten (afterMoves g i .table) table) (afterMoves g i .share)
+      (overwritten-passes file study (afterMoves g i .table) table (afterMoves g i .share) (run-length file study i) (run-passes file study i))))

@@ -20,7 +20,8 @@ use Rattle.calls.specs.Laws.Questions.{Described, Passed, described-check}
 use Rattle.calls.specs.Laws.Networks.{sound}
 use Rattle.calls.specs.Laws.Reach.{unit-timed, reach-served, served-reach}
 
--- A study that passes questions 1 to 10 is refused as unreachable exactly when no table at any share of at least 1 can carry its trips.
+-- A study that passes questions 1 to 10 is refused as unreachable exactly when no permitted table at any share of at least 1 can carry its
+-- trips.
 pub unreachable-exactly : (file : List ℕ) → Described file
     → (checkNumber file ≡ 11) ↔ ((share : ℕ) (table : List ℕ) → 1 ≤ share → Carries (networkOf file) share table → ⊥)
 unreachable-exactly file h = (refused, none-carries)

@@ -7,7 +7,7 @@ use mathlib.Core.Option.{Option}
 use lib.ListN.{length, replicate}
 use lib.Dec.{leb}
 use Rattle.theory.specs.Network.{Network, Sound, totalTrips}
-use Rattle.theory.specs.Flows.{totalsFit, conserves}
+use Rattle.theory.specs.Flows.{totalsFit, Carries}
 use Rattle.theory.specs.Cost.{gap}
 use Rattle.theory.specs.Moves.{Shared, tableSize, move, moves}
 use Rattle.theory.specs.Study.{freeTime, rise, network}
@@ -50,14 +50,14 @@ pub record Ready (d : Study) : Type 0 where
   pub served : AllServed (networkIn d) (replicate (linkCount d) 1)
   pub few-trips : totalTrips (networkIn d) ≤ 65535
 
--- A table of such a study that passes questions 12 and 14 to 16 at a share.
+-- A table of such a study that passes questions 12, 14 to 16 and 20 at a share.
 pub record Judgeable (d : Study) (table : List ℕ) (share : ℕ) : Type 0 where
   pub ready : Ready d
   pub holds : tableSize (networkIn d) ≤ length table
   pub some-share : 1 ≤ share
   pub share-most : share ≤ 1024
   pub totals-fit : totalsFit (networkIn d) share table ≡ true
-  pub conserving : conserves (networkIn d) share table ≡ true
+  pub carries : Carries (networkIn d) share table
 
 -- What a pass makes of a table at a share.
 abbrev pub moveOf : Network → List ℕ → ℕ → Option Shared

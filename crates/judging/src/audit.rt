@@ -7,7 +7,7 @@ use crate::Sums;
 // Audit: the gap and cost of a table. The gap is taken by its definition, from the least times.
 pub fn audit_table(
     nodes: usize,
-    links: &[[u16; 5]],
+    links: &[[u16; 6]],
     destinations: &[u16],
     trips: &[u16],
     table: &[u32],

@@ -12,10 +12,10 @@ use travel::TOTAL;
 // are known already, as after a doubling, nothing is computed.
 pub fn judge(
     nodes: usize,
-    links: &[[u16; 5]],
+    links: &[[u16; 6]],
     destinations: &[u16],
     trips: &[u16],
-    chains: &[[u16; 640]; 2],
+    chains: &[[u16; 768]; 2],
     curves: &[u64; 769],
     share: u32,
     known: bool,

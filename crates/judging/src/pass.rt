@@ -11,7 +11,7 @@ use travel::TOTAL;
 // the choices of runs often are.
 pub fn pass_table(
     nodes: usize,
-    links: &[[u16; 5]],
+    links: &[[u16; 6]],
     destinations: &[u16],
     trips: &[u16],
     table: &mut [u32],

@@ -13,10 +13,10 @@ use crate::judge::judge;
 // Start: the table becomes the loading at empty roads, whatever it held before. It is judged in arrays that are lent, and can be lent again.
 pub fn start_table(
     nodes: usize,
-    links: &[[u16; 5]],
+    links: &[[u16; 6]],
     destinations: &[u16],
     trips: &[u16],
-    chains: &[[u16; 640]; 2],
+    chains: &[[u16; 768]; 2],
     curves: &[u64; 769],
     table: &mut [u32],
     times: &mut [u32; 512],

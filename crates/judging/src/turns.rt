@@ -16,10 +16,10 @@ use crate::judge::judge;
 // known from the turn before, if it doubled the table. A right guess of j saves time; none decides anything.
 pub fn turn_table(
     nodes: usize,
-    links: &[[u16; 5]],
+    links: &[[u16; 6]],
     destinations: &[u16],
     trips: &[u16],
-    chains: &[[u16; 640]; 2],
+    chains: &[[u16; 768]; 2],
     curves: &[u64; 769],
     times: &mut [u32; 512],
     next: &mut [[u16; 128]; 32],

@@ -10,7 +10,7 @@ use theory::HEAD;
 use theory::NO_LINK;
 
 // The head of link l.
-fn head_of(links: &[[u16; 5]], l: u16) -> usize
+fn head_of(links: &[[u16; 6]], l: u16) -> usize
     requires { ⌜ l < length (now links) ⌝ }
     ensures { λ r. ⌜ r ≡ head (now (links .entry)) l ⌝ }
 {
@@ -18,7 +18,7 @@ fn head_of(links: &[[u16; 5]], l: u16) -> usize
 }
 
 // Counts how many next links lead to each node.
-fn count_into(counts: &mut [u16; 128], nodes: usize, links: &[[u16; 5]], next: &[u16; 128])
+fn count_into(counts: &mut [u16; 128], nodes: usize, links: &[[u16; 6]], next: &[u16; 128])
     requires { ⌜ Followable nodes (now links) (now next) ⌝ }
 {
     let mut j: usize = 0;
@@ -87,7 +87,7 @@ fn send_in_order(
     waiting: &mut [u32; 128],
     volumes: &mut [u16; 128],
     nodes: usize,
-    links: &[[u16; 5]],
+    links: &[[u16; 6]],
     next: &[u16; 128],
 )
     requires { ⌜ Followable nodes (now links) (now next) ⌝ }
@@ -116,7 +116,7 @@ fn send_waiting(
     waiting: &mut [u32; 128],
     volumes: &mut [u16; 128],
     nodes: usize,
-    links: &[[u16; 5]],
+    links: &[[u16; 6]],
     next: &[u16; 128],
 ) -> usize
     requires { ⌜ Followable nodes (now links) (now next) ⌝ }
@@ -168,7 +168,7 @@ fn any_trips(trips: &[u16]) -> u16
 // The trips that leave each node along next links: its own and those that come through it. Where there are no trips nothing is sent.
 pub fn volumes(
     nodes: usize,
-    links: &[[u16; 5]],
+    links: &[[u16; 6]],
     trips: &[u16],
     next: &[u16; 128],
     volumes: &mut [u16; 128],

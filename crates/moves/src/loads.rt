@@ -11,7 +11,7 @@ use crate::widths::wide;
 // The volumes of each destination, by node, and Y's totals: what the trips of all destinations send over each link.
 pub fn load(
     nodes: usize,
-    links: &[[u16; 5]],
+    links: &[[u16; 6]],
     destinations: &[u16],
     trips: &[u16],
     next: &[[u16; 128]; 32],

@@ -1,8 +1,8 @@
 -- The fields of a study in rows: the entries of a section, read from its own bytes.
 use Prim.Native.Nat.{ℕ, _*_, _≤_, _<_}
-use mathlib.Core.List.{List}
+use mathlib.Core.List.{List, []}
 use mathlib.Core.Path.{_≡_}
-use lib.ListN.{length, take}
+use lib.ListN.{length, getD, take}
 use Rattle.study.specs.Fields.{destination, trips, HasLink, HasDestination, HasTrips}
 use Rattle.study.specs.Questions.{refusal}
 use Rattle.study.specs.Sections.{nodes, links, destinations}
@@ -16,8 +16,13 @@ pub record Holds {A : Type 0} (size : ℕ) (list array : List A) : Type 0 where
   pub front : take (length list) array ≡ list
 
 -- The rows of the first m links.
-unfoldable pub linkRowsIn : List ℕ → ℕ → List (List ℕ)
-linkRowsIn linkBytes m = tabulate m (linkRow linkBytes)
+unfoldable pub linkRowsIn : List ℕ → List ℕ → ℕ → List (List ℕ)
+linkRowsIn linkBytes closedBytes m = tabulate m (linkRow linkBytes closedBytes)
+
+-- The rows of m links, of which the first l have the closed bytes of their heads.
+pub record ClosedBelow (linkBytes closedBytes : List ℕ) (m l : ℕ) (array : List (List ℕ)) : Type 0 where
+  pub held : Holds 512 (linkRowsIn linkBytes closedBytes l) array
+  pub rest : (i : ℕ) → l ≤ i → i < m → getD array i [] ≡ linkRow linkBytes [] i
 
 -- The nodes of the first p destinations.
 unfoldable pub nodesIn : List ℕ → ℕ → List ℕ

@@ -1,4 +1,4 @@
-// Document 01's check: questions 1 to 11, in order.
+// Document 01's check: questions 1 to 8, 19 (A.2) and 9 to 11, in order.
 ghost use mathlib.Core.Path.{_≡_};
 ghost use Rattle.calls.specs.Calls.{checkNumber};
 use crate::decoding::decode;
@@ -7,7 +7,7 @@ use crate::decoding::decode;
 pub fn check(file: &[u8]) -> u8
     ensures { λ r. ⌜ r ≡ checkNumber (now (file .entry)) ⌝ }
 {
-    let mut links = [[0u16, 0, 0, 0, 0]; 512];
+    let mut links = [[0u16, 0, 0, 0, 0, 0]; 512];
     let mut destinations = [0u16; 32];
     let mut trips = [0u16; 4096];
     let opening = decode(file, &mut links, &mut destinations, &mut trips);
@@ -18,5 +18,11 @@ pub fn check(file: &[u8]) -> u8
     let n = opening.nodes;
     let m = opening.links;
     let p = opening.destinations;
-    questions::study_refusal(n, &links[..m], &destinations[..p], &trips[..p * n])
+    questions::study_refusal(
+        n,
+        &links[..m],
+        &destinations[..p],
+        study::accepted_section(file, study::CLOSED),
+        &trips[..p * n],
+    )
 }

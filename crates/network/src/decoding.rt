@@ -1,8 +1,12 @@
 // The fields of a study, read once, into rows that the caller lends.
 ghost use Prim.Native.Nat.{_+_, _*_, _≤_};
 ghost use mathlib.Core.Path.{_≡_};
-ghost use lib.ListN.{length};
+ghost use mathlib.Core.List.{[]};
+ghost use lib.ListN.{length, getD, set};
+ghost use Rattle.study.specs.Fields.{closedByte};
 ghost use Rattle.network.specs.Decoded.{Decoded, Holds, linkRowsIn, nodesIn, entriesIn, HasLinks, HasDestinations, HasRow, HasRows};
+use theory::CLOSED;
+use theory::HEAD;
 
 // The number of the first of questions 1 to 5 that refuses a file, or 0, and how many nodes, links and destinations an accepted one has.
 pub struct Opening {
@@ -16,7 +20,7 @@ pub struct Opening {
 // refuses every count is 0.
 pub fn decode(
     file: &[u8],
-    links: &mut [[u16; 5]; 512],
+    links: &mut [[u16; 6]; 512],
     destinations: &mut [u16; 32],
     trips: &mut [u16; 4096],
 ) -> Opening
@@ -32,13 +36,15 @@ pub fn decode(
             destinations: 0,
         };
     }
-    let n = study::node_count(file);
-    let m = study::link_count(file);
-    let p = study::destination_count(file);
-    let link_bytes = study::links(file);
-    let destination_bytes = study::destinations(file);
-    let trip_bytes = study::trips(file);
+    let n = study::node_field(file) as usize;
+    let m = study::link_field(file) as usize;
+    let p = study::destination_field(file) as usize;
+    let link_bytes = study::accepted_section(file, study::LINKS);
+    let destination_bytes = study::accepted_section(file, study::DESTINATIONS);
+    let trip_bytes = study::accepted_section(file, study::TRIPS);
+    let closed_bytes = study::accepted_section(file, study::CLOSED);
     decode_links(link_bytes, m, links);
+    decode_closed(link_bytes, closed_bytes, m, links);
     decode_destinations(destination_bytes, p, destinations);
     decode_trips(trip_bytes, n, p, trips);
     Opening {
@@ -49,9 +55,10 @@ pub fn decode(
     }
 }
 
-fn decode_links(bytes: &[u8], m: usize, links: &mut [[u16; 5]; 512])
+// The fields of the links, as if every node were open.
+fn decode_links(bytes: &[u8], m: usize, links: &mut [[u16; 6]; 512])
     requires { ⌜ (m ≤ 512) × HasLinks (now bytes) m × (length (now links) ≡ 512) ⌝ }
-    ensures { λ _. ⌜ Holds 512 (linkRowsIn (now (bytes .entry)) m) (now (links .exit)) ⌝ }
+    ensures { λ _. ⌜ Holds 512 (linkRowsIn (now (bytes .entry)) [] m) (now (links .exit)) ⌝ }
 {
     let mut l = 0;
     while l < m {
@@ -61,9 +68,34 @@ fn decode_links(bytes: &[u8], m: usize, links: &mut [[u16; 5]; 512])
             study::free_time(bytes, l),
             study::rise(bytes, l),
             study::capacity(bytes, l),
+            0,
         ];
         l += 1;
     }
+}
+
+// Writes the closed byte of each link's head into its row, where there are closed bytes.
+fn decode_closed(bytes: &[u8], closed: &[u8], m: usize, links: &mut [[u16; 6]; 512])
+    requires { ⌜ (m ≤ 512) × Holds 512 (linkRowsIn (now bytes) [] m) (now links) ⌝ }
+    ensures { λ _. ⌜ Holds 512 (linkRowsIn (now (bytes .entry)) (now (closed .entry)) m) (now (links .exit)) ⌝ }
+{
+    if closed.len() == 0 {
+        return;
+    }
+    let mut l = 0;
+    while l < m {
+        links[l] = with_closed(links[l], closed);
+        l += 1;
+    }
+}
+
+// A link's row with the closed byte of its head.
+fn with_closed(row: [u16; 6], closed: &[u8]) -> [u16; 6]
+    ensures { λ r. ⌜ r ≡ set row 5 (closedByte (now (closed .entry)) (getD row 1 0)) ⌝ }
+{
+    let mut link = row;
+    link[CLOSED] = study::closed_byte(closed, row[HEAD] as usize);
+    link
 }
 
 fn decode_destinations(bytes: &[u8], p: usize, destinations: &mut [u16; 32])

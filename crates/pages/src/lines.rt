@@ -15,7 +15,7 @@ use theory::TAIL;
 
 // Writes a line for each link, by its total flow and at a share, at the start of the page slice.
 pub fn put_lines(
-    links: &[[u16; 5]],
+    links: &[[u16; 6]],
     flows: &[u64; 512],
     share: u32,
     curves: &[u64; 769],

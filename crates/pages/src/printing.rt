@@ -8,7 +8,7 @@ pub fn page(file: &[u8], table: &[u32], share: u32, page: &mut [u8]) -> u8
     ensures { λ r. ⌜ r ≡ pageNumber (now (file .entry)) (now (table .entry)) share (now (page .entry)) ⌝ }
     ensures { λ _. ⌜ now (page .exit) ≡ pageSlice (now (file .entry)) (now (table .entry)) share (now (page .entry)) ⌝ }
 {
-    let mut rows = [[0u16, 0, 0, 0, 0]; 512];
+    let mut rows = [[0u16, 0, 0, 0, 0, 0]; 512];
     let mut places = [0u16; 32];
     let mut entries = [0u16; 4096];
     let opening = network::decode(file, &mut rows, &mut places, &mut entries);

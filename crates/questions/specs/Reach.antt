@@ -1,6 +1,6 @@
 -- The marks of a reach search, and what a sweep over the links makes of them.
 use Prim.Native.Nat.{ℕ, _+_, _-_, _/_, _%_, _^_, _<_, _≤_}
-use mathlib.Core.Bool.{Bool, true, _||_, _&&_}
+use mathlib.Core.Bool.{Bool, true, _||_, _&&_, cond}
 use mathlib.Core.List.{List, [], _∷_}
 use mathlib.Core.Path.{_≡_}
 use lib.Dec.{eqb}
@@ -8,7 +8,7 @@ use lib.ListN.{getD, length, replicate}
 use Rattle.theory.specs.Finite.{all, sum, tabulate}
 use Rattle.theory.specs.Network.{Network}
 use Rattle.theory.specs.Routes.{Routing, routing, IsPath}
-use Rattle.theory.specs.Study.{tail, head, network}
+use Rattle.theory.specs.Study.{tail, head, closed, network}
 use Rattle.calls.specs.Questions.{hasPath}
 
 -- How marks are kept: node j is marked for destination k where bit k of its word is 1, and each of 128 nodes has a word of 32
@@ -65,25 +65,37 @@ toDestination nodes links s = routing (toward nodes links s) (replicate (length 
 abbrev pub PathTo : ℕ → List (List ℕ) → ℕ → ℕ → Type 0
 PathTo nodes links s j = (path : List ℕ) × IsPath (toDestination nodes links s) j path
 
--- What a sweep makes of the marks at one link: its tail gets the marks of its head. The count is 0 where the tail had them.
-pub record LinkSwept (tail head : ℕ) (before after : List ℕ) (count : ℕ) : Type 0 where
+-- No link has a closed head.
+abbrev pub AllOpen : List (List ℕ) → Type 0
+AllOpen links = (l : ℕ) → l < length links → closed links l ≡ 1 → ⊥
+
+-- The word that a link hands on to its tail, by the marks of the destinations' own nodes and the marks so far: that of its head, and where the
+-- head is closed only the mark of the destination that the head itself is (A.2).
+unfoldable pub handedOn : ℕ → ℕ → List ℕ → List ℕ → ℕ
+handedOn head closed own marks = cond (eqb closed 1) (getD own head 0) (getD marks head 0)
+
+abbrev pub handedBy : List (List ℕ) → List ℕ → List ℕ → ℕ → ℕ
+handedBy links own marks l = handedOn (head links l) (closed links l) own marks
+
+-- What a sweep makes of the marks at one link: its tail gets those of a word. The count is 0 where the tail had them.
+pub record LinkSwept (tail word : ℕ) (before after : List ℕ) (count : ℕ) : Type 0 where
   pub whole : Whole after
-  pub marks : (k j : ℕ) → marked after k j ≡ (marked before k j || (eqb tail j && marked before k head))
+  pub marks : (k j : ℕ) → marked after k j ≡ (marked before k j || (eqb tail j && bit word k))
   pub most : count ≤ 1
   pub counts : (n : ℕ) → tail < n → count + room n after ≤ room n before
   pub same : count ≡ 0 → (k j : ℕ) → marked after k j ≡ marked before k j
 
 -- What the links from `first` to before `end` make of the marks before a sweep, where nodes got new marks `count` times.
-pub record Swept (nodes : ℕ) (links : List (List ℕ)) (before : List ℕ) (first end : ℕ) (after : List ℕ) (count : ℕ) : Type 0 where
+pub record Swept (nodes : ℕ) (links : List (List ℕ)) (own before : List ℕ) (first end : ℕ) (after : List ℕ) (count : ℕ) : Type 0 where
   pub whole : Whole after
   -- Marks stay.
   pub stays : (k j : ℕ) → marked before k j ≡ true → marked after k j ≡ true
-  -- Where the nodes marked for k had a path to s, they have one still.
-  pub supports : (k s : ℕ) → ((j : ℕ) → marked before k j ≡ true → PathTo nodes links s j) → (j : ℕ) → marked after k j ≡ true → PathTo nodes links s j
+  -- Where destination k's own node is s and the nodes marked for k had a path to s, they have one still.
+  pub supports : (k s : ℕ) → ((j : ℕ) → marked own k j ≡ true → j ≡ s) → ((j : ℕ) → marked before k j ≡ true → PathTo nodes links s j) → (j : ℕ) → marked after k j ≡ true → PathTo nodes links s j
   pub most : count + first ≤ end
   pub counts : count + room nodes after ≤ room nodes before
-  -- Where no node got a mark, no link leads from an unmarked node to a marked one.
-  pub closes : count ≡ 0 → (k i : ℕ) → first ≤ i → i < end → marked after k (head links i) ≡ true → marked after k (tail links i) ≡ true
+  -- Where no node got a mark, each link's tail has the marks that the link hands on.
+  pub closes : count ≡ 0 → (k i : ℕ) → first ≤ i → i < end → bit (handedBy links own after i) k ≡ true → marked after k (tail links i) ≡ true
 
 -- The marks between two sweeps: each destination is marked for itself, and every node marked for it has a path to it.
 pub record Searched (nodes : ℕ) (links : List (List ℕ)) (destinations marks : List ℕ) : Type 0 where

@@ -1,4 +1,4 @@
--- Question 16 over lists: a table's rows, one for each destination.
+-- Questions 16 and 20 over lists: a table's rows, one for each destination.
 use Prim.Native.Nat.{ℕ, _+_, _*_, _≤_, _<_}
 use mathlib.Core.Path.{_≡_}
 use mathlib.Core.Bool.{Bool, _||_}
@@ -7,7 +7,7 @@ use lib.ListN.{length, getD}
 use lib.Dec.{eqb}
 use Rattle.theory.specs.Finite.{all}
 use Rattle.theory.specs.Flows.{entry, balances}
-use Rattle.theory.specs.Study.{tail, head}
+use Rattle.theory.specs.Study.{tail, head, mayUse}
 
 -- Every row balances at every node other than its destination.
 unfoldable pub rowsConserve : ℕ → List (List ℕ) → List ℕ → List ℕ → ℕ → List ℕ → Bool
@@ -17,7 +17,16 @@ rowsConserve n links destinations trips share table =
     eqb j (getD destinations k 0)
     || balances (length links) (tail links) (head links) (λ i. getD trips (k * n + i) 0) share (entry (length links) table k) j))
 
--- What that test asks: few nodes, links and destinations, link ends among the nodes, trips from each node to each destination, and a table
+-- A link has no flow that may not use it (A.2),
+unfoldable pub linkPermits : List (List ℕ) → List ℕ → List ℕ → ℕ → Bool
+linkPermits links destinations table l =
+    all (length destinations) (λ k. mayUse links (getD destinations k 0) l || eqb (entry (length links) table k l) 0)
+
+-- and so has no link.
+unfoldable pub rowsPermit : List (List ℕ) → List ℕ → List ℕ → Bool
+rowsPermit links destinations table = all (length links) (linkPermits links destinations table)
+
+-- What these tests ask: few nodes, links and destinations, link ends among the nodes, trips from each node to each destination, and a table
 -- with all its rows.
 pub record TableFits (n : ℕ) (links : List (List ℕ)) (destinations trips table : List ℕ) : Type 0 where
   pub few-nodes : n ≤ 128

@@ -1,4 +1,4 @@
-// Document 01, 'The questions, in order': questions 6 to 10, one function each. Question 11 is the reach search.
+// Document 01, 'The questions, in order': questions 6 to 10, one function each, and 19 of document 02. Question 11 is the reach search.
 ghost use Prim.Native.Nat.{_*_, _≤_};
 ghost use mathlib.Core.Bool.{_&&_, not, true};
 ghost use mathlib.Core.List.{[]};
@@ -8,7 +8,7 @@ ghost use lib.ListN.{length, getD};
 ghost use Rattle.study.specs.Questions.{within as withinOf};
 ghost use Rattle.theory.specs.Finite.{sum};
 ghost use Rattle.theory.specs.Study.{network};
-ghost use Rattle.calls.specs.Questions.{endsFit, timesFit, destinationsFit, noTripsWithin};
+ghost use Rattle.calls.specs.Questions.{endsFit, timesFit, destinationsFit, closedFit, noTripsWithin};
 ghost use Rattle.questions.specs.Destinations.{allNodes, allAscending};
 use crate::numbers::amount;
 use crate::numbers::node;
@@ -19,7 +19,7 @@ use theory::RISE;
 use theory::TAIL;
 
 // 6. Are each link's tail and head below n and different?
-pub fn ends_fit(nodes: usize, links: &[[u16; 5]]) -> bool
+pub fn ends_fit(nodes: usize, links: &[[u16; 6]]) -> bool
     ensures { λ r. ⌜ r ≡ endsFit (network nodes (now (links .entry)) [] []) ⌝ }
 {
     let mut l = 0;
@@ -39,7 +39,7 @@ fn link_ends_fit(n: usize, tail: usize, head: usize) -> bool
 }
 
 // 7. Are a 1 to 16,383, b 0 to 16,383, c at least 1 on every link?
-pub fn times_fit(links: &[[u16; 5]]) -> bool
+pub fn times_fit(links: &[[u16; 6]]) -> bool
     ensures { λ r. ⌜ r ≡ timesFit (now (links .entry)) ⌝ }
 {
     let mut l = 0;
@@ -98,6 +98,20 @@ fn destinations_ascend(destinations: &[u16]) -> bool
             return false;
         }
         k += 1;
+    }
+    true
+}
+
+// 19 (A.2). Is every closed byte 0 or 1?
+pub fn closed_fit(closed: &[u8]) -> bool
+    ensures { λ r. ⌜ r ≡ closedFit (now (closed .entry)) ⌝ }
+{
+    let mut j = 0;
+    while j < closed.len() {
+        if 1 < closed[j] {
+            return false;
+        }
+        j += 1;
     }
     true
 }

@@ -1,5 +1,5 @@
-// Document 01's questions of a study in rows: 6 to 11, the reach search among them, and 14 to 16 of a flow
-// table and its share. Nothing here knows of bytes.
+// The questions of documents 01 and 02 of a study in rows: 6 to 11 and 19, the reach search among them, and 14 to 16 and 20 of a flow table
+// and its share. Nothing here knows of a file.
 mod fields;
 mod numbers;
 mod reach;

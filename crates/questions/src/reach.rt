@@ -8,19 +8,27 @@ ghost use lib.ListN.{length};
 ghost use Rattle.theory.specs.Study.{network};
 ghost use Rattle.calls.specs.Questions.{endsFit, destinationsFit, tripsReach};
 ghost use Rattle.questions.specs.Sized.{Sized};
-ghost use Rattle.questions.specs.Reach.{Whole, Marks, Started, Stranded, Found, allMarked, LinkSwept, Swept};
+ghost use Rattle.questions.specs.Reach.{Whole, Marks, Started, Stranded, Found, allMarked, AllOpen, handedOn, LinkSwept, Swept};
 use crate::numbers::node;
+use theory::CLOSED;
 use theory::HEAD;
 use theory::TAIL;
 
 // 11. Does every node with trips to s have a path to s?
-pub fn trips_reach(nodes: usize, links: &[[u16; 5]], destinations: &[u16], trips: &[u16]) -> bool
-    requires { ⌜ Sized nodes (now links) (now destinations) (now trips) ⌝ }
+// `all_open` may be true where no link has a closed head: the search is then faster.
+pub fn trips_reach(
+    nodes: usize,
+    links: &[[u16; 6]],
+    destinations: &[u16],
+    trips: &[u16],
+    all_open: bool,
+) -> bool
+    requires { ⌜ Sized nodes (now links) (now destinations) (now trips) × («all_open» ≡ true → AllOpen (now links)) ⌝ }
     requires { ⌜ endsFit (network nodes (now links) [] []) ≡ true ⌝ }
     requires { ⌜ destinationsFit (network nodes [] (now destinations) []) ≡ true ⌝ }
     ensures { λ r. ⌜ r ≡ tripsReach (network nodes (now (links .entry)) (now (destinations .entry)) (now (trips .entry))) ⌝ }
 {
-    let marks = reached(nodes, links, destinations);
+    let marks = reached(nodes, links, destinations, all_open);
     let mut k = 0;
     while k < destinations.len() {
         let first = k * nodes;
@@ -33,19 +41,20 @@ pub fn trips_reach(nodes: usize, links: &[[u16; 5]], destinations: &[u16], trips
 }
 
 // Which of the nodes have a path to each of the destinations.
-fn reached(nodes: usize, links: &[[u16; 5]], destinations: &[u16]) -> [u32; 128]
-    requires { ⌜ (nodes ≤ 128) × (length (now links) ≤ 512) × (length (now destinations) ≤ 32) ⌝ }
+fn reached(nodes: usize, links: &[[u16; 6]], destinations: &[u16], all_open: bool) -> [u32; 128]
+    requires { ⌜ (nodes ≤ 128) × (length (now links) ≤ 512) × (length (now destinations) ≤ 32) × («all_open» ≡ true → AllOpen (now links)) ⌝ }
     requires { ⌜ endsFit (network nodes (now links) [] []) ≡ true ⌝ }
     requires { ⌜ destinationsFit (network nodes [] (now destinations) []) ≡ true ⌝ }
     ensures { λ r. ⌜ Found nodes (now (links .entry)) (now (destinations .entry)) r ⌝ }
 {
-    let mut marks = [0u32; 128];
-    mark_destinations(nodes, destinations, &mut marks);
+    let mut own = [0u32; 128];
+    mark_destinations(nodes, destinations, &mut own);
+    let mut marks = own;
     loop {
-        if sweep_up(nodes, links, &mut marks) == 0 {
+        if sweep_up(nodes, links, all_open, &own, &mut marks) == 0 {
             return marks;
         }
-        if sweep_down(nodes, links, &mut marks) == 0 {
+        if sweep_down(nodes, links, all_open, &own, &mut marks) == 0 {
             return marks;
         }
     }
@@ -73,45 +82,71 @@ fn mark(k: usize, j: usize, marks: &mut [u32; 128])
     marks[j] = marks[j] | 1 << k;
 }
 
-// One sweep over the links from the first to the last: a link's tail gets its head's marks. How many
-// times a node got new marks.
-fn sweep_up(nodes: usize, links: &[[u16; 5]], marks: &mut [u32; 128]) -> usize
-    requires { ⌜ (nodes ≤ 128) × (endsFit (network nodes (now links) [] []) ≡ true) × Whole (now marks) ⌝ }
-    ensures { λ r. ⌜ Swept nodes (now (links .entry)) (now (marks .entry)) 0 (length (now (links .entry))) (now (marks .exit)) r ⌝ }
+// One sweep over the links from the first to the last: a link's tail gets the marks that the link hands on. `own` has the marks that the
+// destinations gave their own nodes. How many times a node got new marks.
+fn sweep_up(
+    nodes: usize,
+    links: &[[u16; 6]],
+    all_open: bool,
+    own: &[u32; 128],
+    marks: &mut [u32; 128],
+) -> usize
+    requires { ⌜ (nodes ≤ 128) × (endsFit (network nodes (now links) [] []) ≡ true) × Whole (now marks) × («all_open» ≡ true → AllOpen (now links)) ⌝ }
+    ensures { λ r. ⌜ Swept nodes (now (links .entry)) (now (own .entry)) (now (marks .entry)) 0 (length (now (links .entry))) (now (marks .exit)) r ⌝ }
 {
     let mut count = 0;
     let mut l = 0;
     while l < links.len() {
-        count += mark_tail(node(links[l][TAIL]), node(links[l][HEAD]), marks);
+        let word = handed(node(links[l][HEAD]), links[l][CLOSED], all_open, own, marks);
+        count += mark_tail(node(links[l][TAIL]), word, marks);
         l += 1;
     }
     count
 }
 
 // The same from the last link to the first.
-fn sweep_down(nodes: usize, links: &[[u16; 5]], marks: &mut [u32; 128]) -> usize
-    requires { ⌜ (nodes ≤ 128) × (endsFit (network nodes (now links) [] []) ≡ true) × Whole (now marks) ⌝ }
-    ensures { λ r. ⌜ Swept nodes (now (links .entry)) (now (marks .entry)) 0 (length (now (links .entry))) (now (marks .exit)) r ⌝ }
+fn sweep_down(
+    nodes: usize,
+    links: &[[u16; 6]],
+    all_open: bool,
+    own: &[u32; 128],
+    marks: &mut [u32; 128],
+) -> usize
+    requires { ⌜ (nodes ≤ 128) × (endsFit (network nodes (now links) [] []) ≡ true) × Whole (now marks) × («all_open» ≡ true → AllOpen (now links)) ⌝ }
+    ensures { λ r. ⌜ Swept nodes (now (links .entry)) (now (own .entry)) (now (marks .entry)) 0 (length (now (links .entry))) (now (marks .exit)) r ⌝ }
 {
     let mut count = 0;
     let mut l = links.len();
     while 0 < l {
         l -= 1;
-        count += mark_tail(node(links[l][TAIL]), node(links[l][HEAD]), marks);
+        let word = handed(node(links[l][HEAD]), links[l][CLOSED], all_open, own, marks);
+        count += mark_tail(node(links[l][TAIL]), word, marks);
     }
     count
 }
 
-// Gives a link's tail the marks of its head. How many nodes got new marks: 0 or 1. No branch before
-// the store.
-fn mark_tail(tail: usize, head: usize, marks: &mut [u32; 128]) -> usize
-    requires { ⌜ (tail < 128) × (head < 128) × Whole (now marks) ⌝ }
-    ensures { λ r. ⌜ LinkSwept tail head (now (marks .entry)) (now (marks .exit)) r ⌝ }
+// The marks that a link hands on to its tail: those of its head, and where the head is closed only that of the destination that the head
+// itself is (A.2).
+fn handed(head: usize, closed: u16, all_open: bool, own: &[u32; 128], marks: &[u32; 128]) -> u32
+    requires { ⌜ (head < 128) × («all_open» ≡ true → closed ≡ 1 → ⊥) ⌝ }
+    ensures { λ r. ⌜ r ≡ handedOn head closed (now (own .entry)) (now (marks .entry)) ⌝ }
 {
-    let own = marks[tail];
-    let both = own | marks[head];
+    if all_open {
+        return marks[head];
+    }
+    if closed == 1 { own[head] } else { marks[head] }
+}
+
+// Gives a link's tail the marks of a word. How many nodes got new marks: 0 or 1. No branch before the
+// store.
+fn mark_tail(tail: usize, word: u32, marks: &mut [u32; 128]) -> usize
+    requires { ⌜ (tail < 128) × Whole (now marks) ⌝ }
+    ensures { λ r. ⌜ LinkSwept tail word (now (marks .entry)) (now (marks .exit)) r ⌝ }
+{
+    let had = marks[tail];
+    let both = had | word;
     marks[tail] = both;
-    if both == own { 0 } else { 1 }
+    if both == had { 0 } else { 1 }
 }
 
 // Whether every node with trips to destination k is marked for it. Counts the others, without an

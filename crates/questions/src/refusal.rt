@@ -1,8 +1,9 @@
-// Questions 6 to 11 of a study in rows, in order.
+// Questions 6 to 11 of a study in rows, with 19 after 8.
 ghost use mathlib.Core.Path.{_≡_};
 ghost use Rattle.study.specs.Questions.{firstNo};
 ghost use Rattle.calls.specs.Questions.{studyQuestions};
-ghost use Rattle.questions.specs.Sized.{Sized};
+ghost use Rattle.questions.specs.Sized.{Sized, ClosedHeads};
+use crate::fields::closed_fit;
 use crate::fields::destinations_fit;
 use crate::fields::ends_fit;
 use crate::fields::no_trips_within;
@@ -10,10 +11,16 @@ use crate::fields::times_fit;
 use crate::fields::total_fits;
 use crate::reach::trips_reach;
 
-// The number of the first of questions 6 to 11 that refuses a study, or 0.
-pub fn study_refusal(nodes: usize, links: &[[u16; 5]], destinations: &[u16], trips: &[u16]) -> u8
-    requires { ⌜ Sized nodes (now links) (now destinations) (now trips) ⌝ }
-    ensures { λ r. ⌜ r ≡ firstNo (studyQuestions nodes (now (links .entry)) (now (destinations .entry)) (now (trips .entry))) ⌝ }
+// The number of the first of questions 6, 7, 8, 19, 9, 10, 11 that refuses a study, or 0. `closed` has its closed bytes, none in version 1.
+pub fn study_refusal(
+    nodes: usize,
+    links: &[[u16; 6]],
+    destinations: &[u16],
+    closed: &[u8],
+    trips: &[u16],
+) -> u8
+    requires { ⌜ Sized nodes (now links) (now destinations) (now trips) × ClosedHeads (now links) (now closed) ⌝ }
+    ensures { λ r. ⌜ r ≡ firstNo (studyQuestions nodes (now (links .entry)) (now (destinations .entry)) (now (closed .entry)) (now (trips .entry))) ⌝ }
 {
     if !ends_fit(nodes, links) {
         return 6;
@@ -24,13 +31,16 @@ pub fn study_refusal(nodes: usize, links: &[[u16; 5]], destinations: &[u16], tri
     if !destinations_fit(nodes, destinations) {
         return 8;
     }
+    if !closed_fit(closed) {
+        return 19;
+    }
     if !no_trips_within(nodes, destinations, trips) {
         return 9;
     }
     if !total_fits(trips) {
         return 10;
     }
-    if !trips_reach(nodes, links, destinations, trips) {
+    if !trips_reach(nodes, links, destinations, trips, closed.len() == 0) {
         return 11;
     }
     0

@@ -1,20 +1,24 @@
-// Questions 14 to 16 of a table and a share.
+// Questions 14 to 16 of a table and a share, then 20.
 ghost use mathlib.Core.Path.{_≡_};
-ghost use Prim.Native.Nat.{_*_, _≤_};
-ghost use lib.ListN.{replicate};
+ghost use Prim.Native.Nat.{_*_, _<_, _≤_};
+ghost use mathlib.Core.Bool.{_||_};
+ghost use lib.Dec.{eqb};
+ghost use lib.ListN.{length, replicate};
 ghost use Rattle.study.specs.Questions.{firstNo};
 ghost use Rattle.theory.specs.Network.{totalTrips};
-ghost use Rattle.theory.specs.Study.{network};
+ghost use Rattle.theory.specs.Study.{closed, network};
 ghost use Rattle.calls.specs.Questions.{shareFits, shareQuestions};
 ghost use Rattle.travel.specs.Links.{tableTotals};
-ghost use Rattle.questions.specs.Rows.{rowsConserve, TableFits};
+ghost use Rattle.questions.specs.Rows.{rowsConserve, linkPermits, rowsPermit, TableFits};
 use crate::numbers::node;
+use theory::CLOSED;
+use theory::HEAD;
 
-// The number of the first of questions 14 to 16 that refuses, or 0. `total` is T. Where none refuses, the links' totals stand in `totals`,
+// The number of the first of questions 14, 15, 16, 20 that refuses, or 0. `total` is T. Where none refuses, the links' totals stand in `totals`,
 // which is lent with zeros.
 pub fn table_refusal(
     nodes: usize,
-    links: &[[u16; 5]],
+    links: &[[u16; 6]],
     destinations: &[u16],
     trips: &[u16],
     total: u64,
@@ -38,6 +42,9 @@ pub fn table_refusal(
     if !rows_conserve(nodes, links, destinations, trips, table, share) {
         return 16;
     }
+    if !rows_permit(links, destinations, table) {
+        return 20;
+    }
     0
 }
 
@@ -51,7 +58,7 @@ fn share_fits(share: u32) -> bool
 // Question 16: does every destination's row of the table balance?
 fn rows_conserve(
     nodes: usize,
-    links: &[[u16; 5]],
+    links: &[[u16; 6]],
     destinations: &[u16],
     trips: &[u16],
     table: &[u32],
@@ -81,4 +88,46 @@ fn rows_conserve(
         k += 1;
     }
     true
+}
+
+// Question 20 (A.2): is all flow on a link whose head is closed flow to that head?
+fn rows_permit(links: &[[u16; 6]], destinations: &[u16], table: &[u32]) -> bool
+    requires { ⌜ length (now destinations) * length (now links) ≤ length (now table) ⌝ }
+    ensures { λ r. ⌜ r ≡ rowsPermit (now (links .entry)) (now (destinations .entry)) (now (table .entry)) ⌝ }
+{
+    let mut l = 0;
+    while l < links.len() {
+        if links[l][CLOSED] == 1 && !link_permits(links, l, destinations, table) {
+            return false;
+        }
+        l += 1;
+    }
+    true
+}
+
+// The same of one such link, by each destination's own entry.
+fn link_permits(links: &[[u16; 6]], l: usize, destinations: &[u16], table: &[u32]) -> bool
+    requires { ⌜ (l < length (now links)) × (closed (now links) l ≡ 1) × (length (now destinations) * length (now links) ≤ length (now table)) ⌝ }
+    ensures { λ r. ⌜ r ≡ linkPermits (now (links .entry)) (now (destinations .entry)) (now (table .entry)) l ⌝ }
+{
+    let m = links.len();
+    let head = links[l][HEAD];
+    let mut k = 0;
+    while k < destinations.len() {
+        if !may_carry(head, destinations[k], table[k * m + l]) {
+            return false;
+        }
+        k += 1;
+    }
+    true
+}
+
+// Whether a link whose head is closed may carry this flow to a destination.
+fn may_carry(head: u16, destination: u16, flow: u32) -> bool
+    ensures { λ r. ⌜ r ≡ (eqb head destination || eqb flow 0) ⌝ }
+{
+    if head == destination {
+        return true;
+    }
+    flow == 0
 }

@@ -85,7 +85,7 @@ fn write_accepted(file: &[u8], table: &[u32], answer: RunAnswer, out: &mut [u8])
     requires { ⌜ (tableNumber (now file) (now table) (answer .share) ≡ 0) × (32768 ≤ length (now out)) ⌝ }
     ensures { λ r. ⌜ Written (now (out .entry)) (listed (now (file .entry)) (now (table .entry)) answer) (now (out .exit)) r ⌝ }
 {
-    let mut rows = [[0u16, 0, 0, 0, 0]; 512];
+    let mut rows = [[0u16, 0, 0, 0, 0, 0]; 512];
     let mut places = [0u16; 32];
     let mut entries = [0u16; 4096];
     let opening = network::decode(file, &mut rows, &mut places, &mut entries);

@@ -2,3 +2,4 @@
 pub mod Next
 pub mod Candidates
 pub mod Table
+pub mod Own

@@ -6,10 +6,11 @@ use mathlib.Core.Logic.{_⊎_}
 use lib.ListN.{length, getD, set, replicate}
 use Rattle.theory.specs.Routes.{Routing, nextLinks}
 use Rattle.theory.specs.Study.{noLink}
+use Rattle.theory.specs.Laws.Filled.{Filled}
 use Rattle.search.specs.Search.{routingFrom}
 use Rattle.search.specs.Chains.{linkMark}
 use Rattle.search.specs.Groups.{NoTrips}
-use Rattle.routes.specs.Next.{firstFitting}
+use Rattle.routes.specs.Next.{firstOpen}
 
 -- 128 link numbers: the next links of the nodes, and none past them.
 unfoldable pub linkMarks : Routing → List ℕ
@@ -48,10 +49,24 @@ RowsEmpty first k table = (q : ℕ) → first ≤ q → q < k → getD table q [
 abbrev pub RowsCleared : List (List ℕ) → ℕ → ℕ → List (List ℕ) → Type 0
 RowsCleared table₀ first k table = RowsPut (λ q row. row ≡ noLinks) table₀ first k table
 
--- The next links of node j to the destinations of a group from `first` on and below k are written.
+-- The first fitting links of node j with open heads are written, for the destinations of a group from `first` on and below k.
 abbrev pub NodePut : ℕ → List (List ℕ) → List ℕ → List ℕ → ℕ → List (List ℕ) → ℕ → ℕ → List (List ℕ) → Type 0
 NodePut nodes links times group j table₀ first k table =
-    RowsPut (λ q row. row ≡ set (getD table₀ q []) j (firstFitting nodes links times (getD group (q - first) 0) j)) table₀ first k table
+    RowsPut (λ q row. row ≡ set (getD table₀ q []) j (firstOpen nodes links times (getD group (q - first) 0) j)) table₀ first k table
+
+-- A row has the first fitting links with open heads of the nodes below j.
+abbrev pub OpenRow : ℕ → List (List ℕ) → List ℕ → ℕ → ℕ → List ℕ → Type 0
+OpenRow nodes links times s j row = Filled (firstOpen nodes links times s) noLink 128 j row
+
+-- Those of the nodes below j are written.
+abbrev pub OpenPut : ℕ → List (List ℕ) → List ℕ → List ℕ → ℕ → List (List ℕ) → ℕ → ℕ → List (List ℕ) → Type 0
+OpenPut nodes links times group j table₀ first k table =
+    RowsPut (λ q row. OpenRow nodes links times (getD group (q - first) 0) j row) table₀ first k table
+
+-- The rows from `first` on and below k have those of all nodes.
+abbrev pub RowsOpen : ℕ → List (List ℕ) → List ℕ → List ℕ → ℕ → ℕ → List (List ℕ) → Type 0
+RowsOpen nodes links times group first k table =
+    (q : ℕ) → first ≤ q → q < k → OpenRow nodes links times (getD group (q - first) 0) nodes (getD table q [])
 
 -- The next links of all nodes to these destinations are written.
 abbrev pub GroupPut : ℕ → List (List ℕ) → List ℕ → List ℕ → List (List ℕ) → ℕ → ℕ → List (List ℕ) → Type 0

@@ -2,11 +2,12 @@
 ghost use mathlib.Core.Path.{_≡_};
 ghost use Prim.Native.Nat.{ℕ, _+_, _*_, _≤_, _<_, _%_};
 ghost use lib.ListN.{length, getD};
+ghost use Rattle.search.specs.Search.{routingFrom};
 ghost use Rattle.search.specs.Given.{AllSearchable};
 ghost use Rattle.search.specs.Chains.{Chainable, Linked, chainOf};
 ghost use Rattle.search.specs.Lanes.{EachSearchable, Found};
-ghost use Rattle.routes.specs.Next.{firstFitting, Unfit, Lows, Kept, RowKept, Candidates};
-ghost use Rattle.routes.specs.Table.{Nexts, RowsEmpty, RowsCleared, NodePut, GroupPut};
+ghost use Rattle.routes.specs.Next.{firstOpen, Unfit, Lows, Kept, RowKept, Candidates, Lowered};
+ghost use Rattle.routes.specs.Table.{linkMarks, Nexts, RowsEmpty, RowsCleared, NodePut, OpenRow, OpenPut, RowsOpen, GroupPut};
 use search::INTO;
 use search::OUT;
 use search::group_end;
@@ -16,6 +17,7 @@ use search::index;
 use search::search;
 use theory::HEAD;
 use theory::NO_LINK;
+use theory::TAIL;
 
 // The last 16 bits of a number.
 fn low(x: u32) -> u16
@@ -76,12 +78,12 @@ fn keep_row(row: &mut [u16; 8], own: [u16; 8], ahead: [u16; 8], time: u16, l: u1
     }
 }
 
-// For each destination of a group the first link out of node j that the last 16 bits of times and marks do not rule out: no link before it
-// fits. All eight are looked at side by side, without a branch.
+// For each destination of a group the first link out of node j, of those with an open head, that the last 16 bits of times and marks do not rule
+// out: no such link before it fits. All eight are looked at side by side, without a branch.
 fn candidates(
-    links: &[[u16; 5]],
+    links: &[[u16; 6]],
     times: &[u32; 512],
-    out: &[u16; 640],
+    out: &[u16; 768],
     lows: &[[u16; 8]; 128],
     j: usize,
 ) -> [u16; 8]
@@ -95,19 +97,19 @@ fn candidates(
         let i = index(l);
         let ahead = lows[index(links[i][HEAD])];
         keep_row(&mut row, own, ahead, low(times[i]), l);
-        l = out[128 + i];
+        l = out[256 + i];
     }
     row
 }
 
-// The next link of node j to destination k of a group: the first link out of it whose time plus its head's distance equals its own distance.
-// No link before `from` does. The marks are the least times to the destinations of the group.
+// The next link of node j to destination k of a group, of those with an open head: the first link out of it whose time plus its head's distance
+// equals its own distance. No such link before `from` does. The marks are the least times to the destinations of the group.
 fn next_link(
     nodes: usize,
-    links: &[[u16; 5]],
+    links: &[[u16; 6]],
     times: &[u32; 512],
     group: &[u16; 8],
-    out: &[u16; 640],
+    out: &[u16; 768],
     marks: &[[u32; 8]; 128],
     j: usize,
     k: usize,
@@ -115,7 +117,7 @@ fn next_link(
 ) -> u16
     requires { ⌜ EachSearchable nodes (now links) (now times) (now group) × Found nodes (now links) (now times) (now group) (now marks) ⌝ }
     requires { ⌜ (now out ≡ chainOf (now links) 0) × (j < nodes) × (k < 8) × Unfit nodes (now links) (now times) (getD (now group) k 0) j from ⌝ }
-    ensures { λ r. ⌜ r ≡ firstFitting nodes (now (links .entry)) (now (times .entry)) (getD (now (group .entry)) k 0) j ⌝ }
+    ensures { λ r. ⌜ r ≡ firstOpen nodes (now (links .entry)) (now (times .entry)) (getD (now (group .entry)) k 0) j ⌝ }
 {
     let own = marks[j][k];
     let mut l = from;
@@ -124,21 +126,21 @@ fn next_link(
         if marks[index(links[i][HEAD])][k] + times[i] == own {
             break;
         }
-        l = out[128 + i];
+        l = out[256 + i];
     }
     l
 }
 
-// Writes the next links of node j to the destinations of a group.
+// Writes the next links of node j to the destinations of a group, of the links with an open head.
 fn put_node(
     table: &mut [[u16; 128]; 32],
     first: usize,
     past: usize,
     nodes: usize,
-    links: &[[u16; 5]],
+    links: &[[u16; 6]],
     times: &[u32; 512],
     group: &[u16; 8],
-    out: &[u16; 640],
+    out: &[u16; 768],
     marks: &[[u32; 8]; 128],
     lows: &[[u16; 8]; 128],
     j: usize,
@@ -157,22 +159,23 @@ fn put_node(
     }
 }
 
-// Writes the next links of all nodes to the destinations of a group, which are those from `first` on and below `past`.
+// Writes the next links of all nodes to the destinations of a group, which are those from `first` on and below `past`, of the links with an open
+// head.
 fn put_group(
     table: &mut [[u16; 128]; 32],
     first: usize,
     past: usize,
     nodes: usize,
-    links: &[[u16; 5]],
+    links: &[[u16; 6]],
     times: &[u32; 512],
     group: &[u16; 8],
-    out: &[u16; 640],
+    out: &[u16; 768],
     marks: &[[u32; 8]; 128],
 )
     requires { ⌜ EachSearchable nodes (now links) (now times) (now group) × Found nodes (now links) (now times) (now group) (now marks) ⌝ }
     requires { ⌜ (now out ≡ chainOf (now links) 0) × (length (now table) ≡ 32) × RowsEmpty first past (now table) ⌝ }
     requires { ⌜ (first ≤ past) × (past ≤ first + 8) × (past ≤ 32) ⌝ }
-    ensures { λ _. ⌜ GroupPut nodes (now (links .entry)) (now (times .entry)) (now (group .entry)) (now (table .entry)) first past (now (table .exit)) ⌝ }
+    ensures { λ _. ⌜ OpenPut nodes (now (links .entry)) (now (times .entry)) (now (group .entry)) nodes (now (table .entry)) first past (now (table .exit)) ⌝ }
 {
     let mut lows = [[0u16; 8]; 128];
     put_lows(&mut lows, nodes, marks);
@@ -195,6 +198,74 @@ fn put_group(
     }
 }
 
+// The lower of the link that is there and link l where what that gives is the node's own, and otherwise the link that is there.
+fn lower(old: u16, given: u32, own: u32, l: u16) -> u16
+    ensures { λ r. ⌜ Lowered old given own l r ⌝ }
+{
+    if given != own {
+        return old;
+    }
+    if l < old { l } else { old }
+}
+
+// Writes the links into destination k of a group, where that is closed: each that fits as its tail's next link and is below the one there.
+fn put_own(
+    row: &mut [u16; 128],
+    nodes: usize,
+    links: &[[u16; 6]],
+    times: &[u32; 512],
+    group: &[u16; 8],
+    into: &[u16; 768],
+    marks: &[[u32; 8]; 128],
+    k: usize,
+)
+    requires { ⌜ EachSearchable nodes (now links) (now times) (now group) × Found nodes (now links) (now times) (now group) (now marks) ⌝ }
+    requires { ⌜ (now into ≡ chainOf (now links) 1) × (k < 8) × OpenRow nodes (now links) (now times) (getD (now group) k 0) nodes (now row) ⌝ }
+    ensures { λ _. ⌜ now (row .exit) ≡ linkMarks (routingFrom nodes (now (links .entry)) (now (times .entry)) (getD (now (group .entry)) k 0)) ⌝ }
+{
+    let mut l = into[128 + index(group[k])];
+    while l != NO_LINK {
+        let i = index(l);
+        let j = index(links[i][TAIL]);
+        let given = marks[index(links[i][HEAD])][k] + times[i];
+        row[j] = lower(row[j], given, marks[j][k], l);
+        l = into[256 + i];
+    }
+}
+
+// Writes the links into those destinations of a group that are closed, beside the links with an open head.
+fn put_closed(
+    table: &mut [[u16; 128]; 32],
+    first: usize,
+    past: usize,
+    nodes: usize,
+    links: &[[u16; 6]],
+    times: &[u32; 512],
+    group: &[u16; 8],
+    into: &[u16; 768],
+    marks: &[[u32; 8]; 128],
+)
+    requires { ⌜ EachSearchable nodes (now links) (now times) (now group) × Found nodes (now links) (now times) (now group) (now marks) ⌝ }
+    requires { ⌜ (now into ≡ chainOf (now links) 1) × (length (now table) ≡ 32) × RowsOpen nodes (now links) (now times) (now group) first past (now table) ⌝ }
+    requires { ⌜ (first ≤ past) × (past ≤ first + 8) × (past ≤ 32) ⌝ }
+    ensures { λ _. ⌜ GroupPut nodes (now (links .entry)) (now (times .entry)) (now (group .entry)) (now (table .entry)) first past (now (table .exit)) ⌝ }
+{
+    let mut k = first;
+    while k < past {
+        put_own(
+            &mut table[k],
+            nodes,
+            links,
+            times,
+            group,
+            into,
+            marks,
+            k - first,
+        );
+        k += 1;
+    }
+}
+
 // Sets the rows of the destinations from `first` on and below `past` to no link.
 fn clear_rows(table: &mut [[u16; 128]; 32], first: usize, past: usize)
     requires { ⌜ (first ≤ past) × (past ≤ 32) × (length (now table) ≡ 32) ⌝ }
@@ -211,11 +282,11 @@ fn clear_rows(table: &mut [[u16; 128]; 32], first: usize, past: usize)
 // has no link.
 pub fn next_table(
     nodes: usize,
-    links: &[[u16; 5]],
+    links: &[[u16; 6]],
     destinations: &[u16],
     trips: &[u16],
     times: &[u32; 512],
-    chains: &[[u16; 640]; 2],
+    chains: &[[u16; 768]; 2],
     table: &mut [[u16; 128]; 32],
 )
     requires { ⌜ AllSearchable nodes (now links) (now destinations) (now times) × Linked (now links) (now chains) ⌝ }
@@ -239,6 +310,17 @@ pub fn next_table(
                 times,
                 &group,
                 &chains[OUT],
+                &marks,
+            );
+            put_closed(
+                table,
+                first,
+                past,
+                nodes,
+                links,
+                times,
+                &group,
+                &chains[INTO],
                 &marks,
             );
         }

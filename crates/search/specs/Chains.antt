@@ -1,28 +1,33 @@
--- The links with an end at a node, as a chain: the lowest of them, and from each link the lowest one above it with the same end. The end is the
--- column of the tails (0), for the links out of a node, or of the heads (1), for those into it.
+-- The links with an end at a place, as a chain: the lowest of them, and from each link the lowest one above it with the same end. The places of
+-- the nodes are 0 to 127. The end is a link's tail (0), for the links out of a node, or its head (1), for those into it. Links whose head is
+-- closed are apart from those whose head is open: they end 128 places on.
 use Prim.Native.Nat.{ℕ, _+_, _≤_, _<_}
 use mathlib.Core.Path.{_≡_}
-use mathlib.Core.Bool.{_&&_}
+use mathlib.Core.Bool.{_&&_, cond}
 use mathlib.Core.List.{List, [], _++_}
 use mathlib.Core.Option.{Option, none, some}
 use lib.ListN.{length, getD}
 use lib.Dec.{eqb, leb}
 use Rattle.theory.specs.Finite.{first, tabulate}
-use Rattle.theory.specs.Study.{column, noLink}
+use Rattle.theory.specs.Study.{column, tail, head, closed, noLink}
+
+-- Where a link ends.
+unfoldable pub endOf : List (List ℕ) → ℕ → ℕ → ℕ
+endOf links end l = cond (eqb (closed links l) 1) (128 + column end links l) (column end links l)
 
 -- A link, or none, as it is kept.
 unfoldable pub linkMark : Option ℕ → ℕ
 linkMark none = noLink
 linkMark (some l) = l
 
--- The lowest of the links from number a on with an end at node j.
+-- The lowest of the links from number a on with an end at place j.
 unfoldable pub lowestFrom : List (List ℕ) → ℕ → ℕ → ℕ → ℕ
-lowestFrom links end j a = linkMark (first (length links) (λ l. leb a l && eqb (column end links l) j))
+lowestFrom links end j a = linkMark (first (length links) (λ l. leb a l && eqb (endOf links end l) j))
 
--- By node, at places 0 to 127: the lowest link with an end there. By link, from place 128 on: the lowest link above it with the same end.
+-- At places 0 to 255: the lowest link with an end there. By link, from place 256 on: the lowest link above it with the same end.
 unfoldable pub chainOf : List (List ℕ) → ℕ → List ℕ
 chainOf links end =
-    tabulate 128 (λ j. lowestFrom links end j 0) ++ tabulate 512 (λ l. lowestFrom links end (column end links l) (l + 1))
+    tabulate 256 (λ j. lowestFrom links end j 0) ++ tabulate 512 (λ l. lowestFrom links end (endOf links end l) (l + 1))
 
 -- The chains of the links into each node and of those out of it.
 pub record Linked (links : List (List ℕ)) (chains : List (List ℕ)) : Type 0 where
@@ -32,9 +37,10 @@ pub record Linked (links : List (List ℕ)) (chains : List (List ℕ)) : Type 0 
 -- What chains ask of the links: at most 512, between 128 nodes.
 pub record Chainable (links : List (List ℕ)) : Type 0 where
   pub few-links : length links ≤ 512
-  pub end-node : (end l : ℕ) → end ≤ 1 → l < length links → column end links l < 128
+  pub tail-node : (l : ℕ) → l < length links → tail links l < 128
+  pub head-node : (l : ℕ) → l < length links → head links l < 128
 
--- A walk along the chain of node j is at link l, or past the last: what P says holds of the links passed.
+-- A walk along the chain of place j is at link l, or past the last: what P says holds of the links passed.
 pub record Passed (links : List (List ℕ)) (end j : ℕ) (P : ℕ → Type 0) (l : ℕ) : Type 0 where
-  pub on-chain : (l ≡ noLink → ⊥) → (l < length links) × (column end links l ≡ j)
-  pub passed : (i : ℕ) → i < length links → i < l → column end links i ≡ j → P i
+  pub on-chain : (l ≡ noLink → ⊥) → (l < length links) × (endOf links end l ≡ j)
+  pub passed : (i : ℕ) → i < length links → i < l → endOf links end i ≡ j → P i

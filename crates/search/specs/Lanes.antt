@@ -7,7 +7,7 @@ use lib.ListN.{length, getD, set, replicate}
 use Rattle.theory.specs.Finite.{sum, tabulate}
 use Rattle.search.specs.Search.{routingFrom, unreached, marks}
 use Rattle.search.specs.Given.{Searchable}
-use Rattle.search.specs.Marks.{allUnreached, total, relaxed, Searching, Scanning, Scanned, Scans}
+use Rattle.search.specs.Marks.{allUnreached, total, relaxed, Searching, Hands, Scanning, Scanned, Entered, Scans}
 
 -- The marks of destination i of the group.
 unfoldable pub lane : ℕ → List (List ℕ) → List ℕ
@@ -58,15 +58,24 @@ module _ (nodes : ℕ) (links : List (List ℕ)) (times group : List ℕ) where
     pub shaped : Shaped table
     pub each : (i : ℕ) → i < 8 → Searching nodes links times (getD group i 0) (lane i table)
 
-  -- The scan of node k is at link l.
-  pub record EachScanning (k : ℕ) (before after : List (List ℕ)) (l : ℕ) : Type 0 where
-    pub shaped : Shaped after
-    pub each : (i : ℕ) → i < 8 → Scanning nodes links times (getD group i 0) k (lane i before) (lane i after) l
+  -- What a place hands on in each lane.
+  pub record EachHands (place : ℕ) (ahead : List ℕ) (table : List (List ℕ)) : Type 0 where
+    pub each : (i : ℕ) → i < 8 → Hands nodes links times (getD group i 0) place (getD ahead i 0) (lane i table)
 
-  -- After the scan of node k.
-  pub record EachScanned (k : ℕ) (before after : List (List ℕ)) : Type 0 where
+  -- The scan of a place is at link l.
+  pub record EachScanning (place : ℕ) (ahead : List ℕ) (before after : List (List ℕ)) (l : ℕ) : Type 0 where
     pub shaped : Shaped after
-    pub each : (i : ℕ) → i < 8 → Scanned nodes links times (getD group i 0) k (lane i before) (lane i after)
+    pub each : (i : ℕ) → i < 8 → Scanning nodes links times (getD group i 0) place (getD ahead i 0) (lane i before) (lane i after) l
+
+  -- After the scan of a place.
+  pub record EachScanned (place : ℕ) (ahead : List ℕ) (before after : List (List ℕ)) : Type 0 where
+    pub shaped : Shaped after
+    pub each : (i : ℕ) → i < 8 → Scanned nodes links times (getD group i 0) place (getD ahead i 0) (lane i before) (lane i after)
+
+  -- The searches are under way, and in the first k lanes no link into the destination, where that is closed, gives its tail less than its mark.
+  pub record EachEntered (k : ℕ) (table : List (List ℕ)) : Type 0 where
+    pub searching : EachSearching table
+    pub entered : (i : ℕ) → i < k → i < 8 → Entered nodes links times (getD group i 0) (lane i table)
 
   -- The marks of the searches, and the marks that the nodes had when they were last scanned.
   pub record EachScans (table scanned : List (List ℕ)) : Type 0 where

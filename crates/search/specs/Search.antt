@@ -1,13 +1,12 @@
 -- Least times to one destination.
 use Prim.Native.Nat.{ℕ, _-_}
-use mathlib.Core.Bool.{true}
 use mathlib.Core.List.{List, _++_, map}
 use mathlib.Core.Option.{Option, none, some}
 use lib.ListN.{length, getD, replicate}
 use Rattle.theory.specs.Routes.{Routing, distances}
-use Rattle.theory.specs.Study.{tail, head}
+use Rattle.theory.specs.Study.{tail, head, mayUse}
 
--- The routing to a node over a study's links, at the times of a list. It is that of the study's network, whose links may all be used, to a
+-- The routing to a node over the links of a study that may carry flow to it, at the times of a list. It is that of the study's network to a
 -- destination at that node.
 unfoldable pub routingFrom : ℕ → List (List ℕ) → List ℕ → ℕ → Routing
 routingFrom nodes links times destination =
@@ -16,7 +15,7 @@ routingFrom nodes links times destination =
       links = length links;
       tail = tail links;
       head = head links;
-      usable = λ l. true;
+      usable = mayUse links destination;
       destination = destination;
       time = λ l. getD times l 0;
     }

@@ -57,11 +57,11 @@ fn least_to_group(
 // The sum of trips × least time over all destinations. A group of destinations to which nobody goes is not searched, and adds nothing.
 pub fn least_times(
     nodes: usize,
-    links: &[[u16; 5]],
+    links: &[[u16; 6]],
     destinations: &[u16],
     trips: &[u16],
     times: &[u32; 512],
-    into: &[u16; 640],
+    into: &[u16; 768],
 ) -> u64
     requires { ⌜ AllSearchable nodes (now links) (now destinations) (now times) × (now into ≡ chainOf (now links) 1) ⌝ }
     requires { ⌜ length (now trips) ≡ length (now destinations) * nodes ⌝ }

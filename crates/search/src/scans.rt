@@ -5,7 +5,7 @@ ghost use mathlib.Core.List.{[]};
 ghost use lib.ListN.{getD, set};
 ghost use Rattle.search.specs.Given.{longest};
 ghost use Rattle.search.specs.Chains.{chainOf};
-ghost use Rattle.search.specs.Lanes.{totals, RowMarked, Shaped, Marked, EachRelaxed, EachSearchable, EachSearching, EachScanned, EachScans, Compared, Visited, Swept, Found};
+ghost use Rattle.search.specs.Lanes.{totals, RowMarked, Shaped, Marked, EachRelaxed, EachSearchable, EachSearching, EachHands, EachScanned, EachEntered, EachScans, Compared, Visited, Swept, Found};
 use crate::numbers::index;
 use theory::NO_LINK;
 use theory::TAIL;
@@ -36,26 +36,27 @@ fn relax(marks: &mut [[u32; 8]; 128], tail: usize, ahead: [u32; 8], time: u32)
     marks[tail] = own;
 }
 
-// Scans node k: relaxes each link into it.
+// Scans a place, which hands on the marks `ahead`: relaxes each link that ends there.
 fn scan(
     marks: &mut [[u32; 8]; 128],
     nodes: usize,
-    links: &[[u16; 5]],
+    links: &[[u16; 6]],
     times: &[u32; 512],
     group: [u16; 8],
-    into: &[u16; 640],
-    k: usize,
+    into: &[u16; 768],
+    place: usize,
+    ahead: [u32; 8],
 )
     requires { ⌜ EachSearchable nodes (now links) (now times) group × (now into ≡ chainOf (now links) 1) ⌝ }
-    requires { ⌜ EachSearching nodes (now links) (now times) group (now marks) × (k < nodes) ⌝ }
-    ensures { λ _. ⌜ EachScanned nodes (now (links .entry)) (now (times .entry)) group k (now (marks .entry)) (now (marks .exit)) ⌝ }
+    requires { ⌜ EachSearching nodes (now links) (now times) group (now marks) × (place < 256) × RowMarked ahead ⌝ }
+    requires { ⌜ EachHands nodes (now links) (now times) group place ahead (now marks) ⌝ }
+    ensures { λ _. ⌜ EachScanned nodes (now (links .entry)) (now (times .entry)) group place ahead (now (marks .entry)) (now (marks .exit)) ⌝ }
 {
-    let ahead = marks[k];
-    let mut l = into[k];
+    let mut l = into[place];
     while l != NO_LINK {
         let i = index(l);
         relax(marks, index(links[i][TAIL]), ahead, times[i]);
-        l = into[128 + i];
+        l = into[256 + i];
     }
 }
 
@@ -78,10 +79,10 @@ fn visit(
     marks: &mut [[u32; 8]; 128],
     scanned: &mut [[u32; 8]; 128],
     nodes: usize,
-    links: &[[u16; 5]],
+    links: &[[u16; 6]],
     times: &[u32; 512],
     group: [u16; 8],
-    into: &[u16; 640],
+    into: &[u16; 768],
     k: usize,
 ) -> usize
     requires { ⌜ EachSearchable nodes (now links) (now times) group × (now into ≡ chainOf (now links) 1) ⌝ }
@@ -91,7 +92,7 @@ fn visit(
     let row = marks[k];
     if 0 < fallen(row, scanned[k]) {
         scanned[k] = row;
-        scan(marks, nodes, links, times, group, into, k);
+        scan(marks, nodes, links, times, group, into, k, row);
         return 1;
     }
     0
@@ -102,10 +103,10 @@ fn sweep_up(
     marks: &mut [[u32; 8]; 128],
     scanned: &mut [[u32; 8]; 128],
     nodes: usize,
-    links: &[[u16; 5]],
+    links: &[[u16; 6]],
     times: &[u32; 512],
     group: [u16; 8],
-    into: &[u16; 640],
+    into: &[u16; 768],
 ) -> usize
     requires { ⌜ EachSearchable nodes (now links) (now times) group × (now into ≡ chainOf (now links) 1) ⌝ }
     requires { ⌜ EachScans nodes (now links) (now times) group (now marks) (now scanned) ⌝ }
@@ -125,10 +126,10 @@ fn sweep_down(
     marks: &mut [[u32; 8]; 128],
     scanned: &mut [[u32; 8]; 128],
     nodes: usize,
-    links: &[[u16; 5]],
+    links: &[[u16; 6]],
     times: &[u32; 512],
     group: [u16; 8],
-    into: &[u16; 640],
+    into: &[u16; 768],
 ) -> usize
     requires { ⌜ EachSearchable nodes (now links) (now times) group × (now into ≡ chainOf (now links) 1) ⌝ }
     requires { ⌜ EachScans nodes (now links) (now times) group (now marks) (now scanned) ⌝ }
@@ -151,14 +152,37 @@ fn set_out(marks: &mut [[u32; 8]; 128], s: usize, k: usize)
     marks[s][k] = 0;
 }
 
+// Scans the links into each destination of a group that is closed, in its own lane: no other search may go by them.
+fn enter(
+    marks: &mut [[u32; 8]; 128],
+    nodes: usize,
+    links: &[[u16; 6]],
+    times: &[u32; 512],
+    group: [u16; 8],
+    into: &[u16; 768],
+)
+    requires { ⌜ EachSearchable nodes (now links) (now times) group × (now into ≡ chainOf (now links) 1) ⌝ }
+    requires { ⌜ EachEntered nodes (now links) (now times) group 0 (now marks) ⌝ }
+    ensures { λ _. ⌜ EachEntered nodes (now (links .entry)) (now (times .entry)) group 8 (now (marks .exit)) ⌝ }
+{
+    let mut k: usize = 0;
+    while k < 8 {
+        let mut ahead = [UNREACHED; 8];
+        ahead[k] = 0;
+        let place = 128 + index(group[k]);
+        scan(marks, nodes, links, times, group, into, place, ahead);
+        k += 1;
+    }
+}
+
 // The least times to the destinations of a group, where the chains of the links into each node are at hand. Nodes are scanned until no mark
 // changes.
 pub fn search(
     nodes: usize,
-    links: &[[u16; 5]],
+    links: &[[u16; 6]],
     times: &[u32; 512],
     group: [u16; 8],
-    into: &[u16; 640],
+    into: &[u16; 768],
     marks: &mut [[u32; 8]; 128],
 )
     requires { ⌜ EachSearchable nodes (now links) (now times) group × (now into ≡ chainOf (now links) 1) ⌝ }
@@ -172,6 +196,7 @@ pub fn search(
         set_out(marks, index(group[k]), k);
         k += 1;
     }
+    enter(marks, nodes, links, times, group, into);
     loop {
         let count = sweep_up(marks, &mut scanned, nodes, links, times, group, into);
         if count == 0 {

@@ -1,9 +1,9 @@
--- The fields of the three sections, read from a section's own bytes. The crates above cite these names and their laws, and never a place
+-- The fields of the sections, read from a section's own bytes. The crates above cite these names and their laws, and never a place
 -- in the bytes.
 use Prim.Native.Nat.{ℕ, _+_, _*_, _≤_}
 use mathlib.Core.List.{List}
 use lib.ListN.{length}
-use Rattle.study.specs.Bytes.{u16}
+use Rattle.study.specs.Bytes.{byte, u16}
 
 -- Links, 10 bytes each, five u16: tail, head, free time a, rise b, capacity c.
 unfoldable pub tail : List ℕ → ℕ → ℕ
@@ -28,6 +28,10 @@ destination destinationBytes k = u16 destinationBytes (2 * k)
 -- Trips: for each destination in order, for each node j from 0, u16 D(j,s). Of n nodes, destination k has the entries from k * n on.
 unfoldable pub trips : List ℕ → ℕ → ℕ → ℕ → ℕ
 trips tripBytes n k node = u16 tripBytes (2 * (k * n + node))
+
+-- Closed (A.2): for each node a byte, 1 for a closed node, 0 for open. Where there are no such bytes, as in version 1, every node is open.
+unfoldable pub closedByte : List ℕ → ℕ → ℕ
+closedByte closedBytes node = byte closedBytes node
 
 -- What a reader of a field asks of its section: that the bytes of that link, destination or entry are there.
 unfoldable pub HasLink : List ℕ → ℕ → Type 0

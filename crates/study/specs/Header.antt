@@ -1,7 +1,12 @@
--- The header, 32 bytes: u16 version, u16 nodes, u16 links, u16 destinations, then three pairs of u32 offset and u32 length.
-use Prim.Native.Nat.{ℕ, _+_, _*_}
+-- The header: u16 version, u16 nodes, u16 links, u16 destinations, then a pair of u32 offset and u32 length for each section of the version:
+-- 32 bytes in version 1, 40 in version 2.
+use Prim.Native.Nat.{ℕ, _+_, _*_, _≤_}
+use mathlib.Core.Bool.{Bool, cond}
 use mathlib.Core.List.{List}
+use lib.ListN.{length}
+use lib.Dec.{ltb}
 use Rattle.study.specs.Bytes.{u16, u32}
+use Rattle.study.specs.Versions.{formOf}
 
 unfoldable pub version : List ℕ → ℕ
 version file = u16 file 0
@@ -15,9 +20,25 @@ linkField file = u16 file 4
 unfoldable pub destinationField : List ℕ → ℕ
 destinationField file = u16 file 6
 
--- Sections are numbered in the order of their pairs: 0 links, 1 destinations, 2 trips.
+-- Sections are numbered in the order of their pairs: 0 links, 1 destinations, 2 trips, 3 closed. A section that the file's version does not
+-- have is empty, at the end of the file.
+unfoldable pub hasSection : List ℕ → ℕ → Bool
+hasSection file section = ltb section (formOf (version file) .sections)
+
 unfoldable pub offset : List ℕ → ℕ → ℕ
-offset file section = u32 file (8 + 8 * section)
+offset file section = cond (hasSection file section) (u32 file (8 + 8 * section)) (length file)
 
 unfoldable pub size : List ℕ → ℕ → ℕ
-size file section = u32 file (12 + 8 * section)
+size file section = cond (hasSection file section) (u32 file (12 + 8 * section)) 0
+
+-- What a reader of the header asks of a file: that its version is known and that its header is there.
+pub record Headed (file : List ℕ) : Type 0 where
+  pub version-least : 1 ≤ version file
+  pub version-most : version file ≤ 2
+  pub header-there : formOf (version file) .header ≤ length file
+  pub length-least : 32 ≤ length file
+  pub length-most : length file ≤ 65536
+
+-- How many nodes have a closed byte (A.2): n, and none in a version without that section.
+unfoldable pub closedField : List ℕ → ℕ
+closedField file = cond (hasSection file 3) (nodeField file) 0

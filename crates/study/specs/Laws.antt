@@ -10,9 +10,10 @@ use lib.ListN.{length, getD, take, drop, length-take, length-drop, List·getD-eq
 use lib.Seq.{getD-take, getD-drop}
 use borrow.Author.Tests.{leb-true, ltb-true, ltb-false, eqb-true, eqb-false, eq-eqb, ne-eqb}
 use Rattle.study.specs.Bytes.{byte, u16, u32}
-use Rattle.study.specs.Header.{nodeField, linkField, destinationField, offset, size}
-use Rattle.study.specs.Questions.{Question, firstNo, within, lengthFits, versionKnown, countsFit, sectionEnd, sectionsInOrder, sizesFit, opening, refusal}
-use Rattle.study.specs.Sections.{ifAccepted, nodes, links, destinations, part, linkPart, destinationPart, tripPart}
+use Rattle.study.specs.Versions.{versions, formOf, closedOf}
+use Rattle.study.specs.Header.{version, nodeField, linkField, destinationField, hasSection, offset, size, Headed, closedField}
+use Rattle.study.specs.Questions.{Question, firstNo, within, lengthFits, versionKnown, countsFit, sectionEnd, sectionsApart, sectionsInOrder, sizesFit, opening, refusal}
+use Rattle.study.specs.Sections.{ifAccepted, nodes, links, destinations, closedCount, part, linkPart, destinationPart, tripPart, closedPart}
 use Rattle.study.specs.Fields.{tail, head, freeTime, rise, capacity, destination, trips, HasLink, HasDestination, HasTrips}
 
 both : (a b : Bool) → a && b ≡ true → (a ≡ true) × (b ≡ true)
@@ -81,6 +82,45 @@ pub length-fits : (file : List ℕ) → lengthFits file ≡ true → (32 ≤ len
 unfolding lengthFits
 length-fits file e = within-true 32 65536 (length file) e
 
+-- What the table of versions says of a version.
+pub record Known (version : ℕ) : Type 0 where
+  pub least : 1 ≤ version
+  pub most : version ≤ 2
+  -- version and counts, and a pair for each section
+  pub pairs : formOf version .header ≡ 8 + 8 * formOf version .sections
+  pub some-sections : (3 ≤ formOf version .sections) × (formOf version .sections ≤ 4)
+  pub link-bytes : formOf version .link ≡ 10
+
+pub known : (v : ℕ) → 1 ≤ v → v ≤ 2 → Known v
+unfolding versions formOf
+known zero least most = absurd (omega arith)
+known (suc zero) least most = record { least = least; most = most; pairs = refl; some-sections = (omega arith, omega arith); link-bytes = refl }
+known (suc (suc zero)) least most = record { least = least; most = most; pairs = refl; some-sections = (omega arith, omega arith); link-bytes = refl }
+known (suc (suc (suc v))) least most = absurd (omega arith)
+
+-- So a file that has its header has the pair of each of its sections.
+pub pair-there : (file : List ℕ) (section : ℕ) → Headed file → hasSection file section ≡ true → 16 + 8 * section ≤ length file
+unfolding hasSection
+pair-there file section h e =
+    omega (arith, known (version file) (h .version-least) (h .version-most), h .header-there, ltb-true section _ e)
+
+pub version-known : (file : List ℕ) → versionKnown file ≡ true → Known (version file)
+unfolding versionKnown versions
+version-known file e = let range = within-true 1 2 (version file) e in known (version file) (range .0) (range .1)
+
+-- A file that questions 1 and 2 pass is one that a reader of the header asks for, once the header is there; question 4 asks that first.
+pub headed-by : (file : List ℕ) → lengthFits file ≡ true → versionKnown file ≡ true → formOf (version file) .header ≤ length file → Headed file
+headed-by file yes-1 yes-2 there =
+    let lengths = length-fits file yes-1 in
+    let range = version-known file yes-2 in
+    record {
+      version-least = range .least;
+      version-most = range .most;
+      header-there = there;
+      length-least = lengths .0;
+      length-most = lengths .1;
+    }
+
 pub record CountsFit (file : List ℕ) : Type 0 where
   pub nodes : (2 ≤ nodeField file) × (nodeField file ≤ 128)
   pub links : (1 ≤ linkField file) × (linkField file ≤ 512)
@@ -101,45 +141,55 @@ counts-fit file e =
     }
 
 pub record InOrder (file : List ℕ) : Type 0 where
-  pub first : 32 ≤ offset file 0
+  pub header : formOf (version file) .header ≤ length file
+  pub first : formOf (version file) .header ≤ offset file 0
   pub links : sectionEnd file 0 ≤ offset file 1
   pub destinations : sectionEnd file 1 ≤ offset file 2
-  pub trips : sectionEnd file 2 ≤ length file
+  pub trips : sectionEnd file 2 ≤ offset file 3
+  pub closed : sectionEnd file 3 ≤ length file
 
 pub sections-in-order : (file : List ℕ) → sectionsInOrder file ≡ true → InOrder file
-unfolding sectionsInOrder
+unfolding sectionsInOrder sectionsApart
 sections-in-order file e =
-    let upTo2 = both _ _ e in
+    let parts = both _ _ e in
+    let header = both _ _ (parts .0) in
+    let upTo2 = both _ _ (parts .1) in
     let upTo1 = both _ _ (upTo2 .0) in
     let upTo0 = both _ _ (upTo1 .0) in
     record {
-      first = leb-true _ _ (upTo0 .0);
-      links = leb-true _ _ (upTo0 .1);
-      destinations = leb-true _ _ (upTo1 .1);
-      trips = leb-true _ _ (upTo2 .1);
+      header = leb-true _ _ (header .0);
+      first = leb-true _ _ (header .1);
+      links = leb-true _ _ (upTo0 .0);
+      destinations = leb-true _ _ (upTo0 .1);
+      trips = leb-true _ _ (upTo1 .1);
+      closed = leb-true _ _ (upTo2 .1);
     }
 
 -- So every section ends within the file.
-pub ends-within : (file : List ℕ) (section : ℕ) → InOrder file → section < 3 → sectionEnd file section ≤ length file
+pub ends-within : (file : List ℕ) (section : ℕ) → InOrder file → section < 4 → sectionEnd file section ≤ length file
 ends-within file zero order h = omega arith
 ends-within file (suc zero) order h = omega arith
-ends-within file (suc (suc zero)) order h = order .trips
-ends-within file (suc (suc (suc section))) order h = omega arith
+ends-within file (suc (suc zero)) order h = omega arith
+ends-within file (suc (suc (suc zero))) order h = order .closed
+ends-within file (suc (suc (suc (suc section)))) order h = omega arith
 
 pub record SizesFit (file : List ℕ) : Type 0 where
-  pub links : size file 0 ≡ 10 * linkField file
+  pub links : size file 0 ≡ formOf (version file) .link * linkField file
   pub destinations : size file 1 ≡ 2 * destinationField file
   pub trips : size file 2 ≡ 2 * destinationField file * nodeField file
+  pub closed : size file 3 ≡ closedField file
 
 pub sizes-fit : (file : List ℕ) → sizesFit file ≡ true → SizesFit file
 unfolding sizesFit
 sizes-fit file e =
     let all = both _ _ e in
-    let firstTwo = both _ _ (all .0) in
+    let firstThree = both _ _ (all .0) in
+    let firstTwo = both _ _ (firstThree .0) in
     record {
       links = eqb-true _ _ (firstTwo .0);
       destinations = eqb-true _ _ (firstTwo .1);
-      trips = eqb-true _ _ (all .1);
+      trips = eqb-true _ _ (firstThree .1);
+      closed = eqb-true _ _ (all .1);
     }
 
 -- ---- accepted files
@@ -164,8 +214,9 @@ module _ {A : Type 0} (file : List ℕ) (value other : A) where
   pub value-refused : (refusal file ≡ 0 → ⊥) → ifAccepted file value other ≡ other
   value-refused refused = rw (ne-eqb (refusal file) 0 refused)
 
--- All that the crates above need of an accepted file's length and counts.
+-- All that the crates above need of an accepted file's version, length and counts.
 pub record Accepted (file : List ℕ) : Type 0 where
+  pub version-known : Known (version file)
   pub length-least : 32 ≤ length file
   pub length-most : length file ≤ 65536
   pub nodes-least : 2 ≤ nodes file
@@ -184,6 +235,10 @@ module _ (file : List ℕ) (e : refusal file ≡ 0) where
   counts : CountsFit file
   unfolding opening
   counts = counts-fit file (answers .1 .1 .0)
+
+  known-version : Known (version file)
+  unfolding opening
+  known-version = version-known file (answers .1 .0)
 
   pub in-order : InOrder file
   unfolding opening
@@ -205,11 +260,16 @@ module _ (file : List ℕ) (e : refusal file ≡ 0) where
   unfolding destinations
   destinations-field = value-accepted file (destinationField file) 0 e
 
+  pub closed-field-is : closedCount file ≡ closedField file
+  unfolding closedCount
+  closed-field-is = value-accepted file (closedField file) 0 e
+
   pub accepted : Accepted file
   unfolding opening
   accepted =
       let fits = length-fits file (answers .0) in
       record {
+        version-known = known-version;
         length-least = fits .0;
         length-most = fits .1;
         nodes-least = omega (arith, nodes-field, counts);
@@ -221,11 +281,15 @@ module _ (file : List ℕ) (e : refusal file ≡ 0) where
         destinations-nodes = omega (arith, destinations-field, nodes-field, counts);
       }
 
+  pub headed : Headed file
+  unfolding opening
+  headed = headed-by file (answers .0) (answers .1 .0) (in-order .header)
+
   pub part-accepted : (section : ℕ) → part file section ≡ take (size file section) (drop (offset file section) file)
   unfolding part
   part-accepted section = value-accepted file (take (size file section) (drop (offset file section) file)) [] e
 
-  part-size : (section : ℕ) → section < 3 → length (part file section) ≡ size file section
+  part-size : (section : ℕ) → section < 4 → length (part file section) ≡ size file section
   part-size section h =
       let within = ends-within file section in-order h in
       rw (part-accepted section) (simp (length-take, length-drop) (omega arith))
@@ -258,7 +322,7 @@ module _ (file : List ℕ) where
 
   pub link-length : length (linkPart file) ≡ 10 * links file
   link-length =
-      by-answer (λ e. omega (arith, part-size file e 0 (omega arith), sizes file e, links-field file e))
+      by-answer (λ e. omega (arith, part-size file e 0 (omega arith), (rw (known-version file e .link-bytes) at (sizes file e .links)), links-field file e))
       (λ refused. omega (arith, ap length (part-refused 0 refused), links-refused refused))
 
   pub destination-length : length (destinationPart file) ≡ 2 * destinations file
@@ -271,6 +335,31 @@ module _ (file : List ℕ) where
       by-answer
       (λ e. rw (destinations-field file e, nodes-field file e) (part-size file e 2 (omega arith) ∙ sizes file e .trips))
       (λ refused. rw (part-refused 2 refused, destinations-refused refused) (omega arith))
+
+  pub closed-length : length (closedPart file) ≡ closedCount file
+  unfolding closedCount
+  closed-length =
+      by-answer (λ e. part-size file e 3 (omega arith) ∙ sizes file e .closed ∙ sym (closed-field-is file e))
+      (λ refused. rw (part-refused 3 refused) (sym (value-refused file (closedField file) 0 refused)))
+
+  -- A version without closed bytes has none.
+  pub no-closed : hasSection file 3 ≡ false → closedPart file ≡ []
+  unfolding part size
+  no-closed e = rw e (either (eqb (refusal file) 0))
+    where
+      either : (t : Bool) → cond t (take 0 (drop (offset file 3) file)) [] ≡ []
+      either true = refl
+      either false = refl
+
+  -- There is a closed byte for every node, or for none.
+  pub closed-count : closedCount file ≡ closedOf (version file) (nodes file)
+  unfolding closedCount closedField hasSection nodes
+  closed-count = swap (ltb 3 (formOf (version file) .sections)) (eqb (refusal file) 0)
+    where
+      swap : (t u : Bool) → cond u (cond t (nodeField file) 0) 0 ≡ cond t (cond u (nodeField file) 0) 0
+      swap true u = refl
+      swap false true = refl
+      swap false false = refl
 
   pub has-link : (link : ℕ) → link < links file → HasLink (linkPart file) link
   unfolding HasLink

@@ -4,7 +4,8 @@ use mathlib.Core.Bool.{Bool, _&&_, cond}
 use mathlib.Core.List.{List, [], _∷_}
 use lib.ListN.{length}
 use lib.Dec.{leb, eqb}
-use Rattle.study.specs.Header.{version, nodeField, linkField, destinationField, offset, size}
+use Rattle.study.specs.Versions.{versions, formOf}
+use Rattle.study.specs.Header.{version, nodeField, linkField, destinationField, offset, size, closedField}
 
 -- A question of document 01: its number, and whether the answer is yes.
 pub record Question : Type 0 where
@@ -23,9 +24,9 @@ within least most x = leb least x && leb x most
 unfoldable pub lengthFits : List ℕ → Bool
 lengthFits file = within 32 65536 (length file)
 
--- 2. Is the version 1?
+-- 2. Is the version one of the table: 1, or 2 (A.2)?
 unfoldable pub versionKnown : List ℕ → Bool
-versionKnown file = eqb (version file) 1
+versionKnown file = within 1 (length versions) (version file)
 
 -- 3. Is n 2 to 128, m 1 to 512, p 1 to 32, and p at most n?
 unfoldable pub countsFit : List ℕ → Bool
@@ -39,20 +40,29 @@ countsFit file =
 abbrev pub sectionEnd : List ℕ → ℕ → ℕ
 sectionEnd file section = offset file section + size file section
 
--- 4. Is the first offset at least 32, does each section end at or before the next offset, and the last within the file?
+-- Each section ends at or before the next offset, and the last within the file.
+unfoldable pub sectionsApart : List ℕ → Bool
+sectionsApart file =
+    leb (sectionEnd file 0) (offset file 1)
+    && leb (sectionEnd file 1) (offset file 2)
+    && leb (sectionEnd file 2) (offset file 3)
+    && leb (sectionEnd file 3) (length file)
+
+-- 4. Has the file its version's header, is the first offset at least the header's size, does each section end at or before the next offset,
+-- and the last within the file?
 unfoldable pub sectionsInOrder : List ℕ → Bool
 sectionsInOrder file =
-    leb 32 (offset file 0)
-    && leb (sectionEnd file 0) (offset file 1)
-    && leb (sectionEnd file 1) (offset file 2)
-    && leb (sectionEnd file 2) (length file)
+    leb (formOf (version file) .header) (length file)
+    && leb (formOf (version file) .header) (offset file 0)
+    && sectionsApart file
 
--- 5. Are the lengths 10m, 2p and 2pn?
+-- 5. Are the lengths 10m (the version's bytes a link × m), 2p, 2pn and, from version 2 on, n?
 unfoldable pub sizesFit : List ℕ → Bool
 sizesFit file =
-    eqb (size file 0) (10 * linkField file)
+    eqb (size file 0) (formOf (version file) .link * linkField file)
     && eqb (size file 1) (2 * destinationField file)
     && eqb (size file 2) (2 * destinationField file * nodeField file)
+    && eqb (size file 3) (closedField file)
 
 -- Questions 1 to 5, in order. Every call's list of questions begins with these.
 unfoldable pub opening : List ℕ → List Question

@@ -5,7 +5,7 @@ use mathlib.Core.Bool.{cond}
 use mathlib.Core.List.{List, []}
 use lib.ListN.{take, drop}
 use lib.Dec.{eqb}
-use Rattle.study.specs.Header.{nodeField, linkField, destinationField, offset, size}
+use Rattle.study.specs.Header.{nodeField, linkField, destinationField, closedField, offset, size}
 use Rattle.study.specs.Questions.{refusal}
 
 -- A value of an accepted file, and the other value of a refused one.
@@ -22,6 +22,10 @@ links file = ifAccepted file (linkField file) 0
 unfoldable pub destinations : List ℕ → ℕ
 destinations file = ifAccepted file (destinationField file) 0
 
+-- How many nodes have a closed byte: n, or none in version 1.
+unfoldable pub closedCount : List ℕ → ℕ
+closedCount file = ifAccepted file (closedField file) 0
+
 -- The part of the file at a section's offset, of its length.
 unfoldable pub part : List ℕ → ℕ → List ℕ
 part file section = ifAccepted file (take (size file section) (drop (offset file section) file)) []
@@ -34,3 +38,7 @@ destinationPart file = part file 1
 
 abbrev pub tripPart : List ℕ → List ℕ
 tripPart file = part file 2
+
+-- (A.2) Of a version 1 file it is empty.
+abbrev pub closedPart : List ℕ → List ℕ
+closedPart file = part file 3

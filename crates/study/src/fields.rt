@@ -4,8 +4,9 @@ ghost use mathlib.Core.Path.{_≡_};
 ghost use Rattle.study.specs.Bytes.{u16 as u16Of};
 ghost use Rattle.study.specs.Fields.{HasLink, HasDestination, HasTrips, freeTime};
 ghost use Rattle.study.specs.Fields.{tail as tailOf, head as headOf, rise as riseOf, capacity as capacityOf};
-ghost use Rattle.study.specs.Fields.{destination as destinationOf, trips as tripsOf};
+ghost use Rattle.study.specs.Fields.{destination as destinationOf, trips as tripsOf, closedByte};
 use crate::bytes::u16_at;
+use crate::bytes::wide;
 
 pub fn tail(links: &[u8], link: usize) -> u16
     requires { ⌜ HasLink (now links) link ⌝ }
@@ -55,6 +56,16 @@ pub fn trips_from(trips: &[u8], n: usize, k: usize, node: usize) -> u16
     ensures { λ r. ⌜ r ≡ tripsOf (now (trips .entry)) n k node ⌝ }
 {
     u16_at(trips, 2 * (k * n + node))
+}
+
+// The closed byte of a node, or 0 where there is none.
+pub fn closed_byte(closed: &[u8], node: usize) -> u16
+    ensures { λ r. ⌜ r ≡ closedByte (now (closed .entry)) node ⌝ }
+{
+    if closed.len() <= node {
+        return 0;
+    }
+    wide(closed[node])
 }
 
 // The field of a link that stands `place` bytes on in its ten.

@@ -1,9 +1,12 @@
 // Document 01, 'The questions, in order': questions 1 to 5, one function each.
 ghost use Prim.Native.Nat.{_≤_};
+ghost use mathlib.Core.Bool.{true};
 ghost use mathlib.Core.Path.{_≡_};
 ghost use lib.ListN.{length};
-ghost use Rattle.study.specs.Questions.{lengthFits, versionKnown, countsFit, sectionsInOrder, sizesFit};
+ghost use Rattle.study.specs.Header.{Headed};
+ghost use Rattle.study.specs.Questions.{lengthFits, versionKnown, countsFit, sectionsApart, sectionsInOrder, sizesFit};
 ghost use Rattle.study.specs.Questions.{within as withinOf, refusal as refusalOf};
+use crate::header::closed_field;
 use crate::header::destination_field;
 use crate::header::link_field;
 use crate::header::node_field;
@@ -11,6 +14,8 @@ use crate::header::offset;
 use crate::header::section_end;
 use crate::header::size;
 use crate::header::version;
+use crate::versions::LATEST;
+use crate::versions::form_of;
 
 // The number of the first of questions 1 to 5 that refuses the file, or 0.
 pub fn refusal(file: &[u8]) -> u8
@@ -41,12 +46,12 @@ fn length_fits(file: &[u8]) -> bool
     within(32, 65536, file.len() as u64)
 }
 
-// 2. Is the version 1?
+// 2. Is the version one that there is?
 fn version_known(file: &[u8]) -> bool
     requires { ⌜ 32 ≤ length (now file) ⌝ }
     ensures { λ r. ⌜ r ≡ versionKnown (now (file .entry)) ⌝ }
 {
-    version(file) == 1
+    within(1, LATEST, version(file) as u64)
 }
 
 // 3. Is n 2 to 128, m 1 to 512, p 1 to 32, and p at most n?
@@ -63,36 +68,52 @@ fn counts_fit(file: &[u8]) -> bool
     nodes && links && destinations && p <= n
 }
 
-// 4. Is the first offset at least 32, does each section end at or before the next offset, and the
-// last within the file?
+// 4. Has the file its version's header, is the first offset at least the header's size, does each section end at or
+// before the next offset, and the last within the file?
 fn sections_in_order(file: &[u8]) -> bool
-    requires { ⌜ 32 ≤ length (now file) ⌝ }
+    requires { ⌜ (lengthFits (now file) ≡ true) × (versionKnown (now file) ≡ true) ⌝ }
     ensures { λ r. ⌜ r ≡ sectionsInOrder (now (file .entry)) ⌝ }
 {
-    let links = offset(file, 0);
+    let header = form_of(version(file)).header;
+    if (file.len() as u64) < header {
+        return false;
+    }
+    header <= offset(file, 0) && sections_apart(file)
+}
+
+// Does each section end at or before the next offset, and the last within the file?
+fn sections_apart(file: &[u8]) -> bool
+    requires { ⌜ Headed (now file) ⌝ }
+    ensures { λ r. ⌜ r ≡ sectionsApart (now (file .entry)) ⌝ }
+{
     let links_end = section_end(file, 0);
     let destinations = offset(file, 1);
     let destinations_end = section_end(file, 1);
     let trips = offset(file, 2);
     let trips_end = section_end(file, 2);
-    32 <= links
-        && links_end <= destinations
+    let closed = offset(file, 3);
+    let closed_end = section_end(file, 3);
+    links_end <= destinations
         && destinations_end <= trips
-        && trips_end <= file.len() as u64
+        && trips_end <= closed
+        && closed_end <= file.len() as u64
 }
 
-// 5. Are the lengths 10m, 2p and 2pn?
+// 5. Are the lengths 10m, 2p, 2pn and, from version 2 on, n?
 fn sizes_fit(file: &[u8]) -> bool
-    requires { ⌜ 32 ≤ length (now file) ⌝ }
+    requires { ⌜ Headed (now file) ⌝ }
     ensures { λ r. ⌜ r ≡ sizesFit (now (file .entry)) ⌝ }
 {
     let n = node_field(file);
     let m = link_field(file);
     let p = destination_field(file);
+    let link = form_of(version(file)).link;
+    let closed_bytes = closed_field(file);
     let links = size(file, 0);
     let destinations = size(file, 1);
     let trips = size(file, 2);
-    links == 10 * m && destinations == 2 * p && trips == 2 * p * n
+    let closed = size(file, 3);
+    links == link * m && destinations == 2 * p && trips == 2 * p * n && closed == closed_bytes
 }
 
 fn within(least: u64, most: u64, x: u64) -> bool

@@ -3,7 +3,8 @@
 ghost use Prim.Native.Nat.{_+_, _*_, _<_};
 ghost use mathlib.Core.Path.{_≡_};
 ghost use Rattle.study.specs.Bytes.{u16 as u16Of};
-ghost use Rattle.study.specs.Sections.{ifAccepted, nodes, part, linkPart, destinationPart, tripPart};
+ghost use Rattle.study.specs.Questions.{refusal as refusalOf};
+ghost use Rattle.study.specs.Sections.{ifAccepted, nodes, part, linkPart, destinationPart, tripPart, closedPart};
 ghost use Rattle.study.specs.Sections.{links as linksOf, destinations as destinationsOf};
 use crate::bytes::u16_at;
 use crate::header::offset;
@@ -31,22 +32,38 @@ pub fn destination_count(file: &[u8]) -> usize
     count(file, 2)
 }
 
+// The numbers of the sections.
+pub const LINKS: usize = 0;
+
+pub const DESTINATIONS: usize = 1;
+
+pub const TRIPS: usize = 2;
+
+pub const CLOSED: usize = 3;
+
 pub fn links(file: &[u8]) -> &[u8]
     ensures { λ r. ⌜ now r ≡ linkPart (now (file .entry)) ⌝ }
 {
-    section(file, 0)
+    section(file, LINKS)
 }
 
 pub fn destinations(file: &[u8]) -> &[u8]
     ensures { λ r. ⌜ now r ≡ destinationPart (now (file .entry)) ⌝ }
 {
-    section(file, 1)
+    section(file, DESTINATIONS)
 }
 
 pub fn trips(file: &[u8]) -> &[u8]
     ensures { λ r. ⌜ now r ≡ tripPart (now (file .entry)) ⌝ }
 {
-    section(file, 2)
+    section(file, TRIPS)
+}
+
+// A byte for each node. Of a version 1 file this part is empty.
+pub fn closed(file: &[u8]) -> &[u8]
+    ensures { λ r. ⌜ now r ≡ closedPart (now (file .entry)) ⌝ }
+{
+    section(file, CLOSED)
 }
 
 // n, m and p stand one after the other in the header, from byte 2 on.
@@ -60,14 +77,22 @@ fn count(file: &[u8], number: usize) -> usize
     u16_at(file, 2 + 2 * number) as usize
 }
 
-// The bytes from the section's offset on, as many as its length says.
 fn section(file: &[u8], number: usize) -> &[u8]
-    requires { ⌜ number < 3 ⌝ }
+    requires { ⌜ number < 4 ⌝ }
     ensures { λ r. ⌜ now r ≡ part (now (file .entry)) number ⌝ }
 {
     if refusal(file) != 0 {
         return &file[..0];
     }
+    accepted_section(file, number)
+}
+
+// The bytes from the section's offset on, as many as its length says, of a file that is known to be accepted: a caller that has put the
+// questions itself does not put them again for each part.
+pub fn accepted_section(file: &[u8], number: usize) -> &[u8]
+    requires { ⌜ (refusalOf (now file) ≡ 0) × (number < 4) ⌝ }
+    ensures { λ r. ⌜ now r ≡ part (now (file .entry)) number ⌝ }
+{
     let start = offset(file, number) as usize;
     let end = section_end(file, number) as usize;
     &file[start..end]

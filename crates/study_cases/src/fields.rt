@@ -8,6 +8,8 @@ pub fn all(file: &[u8]) {
     destination(file, 0);
     trips(file, 0, 0);
     trips(file, 0, 1);
+    closed(file, 0);
+    closed(file, 1);
 }
 
 // Where the counts say that a link, a destination or an entry is there, its bytes are.
@@ -50,5 +52,13 @@ fn trips(file: &[u8], k: usize, node: usize) {
                 &[node as u64, k as u64, number],
             );
         }
+    }
+}
+
+// A study of version 1 has no closed bytes, and 0 is read of every node.
+fn closed(file: &[u8], node: usize) {
+    if node < study::node_count(file) {
+        let byte = study::closed_byte(study::closed(file), node) as u64;
+        print(b"closed byte of node #: #\n", &[node as u64, byte]);
     }
 }

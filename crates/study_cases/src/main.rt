@@ -1,9 +1,15 @@
-// Runs the file layer on files at the limits of questions 1 to 5, and reads every field of two small
+// Runs the file layer on files at the limits of questions 1 to 5, and reads every field of small
 // studies, as the lines of standard input say (in the words of `case_lines`):
 //
-//     file HEADER LABEL     prints what is answered of a file
-//     study STUDY LABEL     prints its fields too
+//     file HEADER LABEL                    prints what is answered of a file
+//     closed HEADER OFFSET LENGTH LABEL    the same of a file with a fourth pair, and its fields
+//     study STUDY LABEL                    prints what is answered of a study, and its fields
+//
+// Lines that write past byte 32 come after those that rely on the marks there.
+ghost use Prim.Native.Nat.{_≤_};
+ghost use lib.ListN.{length};
 use case_lines::read_header;
+use case_lines::read_numbers;
 use case_lines::read_study;
 use case_lines::word;
 use fields::all;
@@ -43,13 +49,24 @@ fn run(file: &mut [u8]) {
 }
 
 fn run_line(word: u8, file: &mut [u8]) {
-    if word == b'f' {
-        let size = read_header(file);
-        answers(&file[..size]);
-    } else {
-        let size = read_study(file);
-        let study = &file[..size];
-        answers(study);
+    let size = read(word, file);
+    let study = &file[..size];
+    answers(study);
+    if word != b'f' {
         all(study);
     }
+}
+
+// Reads a file up to its label, and answers its length.
+fn read(word: u8, file: &mut [u8]) -> usize
+    ensures { λ r. ⌜ r ≤ length (now (file .entry)) ⌝ }
+{
+    if word == b's' {
+        return read_study(file);
+    }
+    let size = read_header(file);
+    if word == b'c' {
+        read_numbers(file, 32, 40, 4);
+    }
+    size
 }

@@ -31,6 +31,7 @@ fn sections(file: &[u8]) {
     section(b", links # bytes", study::links(file));
     section(b", destinations # bytes", study::destinations(file));
     section(b", trips # bytes", study::trips(file));
+    section(b", closed # bytes", study::closed(file));
 }
 
 // A section's length, and its first and last byte if it has any.

@@ -36,11 +36,19 @@ conserves g share table =
     eqb j (g .destination k)
     || balances (g .links) (g .tail) (g .head) (g .trips k) share (entry (g .links) table k) j))
 
+-- A table with no flow where a commodity may not go. What counts is each commodity's own entry, not a link's total.
+abbrev pub Permitted : Network → List ℕ → Type 0
+Permitted g table = (k l : ℕ) → k < g .commodities → l < g .links → g .mayUse k l ≡ false → entry (g .links) table k l ≡ 0
+
+-- The same as a test: question 20 (A.2).
+unfoldable pub permits : Network → List ℕ → Bool
+permits g table = all (g .commodities) (λ k. all (g .links) (λ l. g .mayUse k l || eqb (entry (g .links) table k l) 0))
+
 -- A table that carries the trips of the network at a share: it conserves, and has no flow where a commodity may not go. Demand 2's
 -- carrying tables and demand 3's rivals are these. Neither the share nor a number of the table has an upper limit.
 pub record Carries (g : Network) (share : ℕ) (table : List ℕ) : Type 0 where
   pub conserving : conserves g share table ≡ true
-  pub permitted : (k l : ℕ) → k < g .commodities → l < g .links → g .mayUse k l ≡ false → entry (g .links) table k l ≡ 0
+  pub permitted : Permitted g table
 
 -- Question 15: is each link's total flow at most share × T?
 unfoldable pub totalsFit : Network → ℕ → List ℕ → Bool

@@ -6,6 +6,7 @@ pub mod Bits
 pub mod Parts
 pub mod Conserving
 pub mod Potentials
+pub mod Permission
 -- paths, distances, next links and loadings:
 pub mod Paths
 pub mod Rounds

@@ -1,9 +1,10 @@
--- A study as rows of numbers: how many nodes; by link its tail, head, free time a, rise b and capacity c; the node of each destination; and
--- D(j,s), destination by destination and node by node.
+-- A study as rows of numbers, one form for all versions of the file: how many nodes; by link its tail, head, free time a, rise b, capacity c
+-- and whether its head is closed; the node of each destination; and D(j,s), destination by destination and node by node.
 use Prim.Native.Nat.{ℕ, _+_, _*_}
-use mathlib.Core.Bool.{true}
+use mathlib.Core.Bool.{Bool, not, _||_}
 use mathlib.Core.List.{List, []}
 use lib.ListN.{length, getD}
+use lib.Dec.{eqb}
 use Rattle.theory.specs.Network.{Network}
 use Rattle.theory.specs.Flows.{stepTime}
 
@@ -26,7 +27,15 @@ rise links l = column 3 links l
 abbrev pub capacity : List (List ℕ) → ℕ → ℕ
 capacity links l = column 4 links l
 
--- The network of a study: each destination is a commodity, and every link may be used. Destination k's trips stand from k * n on.
+-- (A.2) 1 where the link's head is closed.
+abbrev pub closed : List (List ℕ) → ℕ → ℕ
+closed links l = column 5 links l
+
+-- (A.2) A link whose head is closed may carry only flow to that head.
+unfoldable pub mayUse : List (List ℕ) → ℕ → ℕ → Bool
+mayUse links destination l = not (eqb (closed links l) 1) || eqb (head links l) destination
+
+-- The network of a study: each destination is a commodity. Destination k's trips stand from k * n on.
 unfoldable pub network : ℕ → List (List ℕ) → List ℕ → List ℕ → Network
 network nodes links destinations trips =
     record {
@@ -39,7 +48,7 @@ network nodes links destinations trips =
       commodities = length destinations;
       destination = λ k. getD destinations k 0;
       trips = λ k j. getD trips (k * nodes + j) 0;
-      mayUse = λ k l. true;
+      mayUse = λ k. mayUse links (getD destinations k 0);
     }
 
 -- No link, where link numbers are kept: the largest number of 16 bits.

@@ -1,4 +1,4 @@
-// Definitions and laws, in specs/. The crate has no code but the names of a link's columns: a study's links are rows of five numbers, as
+// Definitions and laws, in specs/. The crate has no code but the names of a link's columns: a study's links are rows of six numbers, as
 // specs/Study.antt has them.
 pub const TAIL: usize = 0;
 
@@ -9,6 +9,8 @@ pub const FREE_TIME: usize = 2;
 pub const RISE: usize = 3;
 // capacity c
 pub const CAPACITY: usize = 4;
+// 1 where the link's head is closed
+pub const CLOSED: usize = 5;
 
 // No link, where link numbers are kept.
 pub const NO_LINK: u16 = 65535;

@@ -10,7 +10,7 @@ use theory::TAIL;
 // Does the row balance at every node but its destination: flow out = flow in + share × trips?
 pub fn row_balances(
     nodes: usize,
-    links: &[[u16; 5]],
+    links: &[[u16; 6]],
     destination: usize,
     trips: &[u16],
     row: &[u32],
@@ -36,7 +36,7 @@ pub fn row_balances(
 }
 
 // Adds to sums that are 0, at each node, the flow of the links out of it and that of the links into it.
-fn add_at(out: &mut [u64; 128], into: &mut [u64; 128], links: &[[u16; 5]], row: &[u32])
+fn add_at(out: &mut [u64; 128], into: &mut [u64; 128], links: &[[u16; 6]], row: &[u32])
     requires { ⌜ EndsFit (now links) × (length (now row) ≡ length (now links)) ⌝ }
     requires { ⌜ SumsAt 0 (now links) 0 (now row) (now out) × SumsAt 0 (now links) 1 (now row) (now into) ⌝ }
     ensures { λ _. ⌜ SumsAt (length (now (links .entry))) (now (links .entry)) 0 (now (row .entry)) (now (out .exit)) ⌝ }

@@ -23,7 +23,7 @@ struct Sums {
 // does. Which j between the two are tried is a matter of speed alone: `guess`, and the gap of the table,
 // by which the sums at 0 differ, change nothing of the answer.
 pub fn chosen(
-    links: &[[u16; 5]],
+    links: &[[u16; 6]],
     flows: &[[u64; 512]; 2],
     share: u32,
     guess: u32,
@@ -131,7 +131,7 @@ fn last(share: u32) -> u32
 
 // What decides whether j qualifies. Times are those at flow S + j·Y and share W + j.
 fn sums_at(
-    links: &[[u16; 5]],
+    links: &[[u16; 6]],
     flows: &[[u64; 512]; 2],
     share: u32,
     j: u32,

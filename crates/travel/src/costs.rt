@@ -13,7 +13,7 @@ use theory::FREE_TIME;
 use theory::RISE;
 
 // The cost of the links with the flows of an array, at a share.
-pub fn cost(links: &[[u16; 5]], flows: &[u64; 512], share: u32, curves: &[u64; 769]) -> u64
+pub fn cost(links: &[[u16; 6]], flows: &[u64; 512], share: u32, curves: &[u64; 769]) -> u64
     requires { ⌜ LinksFit (now links) × ShareFits share × Within (length (now links)) mostFlow (now flows) ⌝ }
     requires { ⌜ Powers (now curves) ⌝ }
     ensures { λ r. ⌜ r ≡ listCost (now (links .entry)) share (now (flows .entry)) ⌝ }
@@ -29,7 +29,7 @@ pub fn cost(links: &[[u16; 5]], flows: &[u64; 512], share: u32, curves: &[u64; 7
 
 // The area of a link's staircase from 0 to 64·S: the treads below the step, each c·W wide, and what is
 // left at the height of the step.
-fn link_cost(link: [u16; 5], share: u32, flow: u64, curves: &[u64; 769]) -> u64
+fn link_cost(link: [u16; 6], share: u32, flow: u64, curves: &[u64; 769]) -> u64
     requires { ⌜ LinkFits link × ShareFits share × (flow ≤ mostFlow) × Powers (now curves) ⌝ }
     ensures { λ r. ⌜ (r ≡ linkCost (rowTime link) (getD link 4 0) share flow) × (r ≤ 64 * flow * mostTime) ⌝ }
 {
@@ -41,7 +41,7 @@ fn link_cost(link: [u16; 5], share: u32, flow: u64, curves: &[u64; 769]) -> u64
 
 // The sum of the heights of the treads below a step. A power below the 256th has 32 bits, so the cast
 // to them keeps it; the compiler then multiplies several at once.
-fn heights_below(link: [u16; 5], step: u64, curves: &[u64; 769]) -> u64
+fn heights_below(link: [u16; 6], step: u64, curves: &[u64; 769]) -> u64
     requires { ⌜ LinkFits link × (step ≤ 256) × Powers (now curves) ⌝ }
     ensures { λ r. ⌜ (r ≡ sum step (rowTime link)) × (r ≤ step * mostTime) ⌝ }
 {

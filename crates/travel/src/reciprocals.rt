@@ -39,7 +39,7 @@ pub fn share_reciprocal(share: u32) -> u64
 }
 
 // The reciprocal of a link's capacity.
-fn capacity_reciprocal(link: [u16; 5]) -> u64
+fn capacity_reciprocal(link: [u16; 6]) -> u64
     requires { ⌜ 1 ≤ getD link 4 0 ⌝ }
     ensures { λ r. ⌜ (r ≡ reciprocal capacityParts (getD link 4 0)) × (getD link 4 0 ≤ 65535) ⌝ }
 {
@@ -47,7 +47,7 @@ fn capacity_reciprocal(link: [u16; 5]) -> u64
 }
 
 // Writes the reciprocals of the links' capacities after the powers.
-pub fn put_reciprocals(curves: &mut [u64; 769], links: &[[u16; 5]])
+pub fn put_reciprocals(curves: &mut [u64; 769], links: &[[u16; 6]])
     requires { ⌜ LinksFit (now links) × Powers (now curves) ⌝ }
     ensures { λ _. ⌜ Curves (now (links .entry)) (now (curves .exit)) ⌝ }
 {

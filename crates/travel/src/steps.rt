@@ -36,7 +36,7 @@ pub fn put_powers(curves: &mut [u64; 769])
 }
 
 // Time at a step: a + floor(b·r⁴ / 2²⁴).
-pub fn time_at(link: [u16; 5], step: u64, curves: &[u64; 769]) -> u64
+pub fn time_at(link: [u16; 6], step: u64, curves: &[u64; 769]) -> u64
     requires { ⌜ LinkFits link × (step ≤ 256) × Powers (now curves) ⌝ }
     ensures { λ r. ⌜ (r ≡ rowTime link step) × (r ≤ mostTime) ⌝ }
 {
@@ -44,7 +44,7 @@ pub fn time_at(link: [u16; 5], step: u64, curves: &[u64; 769]) -> u64
 }
 
 // Time of a link with a flow, at a share.
-pub fn link_time(link: [u16; 5], share: u32, flow: u64, curves: &[u64; 769]) -> u64
+pub fn link_time(link: [u16; 6], share: u32, flow: u64, curves: &[u64; 769]) -> u64
     requires { ⌜ LinkFits link × ShareFits share × (flow ≤ mostFlow) × Powers (now curves) ⌝ }
     ensures { λ r. ⌜ (r ≡ rowTime link (step (getD link 4 0) share flow)) × (r ≤ mostTime) ⌝ }
 {
@@ -54,7 +54,7 @@ pub fn link_time(link: [u16; 5], share: u32, flow: u64, curves: &[u64; 769]) -> 
 // Writes the times of the links with the flows of an array, at a share, in place of the first numbers of
 // an array whose other numbers are 0.
 pub fn times(
-    links: &[[u16; 5]],
+    links: &[[u16; 6]],
     flows: &[u64; 512],
     share: u32,
     curves: &[u64; 769],

@@ -16,6 +16,7 @@ use crate::exact::{DIGITS, Figure, FigureError, Fraction};
 use crate::format::Study;
 use crate::source::{Problem, Source};
 use crate::words::answer;
+use net::Network;
 use rounding::Ledger;
 
 /// How figures are converted.
@@ -85,7 +86,8 @@ impl TimeUnit {
 pub struct Conversion {
     /// The study; check accepts it.
     pub study: Study,
-    /// What the modeller should know: what was left out, what was rounded.
+    /// What the modeller should know: what is closed, what was left out, what
+    /// was rounded.
     pub report: Vec<String>,
 }
 
@@ -97,13 +99,20 @@ pub fn convert(net: &Source, trips: &Source, options: &Options) -> Result<Conver
     let study = Study {
         nodes: network.nodes,
         destinations: table.destinations(),
+        closed: closed_bytes(&network),
         links: network.links,
     };
 
     if let Some(stranded) = stranded(&study) {
         let (from, to) = (stranded.from + 1, stranded.to + 1);
         let line = table.line(stranded.from, stranded.to);
-        let what = format!("origin {from} has trips to {to}, but no path of links leads there");
+        let but = if stranded.shut {
+            let first = network.first_open;
+            format!("every path there leads through a node below <FIRST THRU NODE> {first}")
+        } else {
+            "no path of links leads there".to_owned()
+        };
+        let what = format!("origin {from} has trips to {to}, but {but}");
         return Err(trips.problem(line, what));
     }
     // All limits have been put by now, with lines; this is the last word.
@@ -116,6 +125,14 @@ pub fn convert(net: &Source, trips: &Source, options: &Options) -> Result<Conver
     report.extend(ledger.report());
     report.extend(table.drift);
     Ok(Conversion { study, report })
+}
+
+/// The closed bytes: 1 for the nodes before the first open one. None where all
+/// are open, since the study is of version 1 then.
+fn closed_bytes(network: &Network) -> Option<Vec<u8>> {
+    let node_numbers = 1..=network.nodes;
+    let closed = node_numbers.map(|node| u8::from(node < network.first_open));
+    (network.first_open > 1).then(|| closed.collect())
 }
 
 /// A figure of 0 or more.

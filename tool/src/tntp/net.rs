@@ -30,9 +30,11 @@ pub struct Network {
     pub nodes: u16,
     /// Number of zones, if the file tells it.
     pub zones: Option<u16>,
+    /// The first node that may be passed through; those before it are closed.
+    pub first_open: u16,
     /// The links, in the order of the file.
     pub links: Vec<Link>,
-    /// What a study has no place for.
+    /// Which nodes are closed, and what a study has no place for.
     pub notes: Vec<String>,
 }
 
@@ -42,7 +44,9 @@ pub fn read(source: &Source, options: &Options, ledger: &mut Ledger) -> Result<N
     let (_, nodes) = metadata.required("NUMBER OF NODES", &NODES)?;
     let (link_line, link_count) = metadata.required("NUMBER OF LINKS", &LINKS)?;
     let zones = metadata.number("NUMBER OF ZONES", &(1..=nodes))?;
-    let mut notes = left_out(source, &metadata)?;
+    let first_open = metadata.number("FIRST THRU NODE", &(1..=nodes + 1))?;
+    let mut notes = Vec::from_iter(first_open.and_then(|first| closed_note(source, first)));
+    notes.extend(left_out(source, &metadata)?);
 
     let mut links = Vec::with_capacity(rows.len());
     let mut tolls: u64 = 0;
@@ -65,23 +69,27 @@ pub fn read(source: &Source, options: &Options, ledger: &mut Ledger) -> Result<N
     Ok(Network {
         nodes,
         zones: zones.map(|(_, zones)| zones),
+        first_open: first_open.map_or(1, |(_, first)| first),
         links,
         notes,
     })
 }
 
+/// Tells which nodes are closed, if any are; `first` has the first open one
+/// and its line.
+fn closed_note(source: &Source, (line, first): (usize, u16)) -> Option<String> {
+    let closed = match first {
+        1 => return None,
+        2 => "node 1 is closed".to_owned(),
+        _ => format!("nodes 1 to {} are closed", first - 1),
+    };
+    let note = format!("<FIRST THRU NODE> {first}: {closed}, which makes a version 2 study");
+    Some(source.remark(line, note))
+}
+
 /// Notes on metadata that a study has no place for.
 fn left_out(source: &Source, metadata: &Metadata) -> Result<Vec<String>, Problem> {
     let mut notes = Vec::new();
-    if let Some((line, first)) = metadata.number("FIRST THRU NODE", &(1..=u16::MAX))?
-        && first > 1
-    {
-        let note = format!(
-            "<FIRST THRU NODE> {first} is left out: in a version 1 study \
-             any node may be passed through"
-        );
-        notes.push(source.remark(line, note));
-    }
     for key in ["TOLL FACTOR", "DISTANCE FACTOR"] {
         if let Some((line, factor)) = metadata.figure(key)?
             && !factor.value.is_zero()

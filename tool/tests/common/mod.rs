@@ -38,6 +38,48 @@ pub const TOWN_FILE: [u8; 58] = [
     2, 0, 0, 0,
 ];
 
+/// A town with a zone, node 1, which is closed, as text.
+pub const ZONE: &str = "\
+# Times in hundredths of a minute, capacities in trips.
+# Nodes and links count from 0.
+study 2
+nodes 4
+links 4
+destinations 1
+
+closed 1
+
+#    number  tail  head   free   rise  capacity
+link      0     0     1      5     20         2
+link      1     1     2      5      0         1
+link      2     0     3     10      0         1
+link      3     3     2     10      0         1
+
+destination 2  # 3 trips
+  from 0: 2
+  from 1: 1
+
+total: 3 trips
+check: accepted
+";
+
+/// The town with a zone, as a file.
+#[rustfmt::skip]
+pub const ZONE_FILE: [u8; 94] = [
+    2, 0, 4, 0, 4, 0, 1, 0,
+    40, 0, 0, 0, 40, 0, 0, 0,
+    80, 0, 0, 0, 2, 0, 0, 0,
+    82, 0, 0, 0, 8, 0, 0, 0,
+    90, 0, 0, 0, 4, 0, 0, 0,
+    0, 0, 1, 0, 5, 0, 20, 0, 2, 0,
+    1, 0, 2, 0, 5, 0, 0, 0, 1, 0,
+    0, 0, 3, 0, 10, 0, 0, 0, 1, 0,
+    3, 0, 2, 0, 10, 0, 0, 0, 1, 0,
+    2, 0,
+    2, 0, 1, 0, 0, 0, 0, 0,
+    0, 1, 0, 0,
+];
+
 /// What a run of the program came to.
 #[derive(Debug)]
 pub struct Outcome {

@@ -7,7 +7,7 @@ use lib.ListN.{length}
 use lib.Dec.{eqb}
 use borrow.Author.Tests.{ne-eqb, le-leb, lt-leb}
 use Rattle.study.specs.Questions.{Question, firstNo, refusal}
-use Rattle.study.specs.Sections.{nodes}
+use Rattle.study.specs.Sections.{nodes, closedPart}
 use Rattle.study.specs.Laws.{after-opening}
 use Rattle.theory.specs.Moves.{tableSize}
 use Rattle.calls.specs.Study.{linkRows, destinationNodes, tripEntries, networkOf}
@@ -24,7 +24,7 @@ when-zero a b number e = rw e
 
 module _ (file : List ℕ) where
   abbrev asked : List Question
-  asked = studyQuestions (nodes file) (linkRows file) (destinationNodes file) (tripEntries file)
+  asked = studyQuestions (nodes file) (linkRows file) (destinationNodes file) (closedPart file) (tripEntries file)
 
   pub check-opening : (refusal file ≡ 0 → ⊥) → checkNumber file ≡ refusal file
   unfolding checkNumber checkQuestions

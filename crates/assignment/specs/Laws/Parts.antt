@@ -6,7 +6,7 @@ use mathlib.Core.Bool.{true}
 use mathlib.Core.List.{List}
 use lib.ListN.{length, take, replicate}
 use Rattle.study.specs.Questions.{refusal}
-use Rattle.study.specs.Sections.{nodes}
+use Rattle.study.specs.Sections.{nodes, closedPart}
 use Rattle.study.specs.Laws.{accepted}
 use Rattle.theory.specs.Moves.{tableSize}
 use Rattle.theory.specs.Study.{network}
@@ -14,9 +14,9 @@ use Rattle.theory.specs.Laws.Routings.{AllServed}
 use Rattle.calls.specs.Study.{linkRows, destinationNodes, tripEntries, networkOf}
 use Rattle.calls.specs.Questions.{studyQuestions, tableHolds}
 use Rattle.calls.specs.Laws.Questions.{Passed, SharePassed}
-use Rattle.calls.specs.Laws.Networks.{links-length, share-range, holds-length, fields-fit, sound, few-trips}
-use Rattle.calls.specs.Laws.Reach.{reach-served}
-use Rattle.questions.specs.Sized.{Sized}
+use Rattle.calls.specs.Laws.Networks.{links-length, closed-head, share-range, holds-length, fields-fit, sound, few-trips}
+use Rattle.calls.specs.Laws.Reach.{reach-served, passed-carries}
+use Rattle.questions.specs.Sized.{Sized, ClosedHeads}
 use Rattle.network.specs.Decoded.{Decoded}
 use Rattle.network.specs.declared.decoding.Opening.{Opening}
 use Rattle.network.specs.Laws.Decoding.{sized}
@@ -52,9 +52,13 @@ module _ {file : List ℕ} {opening n : ℕ} {linkList : List (List ℕ)} {nodeL
   size-is = rw (parts .links-are, parts .destinations-are)
 
   -- and questions 6 to 11 are the file's.
-  pub asked-is :
-      studyQuestions n linkList nodeList entries ≡ studyQuestions (nodes file) (linkRows file) (destinationNodes file) (tripEntries file)
-  asked-is = rw (parts .nodes-are, parts .links-are, parts .destinations-are, parts .trips-are)
+  pub asked-is : {closedBytes : List ℕ} → closedBytes ≡ closedPart file →
+      studyQuestions n linkList nodeList closedBytes entries
+      ≡ studyQuestions (nodes file) (linkRows file) (destinationNodes file) (closedPart file) (tripEntries file)
+  asked-is e = rw (e, parts .nodes-are, parts .links-are, parts .destinations-are, parts .trips-are)
+
+  pub parts-closed : {closedBytes : List ℕ} → closedBytes ≡ closedPart file → ClosedHeads linkList closedBytes
+  parts-closed e = rw (e, parts .links-are) (closed-head file)
 
   pub parts-sized : Sized n linkList nodeList entries
   parts-sized = rw (parts .nodes-are, parts .links-are, parts .destinations-are, parts .trips-are) (sized file)
@@ -98,7 +102,7 @@ module _ (file : List ℕ) (h : Passed file) where
         few-trips = few-trips file (h .described);
       }
 
--- A table and a share that pass questions 12 and 14 to 16 can be judged.
+-- A table and a share that pass questions 12, 14 to 16 and 20 can be judged.
 pub judgeable : (file table : List ℕ) (share : ℕ) → Passed file → tableHolds (networkOf file) table ≡ true → SharePassed file table share → Judgeable (studyIn file) table share
 unfolding networkOf
 judgeable file table share h holds p =
@@ -109,5 +113,5 @@ judgeable file table share h holds p =
       some-share = range .0;
       share-most = range .1;
       totals-fit = p .totals-fit;
-      conserving = p .conserving;
+      carries = passed-carries file table share p;
     }

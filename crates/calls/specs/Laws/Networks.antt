@@ -4,18 +4,19 @@ use native.Mathlib.Nat.{le-trans}
 use native.Mathlib.Omega.{arith}
 use mathlib.Core.Path.{_≡_, refl, sym, _∙_}
 use mathlib.Core.Bool.{Bool, true, false, not, _&&_}
-use mathlib.Core.List.{List}
+use mathlib.Core.List.{List, []}
 use lib.ListN.{length, getD}
 use lib.Dec.{leb, ltb, eqb}
 use borrow.Author.Tests.{ltb-true, leb-true, le-leb, eqb-true, eqb-false, not-true}
 use Rattle.study.specs.Questions.{within}
-use Rattle.study.specs.Sections.{links, linkPart}
+use Rattle.study.specs.Sections.{links, linkPart, closedPart}
+use Rattle.study.specs.Fields.{closedByte}
 use Rattle.study.specs.Laws.{within-true}
 use Rattle.theory.specs.Finite.{all}
 use Rattle.theory.specs.Network.{Network, Sound, totalTrips}
 use Rattle.theory.specs.Moves.{tableSize}
-use Rattle.theory.specs.Study.{freeTime, rise, capacity, network}
-use Rattle.theory.specs.Laws.Finite.{length-tabulate, all-elim, and-left, and-right, both}
+use Rattle.theory.specs.Study.{head, freeTime, rise, capacity, closed, network}
+use Rattle.theory.specs.Laws.Finite.{length-tabulate, getD-tabulate, all-elim, and-left, and-right, both}
 use Rattle.theory.specs.Laws.Times.{stepTime-least, stepTime-mono}
 use Rattle.calls.specs.Study.{linkRow, linkRows, networkOf}
 use Rattle.calls.specs.Questions.{endsFit, timesFit, destinationsFit, noTripsWithin, totalFits, tableHolds, budgetFits, shareFits}
@@ -27,7 +28,13 @@ not-equal a b e = eqb-false a b (not-true (eqb a b) e)
 -- There is a row for each link.
 pub links-length : (file : List ℕ) → length (linkRows file) ≡ links file
 unfolding linkRows
-links-length file = length-tabulate (links file) (linkRow (linkPart file))
+links-length file = length-tabulate (links file) (linkRow (linkPart file) (closedPart file))
+
+-- The last column of a link's row is the closed byte of its head.
+pub closed-head : (file : List ℕ) (l : ℕ) → l < length (linkRows file) → closed (linkRows file) l ≡ closedByte (closedPart file) (head (linkRows file) l)
+unfolding linkRows linkRow
+closed-head file l below =
+    rw (getD-tabulate (links file) (linkRow (linkPart file) (closedPart file)) [] l (omega (arith, links-length file)))
 
 -- Question 14 says that a share is 1 to 1,024,
 pub share-range : (share : ℕ) → shareFits share ≡ true → (1 ≤ share) × (share ≤ 1024)

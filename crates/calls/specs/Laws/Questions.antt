@@ -4,21 +4,22 @@ use mathlib.Core.Path.{_≡_, refl}
 use mathlib.Core.Bool.{Bool, true, cond}
 use mathlib.Core.List.{List, [], _∷_, _++_}
 use lib.Dec.{eqb}
-use Rattle.study.specs.Sections.{nodes}
+use Rattle.study.specs.Sections.{nodes, closedPart}
 use Rattle.study.specs.Questions.{Question, firstNo, opening, refusal}
 use Rattle.study.specs.Laws.{numbered, numbered-append, firstNo-append, firstNo-both, all-yes, no-refusal, AllYes, opening-both, after-opening, opening-numbered}
-use Rattle.theory.specs.Flows.{totalsFit, conserves}
+use Rattle.theory.specs.Flows.{totalsFit, conserves, permits}
 use Rattle.calls.specs.Study.{linkRows, destinationNodes, tripEntries, networkOf}
-use Rattle.calls.specs.Questions.{endsFit, timesFit, destinationsFit, noTripsWithin, totalFits, tripsReach, tableHolds, budgetFits, shareFits, outputHolds, pageHolds}
+use Rattle.calls.specs.Questions.{endsFit, timesFit, destinationsFit, closedFit, noTripsWithin, totalFits, tripsReach, tableHolds, budgetFits, shareFits, outputHolds, pageHolds}
 use Rattle.calls.specs.Questions.{ask, studyQuestions, shareQuestions, checkQuestions, packQuestions, startQuestions, runQuestions, tableQuestions, pageQuestions}
 use Rattle.calls.specs.Calls.{checkNumber, packNumber, startNumber, runNumber, tableNumber, pageNumber}
 
--- A study that passes questions 1 to 10.
+-- A study that passes questions 1 to 10, 19 among them.
 pub record Described (file : List ℕ) : Type 0 where
   pub opened : refusal file ≡ 0
   pub ends : endsFit (networkOf file) ≡ true
   pub fields : timesFit (linkRows file) ≡ true
   pub ascending : destinationsFit (networkOf file) ≡ true
+  pub closed-fit : closedFit (closedPart file) ≡ true
   pub none-within : noTripsWithin (networkOf file) ≡ true
   pub few : totalFits (networkOf file) ≡ true
 
@@ -27,15 +28,16 @@ pub record Passed (file : List ℕ) : Type 0 where
   pub described : Described file
   pub reaching : tripsReach (networkOf file) ≡ true
 
--- A table and a share that pass questions 14 to 16.
+-- A table and a share that pass questions 14 to 16 and 20.
 pub record SharePassed (file table : List ℕ) (share : ℕ) : Type 0 where
   pub share-fits : shareFits share ≡ true
   pub totals-fit : totalsFit (networkOf file) share table ≡ true
   pub conserving : conserves (networkOf file) share table ≡ true
+  pub permitting : permits (networkOf file) table ≡ true
 
--- Questions 6 to 11 of a file.
+-- Questions 6 to 11 of a file, with 19.
 abbrev questionsOf : List ℕ → List Question
-questionsOf file = studyQuestions (nodes file) (linkRows file) (destinationNodes file) (tripEntries file)
+questionsOf file = studyQuestions (nodes file) (linkRows file) (destinationNodes file) (closedPart file) (tripEntries file)
 
 check-numbered : (file : List ℕ) → numbered (checkQuestions file) ≡ true
 unfolding checkQuestions studyQuestions
@@ -64,10 +66,11 @@ check-passed file e =
             ends = yes′ .0;
             fields = yes′ .1 .0;
             ascending = yes′ .1 .1 .0;
-            none-within = yes′ .1 .1 .1 .0;
-            few = yes′ .1 .1 .1 .1 .0;
+            closed-fit = yes′ .1 .1 .1 .0;
+            none-within = yes′ .1 .1 .1 .1 .0;
+            few = yes′ .1 .1 .1 .1 .1 .0;
           };
-      reaching = yes′ .1 .1 .1 .1 .1 .0;
+      reaching = yes′ .1 .1 .1 .1 .1 .1 .0;
     }
 
 -- Of a study that passes questions 1 to 10, check's number is 0 or 11, by question 11 alone.
@@ -75,7 +78,7 @@ pub described-check : (file : List ℕ) → Described file → checkNumber file 
 unfolding checkNumber checkQuestions studyQuestions networkOf
 described-check file h =
     rw (after-opening file (questionsOf file), h .opened)
-    (rw (h .ends, h .fields, h .ascending, h .none-within, h .few))
+    (rw (h .ends, h .fields, h .ascending, h .closed-fit, h .none-within, h .few))
 
 pub passed-check : (file : List ℕ) → Passed file → checkNumber file ≡ 0
 passed-check file h = rw (described-check file (h .described), h .reaching)
@@ -123,11 +126,11 @@ unfolding tableNumber tableQuestions startNumber shareQuestions
 table-both file table share e =
     let parts = firstNo-both (startQuestions file table) (shareQuestions (networkOf file) table share) (start-numbered file table) e in
     let yes′ = all-yes (shareQuestions (networkOf file) table share) refl (parts .1) in
-    (parts .0, record { share-fits = yes′ .0; totals-fit = yes′ .1 .0; conserving = yes′ .1 .1 .0 })
+    (parts .0, record { share-fits = yes′ .0; totals-fit = yes′ .1 .0; conserving = yes′ .1 .1 .0; permitting = yes′ .1 .1 .1 .0 })
 
 share-yes : (file table : List ℕ) (share : ℕ) → SharePassed file table share → firstNo (shareQuestions (networkOf file) table share) ≡ 0
 unfolding shareQuestions
-share-yes file table share h = no-refusal (shareQuestions (networkOf file) table share) (h .share-fits, (h .totals-fit, (h .conserving, tt)))
+share-yes file table share h = no-refusal (shareQuestions (networkOf file) table share) (h .share-fits, (h .totals-fit, (h .conserving, (h .permitting, tt))))
 
 pub both-table : (file table : List ℕ) (share : ℕ) → startNumber file table ≡ 0 → SharePassed file table share → tableNumber file table share ≡ 0
 both-table file table share s h = rw (table-number file table share, s) (share-yes file table share h)

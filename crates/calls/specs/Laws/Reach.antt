@@ -2,7 +2,7 @@
 use Prim.Native.Nat.{ℕ, _≤_, _<_}
 use native.Mathlib.Nat.{le-of-eq}
 use mathlib.Core.Path.{_≡_, sym, _∙_}
-use mathlib.Core.Bool.{Bool, true, false, _||_, true≢false}
+use mathlib.Core.Bool.{Bool, true, _||_}
 use mathlib.Core.List.{List}
 use mathlib.Core.Option.{none}
 use lib.ListN.{getD, replicate, getD-replicate}
@@ -12,13 +12,12 @@ use Rattle.theory.specs.Network.{Network}
 use Rattle.theory.specs.Routes.{routing, distances, isSome}
 use Rattle.theory.specs.Laws.Cases.{on-equal}
 use Rattle.theory.specs.Laws.Finite.{all-elim, all-intro, getD-tabulate}
-use Rattle.theory.specs.Laws.Conserving.{or-false}
+use Rattle.theory.specs.Laws.Conserving.{or-false, permits-permitted}
 use Rattle.theory.specs.Laws.Routings.{Timed, AllServed, served-at-times}
-use Rattle.theory.specs.Flows.{conserves, Carries}
-use Rattle.theory.specs.Study.{network}
+use Rattle.theory.specs.Flows.{conserves, permits, Carries}
 use Rattle.calls.specs.Study.{networkOf}
 use Rattle.calls.specs.Questions.{hasPath, tripsReach}
-use Rattle.calls.specs.Laws.Questions.{Passed}
+use Rattle.calls.specs.Laws.Questions.{Passed, SharePassed}
 use Rattle.calls.specs.Laws.Networks.{sound}
 
 -- Question 11 asks for a distance at the times 1 on every link.
@@ -41,10 +40,12 @@ served-reach g served =
     let path = getD-tabulate (g .nodes) (λ i. isSome (getD (distances (routing g (replicate (g .links) 1) k)) i none)) true j q ∙ served k p j q some-trips in
     rw (ne-eqb (g .trips k j) 0 some-trips) path)))
 
--- Every link may be used, so a table that conserves carries.
-pub all-permitted : (file : List ℕ) (share : ℕ) (table : List ℕ) → conserves (networkOf file) share table ≡ true → Carries (networkOf file) share table
-unfolding networkOf network
-all-permitted file share table e = record { conserving = e; permitted = λ k l p q barred. absurd (true≢false barred) }
+-- A table that conserves and is permitted carries the trips, and a table that the audit accepts is both.
+pub tests-carry : (g : Network) (share : ℕ) (table : List ℕ) → conserves g share table ≡ true → permits g table ≡ true → Carries g share table
+tests-carry g share table c p = record { conserving = c; permitted = permits-permitted g table p }
+
+pub passed-carries : (file table : List ℕ) (share : ℕ) → SharePassed file table share → Carries (networkOf file) share table
+passed-carries file table share p = tests-carry (networkOf file) share table (p .conserving) (p .permitting)
 
 module _ (file : List ℕ) (h : Passed file) where
   -- At any times of at least 1, every node with trips has a distance.

@@ -14,7 +14,8 @@ use Rattle.theory.specs.Routes.{routing, loading}
 use Rattle.theory.specs.Cost.{cost, gap}
 use Rattle.theory.specs.Moves.{Shared, tableSize, started, added, doubled, move, afterMoves}
 use Rattle.theory.specs.Laws.Finite.{getD-tabulate}
-use Rattle.theory.specs.Laws.Local.{conserves-same, totalsFit-same}
+use Rattle.theory.specs.Laws.Conserving.{permitted-permits}
+use Rattle.theory.specs.Laws.Local.{carries-same, totalsFit-same}
 use Rattle.theory.specs.Laws.Routings.{Timed, times-timed, routing-consistent}
 use Rattle.theory.specs.Laws.Loading.{length-loading, loading-carries, loading-total, loading-totals-fit}
 use Rattle.theory.specs.Laws.Bound.{bound}
@@ -22,10 +23,11 @@ use Rattle.theory.specs.Laws.Tables.{length-added, length-doubled}
 use Rattle.theory.specs.Laws.Moves.{Pass, moved, move-share, move-carries, move-fits}
 use Rattle.theory.specs.Laws.Runs.{tables-have}
 use Rattle.calls.specs.Study.{networkOf}
+use Rattle.calls.specs.Questions.{shareFits}
 use Rattle.calls.specs.Calls.{overwritten}
 use Rattle.calls.specs.Laws.Questions.{Passed, SharePassed}
 use Rattle.calls.specs.Laws.Networks.{share-range, range-share, sound}
-use Rattle.calls.specs.Laws.Reach.{all-permitted, served}
+use Rattle.calls.specs.Laws.Reach.{passed-carries, served}
 
 -- The numbers that a call writes over the first p·m numbers of a table are what the definitions read of it.
 pub overwritten-front : (new old : List ℕ) (i : ℕ) → i < length new → getD new i 0 ≡ getD (overwritten new old) i 0
@@ -57,17 +59,19 @@ module _ (file : List ℕ) (h : Passed file) where
       loading-total g is-sound (times g (x .share) (x .table)) (times-timed g is-sound (x .share) (x .table))
       (served file h (times g (x .share) (x .table)) (times-timed g is-sound (x .share) (x .table)))
 
-  -- The start's table passes questions 14 to 16 at share 1,
+  -- A table that carries the trips at a share within its range, and whose totals fit, passes questions 14 to 16 and 20.
+  carried-passes : (share : ℕ) (table : List ℕ) → shareFits share ≡ true → totalsFit g share table ≡ true → Carries g share table → SharePassed file table share
+  carried-passes share table fits totals c =
+      record { share-fits = fits; totals-fit = totals; conserving = c .conserving; permitting = permitted-permits g table (c .permitted) }
+
+  -- The start's table does at share 1,
   pub started-passes : SharePassed file (started g .table) 1
   unfolding started
   started-passes =
       let t = tabulate (g .links) (λ l. g .height l 0) in
       let at-empty = served file h t empty-timed in
-      record {
-        share-fits = range-share 1 (omega arith) (omega arith);
-        totals-fit = loading-totals-fit g is-sound t empty-timed at-empty;
-        conserving = loading-carries g is-sound t empty-timed at-empty .conserving;
-      }
+      carried-passes 1 _ (range-share 1 (omega arith) (omega arith)) (loading-totals-fit g is-sound t empty-timed at-empty)
+      (loading-carries g is-sound t empty-timed at-empty)
 
   pub started-length : length (started g .table) ≡ tableSize g
   unfolding started
@@ -78,12 +82,8 @@ module _ (file : List ℕ) (h : Passed file) where
   moved-passes x x′ p e =
       let range = share-range (x .share) (p .share-fits) in
       let rises = move-share g x x′ (range .0) e in
-      record {
-        share-fits = range-share (x′ .share) (omega arith) (rises .1);
-        totals-fit = move-fits g x x′ e (p .totals-fit) (loading-total-at x);
-        conserving =
-            move-carries g x x′ e (all-permitted file (x .share) (x .table) (p .conserving)) (loading-at-table x) .conserving;
-      }
+      carried-passes (x′ .share) (x′ .table) (range-share (x′ .share) (omega arith) (rises .1)) (move-fits g x x′ e (p .totals-fit) (loading-total-at x))
+      (move-carries g x x′ e (passed-carries file (x .table) (x .share) p) (loading-at-table x))
 
   pub moved-length : (x x′ : Shared) → move g x ≡ some x′ → length (x′ .table) ≡ tableSize g
   moved-length x x′ e = go x′ (moved g x x′ e)
@@ -105,11 +105,8 @@ module _ (file : List ℕ) (h : Passed file) where
   pub overwritten-passes : (new old : List ℕ) (share : ℕ) → length new ≡ tableSize g → SharePassed file new share → SharePassed file (overwritten new old) share
   overwritten-passes new old share size p =
       let same : (i : ℕ) → i < tableSize g → getD new i 0 ≡ getD (overwritten new old) i 0 = λ i q. overwritten-front new old i (omega arith) in
-      record {
-        share-fits = p .share-fits;
-        totals-fit = sym (totalsFit-same g new (overwritten new old) same share) ∙ p .totals-fit;
-        conserving = sym (conserves-same g new (overwritten new old) same share) ∙ p .conserving;
-      }
+      carried-passes share (overwritten new old) (p .share-fits) (sym (totalsFit-same g new (overwritten new old) same share) ∙ p .totals-fit)
+      (carries-same g new (overwritten new old) same share (passed-carries file new share p))
 
   -- The bound of any table at a share of at least 1.
   pub table-bound : (table : List ℕ) (share : ℕ) → 1 ≤ share → (other : ℕ) (rival : List ℕ) → Carries g other rival

@@ -6,17 +6,18 @@ use mathlib.Core.List.{List}
 use lib.ListN.{length}
 use borrow.Author.Tests.{le-leb, eq-eqb}
 use Rattle.study.specs.Header.{version}
-use Rattle.study.specs.Questions.{lengthFits, versionKnown, countsFit, sectionsInOrder, sizesFit, opening, refusal}
-use Rattle.study.specs.Laws.{CountsFit, InOrder, SizesFit, no-refusal}
+use Rattle.study.specs.Versions.{versions}
+use Rattle.study.specs.Questions.{lengthFits, versionKnown, countsFit, sectionsApart, sectionsInOrder, sizesFit, opening, refusal}
+use Rattle.study.specs.Laws.{Known, CountsFit, InOrder, SizesFit, no-refusal}
 
 module _ (file : List ℕ) where
   length-yes : 32 ≤ length file → length file ≤ 65536 → lengthFits file ≡ true
   unfolding lengthFits
   length-yes least most = rw (le-leb _ _ least, le-leb _ _ most)
 
-  version-yes : version file ≡ 1 → versionKnown file ≡ true
-  unfolding versionKnown
-  version-yes known = rw known
+  version-yes : Known (version file) → versionKnown file ≡ true
+  unfolding versionKnown versions
+  version-yes v = rw (le-leb _ _ (v .least), le-leb _ _ (v .most))
 
   counts-yes : CountsFit file → countsFit file ≡ true
   unfolding countsFit
@@ -32,14 +33,22 @@ module _ (file : List ℕ) where
       )
 
   order-yes : InOrder file → sectionsInOrder file ≡ true
-  unfolding sectionsInOrder
-  order-yes o = rw (le-leb _ _ (o .first), le-leb _ _ (o .links), le-leb _ _ (o .destinations), le-leb _ _ (o .trips))
+  unfolding sectionsInOrder sectionsApart
+  order-yes o =
+      rw (
+        le-leb _ _ (o .header),
+        le-leb _ _ (o .first),
+        le-leb _ _ (o .links),
+        le-leb _ _ (o .destinations),
+        le-leb _ _ (o .trips),
+        le-leb _ _ (o .closed),
+      )
 
   sizes-yes : SizesFit file → sizesFit file ≡ true
   unfolding sizesFit
-  sizes-yes s = rw (eq-eqb _ _ (s .links), eq-eqb _ _ (s .destinations), eq-eqb _ _ (s .trips))
+  sizes-yes s = rw (eq-eqb _ _ (s .links), eq-eqb _ _ (s .destinations), eq-eqb _ _ (s .trips), eq-eqb _ _ (s .closed))
 
-  pub accepts : 32 ≤ length file → length file ≤ 65536 → version file ≡ 1 → CountsFit file → InOrder file → SizesFit file → refusal file ≡ 0
+  pub accepts : 32 ≤ length file → length file ≤ 65536 → Known (version file) → CountsFit file → InOrder file → SizesFit file → refusal file ≡ 0
   unfolding refusal opening
   accepts least most known counts order sizes =
       no-refusal (opening file)

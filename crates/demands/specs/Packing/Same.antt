@@ -1,26 +1,30 @@
 -- Two files that the file layer answers alike describe one study: every field, the network and every call's answer are the same.
 use Prim.Native.Nat.{ℕ, zero, suc}
-use mathlib.Core.Path.{_≡_, refl}
+use mathlib.Core.Path.{_≡_, refl, sym, _∙_, ap}
 use mathlib.Core.List.{List}
+use lib.ListN.{length}
+use Rattle.study.specs.Header.{version}
 use Rattle.study.specs.Questions.{refusal}
-use Rattle.study.specs.Sections.{nodes, links, destinations, linkPart, destinationPart, tripPart}
+use Rattle.study.specs.Sections.{nodes, links, destinations, closedCount, linkPart, destinationPart, tripPart, closedPart}
 use Rattle.study.specs.Fields.{destination, trips}
-use Rattle.study.specs.Laws.{after-opening}
+use Rattle.study.specs.Laws.{after-opening, closed-length}
 use Rattle.calls.specs.Study.{linkRows, destinationNodes, tripEntries, networkOf}
 use Rattle.calls.specs.Questions.{packedSize, outputHolds, checkQuestions}
 use Rattle.calls.specs.Pack.{packed}
 use Rattle.calls.specs.Laws.Questions.{pack-number, start-number, table-number, run-number}
 use Rattle.calls.specs.Calls.{checkNumber, packNumber, packOutput, startNumber, startTable, tableNumber, auditAnswer, passAnswer, passTable, runNumber, runAnswer, runTable}
 
--- The file layer answers the same of both files: the refusal of questions 1 to 5, n, m and p, and the three parts.
+-- The file layer answers the same of both files: the refusal of questions 1 to 5, the version, n, m and p, and the parts.
 pub record SameStudy (a b : List ℕ) : Type 0 where
   pub same-refusal : refusal a ≡ refusal b
+  pub same-version : version a ≡ version b
   pub same-nodes : nodes a ≡ nodes b
   pub same-links : links a ≡ links b
   pub same-destinations : destinations a ≡ destinations b
   pub same-link-part : linkPart a ≡ linkPart b
   pub same-destination-part : destinationPart a ≡ destinationPart b
   pub same-trip-part : tripPart a ≡ tripPart b
+  pub same-closed-part : closedPart a ≡ closedPart b
 
 module _ {a b : List ℕ} (same : SameStudy a b) where
   -- tail, head, freeTime, rise and capacity of a link
@@ -35,7 +39,7 @@ module _ {a b : List ℕ} (same : SameStudy a b) where
 
   pub same-rows : linkRows a ≡ linkRows b
   unfolding linkRows
-  same-rows = rw (same .same-links, same .same-link-part)
+  same-rows = rw (same .same-links, same .same-link-part, same .same-closed-part)
 
   pub same-destination-nodes : destinationNodes a ≡ destinationNodes b
   unfolding destinationNodes
@@ -52,16 +56,29 @@ module _ {a b : List ℕ} (same : SameStudy a b) where
   pub same-packed : packed a ≡ packed b
   unfolding packed
   same-packed =
-      rw (same .same-nodes, same .same-links, same .same-destinations, same .same-link-part, same .same-destination-part, same .same-trip-part)
+      rw (
+        same .same-version,
+        same .same-nodes,
+        same .same-links,
+        same .same-destinations,
+        same .same-link-part,
+        same .same-destination-part,
+        same .same-trip-part,
+        same .same-closed-part,
+      )
+
+  -- As many closed bytes, since the part has as many.
+  same-closed-count : closedCount a ≡ closedCount b
+  same-closed-count = sym (closed-length a) ∙ ap length (same .same-closed-part) ∙ closed-length b
 
   pub same-packed-size : packedSize a ≡ packedSize b
   unfolding packedSize
-  same-packed-size = rw (same .same-nodes, same .same-links, same .same-destinations)
+  same-packed-size = rw (same .same-version, same .same-nodes, same .same-links, same .same-destinations, same-closed-count)
 
   -- Every call answers the same, and leaves the same in lent memory.
   pub same-check : checkNumber a ≡ checkNumber b
   unfolding checkNumber checkQuestions
-  same-check = rw (after-opening a, after-opening b, same .same-refusal, same .same-nodes, same-rows, same-destination-nodes, same-entries)
+  same-check = rw (after-opening a, after-opening b, same .same-refusal, same .same-nodes, same-rows, same-destination-nodes, same .same-closed-part, same-entries)
 
   pub same-pack-number : (output : List ℕ) → packNumber a output ≡ packNumber b output
   unfolding outputHolds

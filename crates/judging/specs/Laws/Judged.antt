@@ -9,7 +9,7 @@ use mathlib.Core.Logic.{⊎-elim}
 use lib.ListN.{length, getD, set, replicate, length-set, List·getD-eq-default}
 use lib.Seq.{getD-set-same, getD-set-other}
 use lib.Dec.{leb}
-use Rattle.theory.specs.Flows.{linkTotal, total, step, stepTime, times, Carries}
+use Rattle.theory.specs.Flows.{linkTotal, total, step, stepTime, times}
 use Rattle.theory.specs.Routes.{loading}
 use Rattle.theory.specs.Cost.{linkCost, cost, leastTimes, spentTimes, gap}
 use Rattle.theory.specs.Moves.{movedTimes, qualifies, chosen, added, doubled, moves}
@@ -134,11 +134,6 @@ module _ {d : Study} {table : List ℕ} {share : ℕ} (judgeable : Judgeable d t
   pub holds : destinationCount d * linkCount d ≤ length table
   holds = holds-rows d table (judgeable .holds)
 
-  -- Every link may be used, so a conserving table carries the trips.
-  carries : Carries (networkIn d) share table
-  unfolding network
-  carries = record { conserving = judgeable .conserving; permitted = λ k l h b barred. true-false refl barred }
-
   total-most : (l : ℕ) → l < linkCount d → linkTotal (destinationCount d) (linkCount d) table l ≤ share * 65535
   unfolding network
   total-most l h =
@@ -193,7 +188,7 @@ module _ {d : Study} {table : List ℕ} {share : ℕ} (judgeable : Judgeable d t
       least-spent =
           let exactly =
           gap-exact (networkIn d) (ready .sound) share table
-          (routing-consistent (networkIn d) (ready .sound) exact (timed ready times-in)) carries in
+          (routing-consistent (networkIn d) (ready .sound) exact (timed ready times-in)) (judgeable .carries) in
           omega arith
 
       -- The sum of D(j,s) × distance, as searches find it: W times that is at most the sum of t·S, and their difference is the gap.

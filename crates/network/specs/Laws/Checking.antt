@@ -5,7 +5,7 @@ use Prim.Native.Nat.{ℕ}
 use borrow.Author.Tests.{eq-eqb, ne-eqb}
 use Rattle.study.specs.Laws.{after-opening}
 use Rattle.study.specs.Questions.{firstNo, refusal}
-use Rattle.study.specs.Sections.{nodes}
+use Rattle.study.specs.Sections.{nodes, closedPart}
 use Rattle.calls.specs.Study.{linkRows, destinationNodes, tripEntries}
 use Rattle.calls.specs.Questions.{studyQuestions, checkQuestions}
 use Rattle.calls.specs.Calls.{checkNumber}
@@ -14,8 +14,8 @@ use Rattle.calls.specs.Calls.{checkNumber}
 module _ (file : List ℕ) where
   pub check-refused : (refusal file ≡ 0 → ⊥) → checkNumber file ≡ refusal file
   unfolding checkNumber checkQuestions
-  check-refused refused = after-opening file (studyQuestions (nodes file) (linkRows file) (destinationNodes file) (tripEntries file)) ∙ rw (ne-eqb (refusal file) 0 refused)
+  check-refused refused = after-opening file (studyQuestions (nodes file) (linkRows file) (destinationNodes file) (closedPart file) (tripEntries file)) ∙ rw (ne-eqb (refusal file) 0 refused)
 
-  pub check-opened : refusal file ≡ 0 → checkNumber file ≡ firstNo (studyQuestions (nodes file) (linkRows file) (destinationNodes file) (tripEntries file))
+  pub check-opened : refusal file ≡ 0 → checkNumber file ≡ firstNo (studyQuestions (nodes file) (linkRows file) (destinationNodes file) (closedPart file) (tripEntries file))
   unfolding checkNumber checkQuestions
-  check-opened e = after-opening file (studyQuestions (nodes file) (linkRows file) (destinationNodes file) (tripEntries file)) ∙ rw (eq-eqb (refusal file) 0 e)
+  check-opened e = after-opening file (studyQuestions (nodes file) (linkRows file) (destinationNodes file) (closedPart file) (tripEntries file)) ∙ rw (eq-eqb (refusal file) 0 e)

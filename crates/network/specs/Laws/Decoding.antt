@@ -1,25 +1,25 @@
 -- Arrays that hold a list in their first places: how a loop fills one, and what the sections of a file fill them with.
 use Prim.Native.Nat.{ℕ, _+_, _*_, _≤_, _<_}
-use native.Mathlib.Nat.{mul-le-mul}
+use native.Mathlib.Nat.{le-refl, mul-le-mul}
 use native.Mathlib.Numerals.{add-one}
 use native.Mathlib.Omega.{arith}
 use mathlib.Core.List.{List, [], _∷_, _++_, append-assoc}
-use mathlib.Core.Path.{_≡_, refl, sym, _∙_}
-use lib.ListN.{length, take, set, length-append, length-set}
-use lib.Seq.{length-take-le, take-suc-set}
-use Rattle.study.specs.Fields.{destination, trips}
+use mathlib.Core.Path.{_≡_, refl, sym, _∙_, ap}
+use lib.ListN.{length, getD, take, set, length-append, length-set}
+use lib.Seq.{length-take-le, take-suc-set, getD-take, getD-set-other}
+use Rattle.study.specs.Fields.{destination, trips, closedByte}
 use Rattle.study.specs.Laws.{accepted, nodes-refused, links-refused, destinations-refused, has-link, has-destination, has-trips}
 use Rattle.study.specs.Questions.{refusal}
-use Rattle.study.specs.Sections.{nodes, links, destinations, linkPart, destinationPart, tripPart}
+use Rattle.study.specs.Sections.{nodes, links, destinations, linkPart, destinationPart, tripPart, closedPart}
 use Rattle.theory.specs.Finite.{tabulate, rows}
 use Rattle.theory.specs.Laws.Cases.{on-equal}
-use Rattle.theory.specs.Laws.Finite.{length-tabulate, tabulate-suc, length-rows}
+use Rattle.theory.specs.Laws.Finite.{length-tabulate, getD-tabulate, tabulate-suc, length-rows}
 use Rattle.calls.specs.Study.{linkRow, linkRows, destinationNodes, tripEntries}
-use Rattle.calls.specs.Laws.Networks.{links-length}
+use Rattle.calls.specs.Laws.Networks.{links-length, closed-head}
 use Rattle.network.specs.declared.decoding.Opening.{Opening}
-use Rattle.questions.specs.Sized.{Sized}
+use Rattle.questions.specs.Sized.{Sized, ClosedHeads}
 use Rattle.questions.specs.Laws.Questions.{entries-fit}
-use Rattle.network.specs.Decoded.{Holds, linkRowsIn, nodesIn, entriesIn, HasLinks, HasDestinations, HasRow, HasRows, Decoded, Counts}
+use Rattle.network.specs.Decoded.{Holds, linkRowsIn, nodesIn, entriesIn, HasLinks, HasDestinations, HasRow, HasRows, ClosedBelow, Decoded, Counts}
 
 module _ {A : Type 0} (size : ℕ) where
   -- Every array holds the list of no entries.
@@ -49,6 +49,36 @@ module _ {A : Type 0} (size : ℕ) where
   -- The list is read off again by its length.
   held-front : (n : ℕ) {list array : List A} → Holds size list array → length list ≡ n → take n array ≡ list
   held-front n held e = rw e at (held .front)
+
+-- Rows of links get the closed bytes of their heads one by one.
+module _ (linkBytes closedBytes : List ℕ) (m : ℕ) where
+  pub closed-begins : {array : List (List ℕ)} → m ≤ 512 → Holds 512 (linkRowsIn linkBytes [] m) array → ClosedBelow linkBytes closedBytes m 0 array
+  unfolding linkRowsIn tabulate
+  closed-begins {array} few held =
+      record {
+        held = holds-none 512 (held .long);
+        rest = λ i low b.
+            sym (getD-take m array i [] b)
+            ∙ ap (λ rows. getD rows i []) (held-front 512 m held (length-tabulate m (linkRow linkBytes [])))
+            ∙ getD-tabulate m (linkRow linkBytes []) [] i b;
+      }
+
+  pub closed-more : {array : List (List ℕ)} {l : ℕ} {row : List ℕ} → m ≤ 512 → l < m → ClosedBelow linkBytes closedBytes m l array
+      → row ≡ set (getD array l []) 5 (closedByte closedBytes (getD (getD array l []) 1 0)) → ClosedBelow linkBytes closedBytes m (l + 1) (set array l row)
+  unfolding linkRowsIn linkRow
+  closed-more {array} {l} {row} few below w is =
+      record {
+        held = holds-next 512 (linkRow linkBytes closedBytes) l (omega arith) (w .held) (is ∙ rw (w .rest l (le-refl l) below));
+        rest = λ i low b. getD-set-other array l i row [] (λ e. omega arith) ∙ w .rest i (omega arith) b;
+      }
+
+  -- Where there are no closed bytes nothing is to be done.
+  pub closed-none : {array : List (List ℕ)} → length closedBytes ≡ 0 → Holds 512 (linkRowsIn linkBytes [] m) array → Holds 512 (linkRowsIn linkBytes closedBytes m) array
+  closed-none none held = rw (no-entries closedBytes none) held
+    where
+      no-entries : (list : List ℕ) → length list ≡ 0 → list ≡ []
+      no-entries [] e = refl
+      no-entries (x ∷ list) e = absurd (omega arith)
 
 -- The rows of trips before destination k have n entries each,
 pub entries-length : (tripBytes : List ℕ) (n k : ℕ) → length (entriesIn tripBytes n k) ≡ k * n
@@ -123,15 +153,15 @@ module _ {file : List ℕ} {n m p : ℕ} (known : Counts file n m p) {bytes : Li
 
 -- Decoded, they are the file decoded.
 pub decoded :
-    (file : List ℕ) (opening : Opening) {linkBytes destinationBytes tripBytes : List ℕ} {linkArray : List (List ℕ)} {nodeArray entryArray : List ℕ} →
+    (file : List ℕ) (opening : Opening) {linkBytes destinationBytes tripBytes closedBytes : List ℕ} {linkArray : List (List ℕ)} {nodeArray entryArray : List ℕ} →
     opening .refusal ≡ refusal file → Counts file (opening .nodes) (opening .links) (opening .destinations) →
-    linkBytes ≡ linkPart file → destinationBytes ≡ destinationPart file → tripBytes ≡ tripPart file →
-    Holds 512 (linkRowsIn linkBytes (opening .links)) linkArray →
+    linkBytes ≡ linkPart file → destinationBytes ≡ destinationPart file → tripBytes ≡ tripPart file → closedBytes ≡ closedPart file →
+    Holds 512 (linkRowsIn linkBytes closedBytes (opening .links)) linkArray →
     Holds 32 (nodesIn destinationBytes (opening .destinations)) nodeArray →
     Holds 4096 (entriesIn tripBytes (opening .nodes) (opening .destinations)) entryArray →
     Decoded file opening linkArray nodeArray entryArray
 unfolding linkRows destinationNodes tripEntries linkRowsIn nodesIn entriesIn
-decoded file opening {linkBytes} {destinationBytes} {tripBytes} {linkArray} {nodeArray} {entryArray} refusal-is known l-are d-are t-are l-held d-held t-held =
+decoded file opening {linkBytes} {destinationBytes} {tripBytes} {closedBytes} {linkArray} {nodeArray} {entryArray} refusal-is known l-are d-are t-are c-are l-held d-held t-held =
     record {
       refusal-is = refusal-is;
       nodes-are = known .nodes-are;
@@ -140,7 +170,7 @@ decoded file opening {linkBytes} {destinationBytes} {tripBytes} {linkArray} {nod
       links-long = l-held .long;
       nodes-long = d-held .long;
       entries-long = t-held .long;
-      links-held = held-front 512 (opening .links) l-held (length-tabulate (opening .links) (linkRow linkBytes)) ∙ rw (l-are, known .links-are);
+      links-held = held-front 512 (opening .links) l-held (length-tabulate (opening .links) (linkRow linkBytes closedBytes)) ∙ rw (l-are, c-are, known .links-are);
       nodes-held = held-front 32 (opening .destinations) d-held (length-tabulate (opening .destinations) (destination destinationBytes)) ∙ rw (d-are, known .destinations-are);
       entries-held = held-front 4096 (opening .destinations * opening .nodes) t-held (entries-length tripBytes (opening .nodes) (opening .destinations)) ∙ rw (t-are, known .nodes-are, known .destinations-are);
     }
@@ -153,7 +183,7 @@ pub decoded-refused :
 unfolding linkRowsIn nodesIn entriesIn tabulate rows
 decoded-refused file number number-is refused (links-long, nodes-long, entries-long) =
     let no : refusal file ≡ 0 → ⊥ = λ e. refused (number-is ∙ e) in
-    decoded file _ number-is (counts file (sym (nodes-refused file no)) (sym (links-refused file no)) (sym (destinations-refused file no))) refl refl refl
+    decoded file _ number-is (counts file (sym (nodes-refused file no)) (sym (links-refused file no)) (sym (destinations-refused file no))) refl refl refl refl
     (holds-none 512 links-long) (holds-none 32 nodes-long) (holds-none 4096 entries-long)
 
 -- What decoding leaves is lent on in parts: the places are there, each part has its count, and together they are a study of allowed size.
@@ -178,6 +208,9 @@ module _ {file : List ℕ} {opening : Opening} {linkArray : List (List ℕ)} {no
 
   pub trips-counted : opening .destinations * opening .nodes ≡ length (take (opening .destinations * opening .nodes) entryArray)
   trips-counted = sym (length-take-le (opening .destinations * opening .nodes) entryArray trips-within)
+
+  pub decoded-closed : ClosedHeads (take (opening .links) linkArray) (closedPart file)
+  decoded-closed = rw (d .links-held) (closed-head file)
 
   pub decoded-sized : Sized (opening .nodes) (take (opening .links) linkArray) (take (opening .destinations) nodeArray) (take (opening .destinations * opening .nodes) entryArray)
   decoded-sized = rw (d .entries-held, d .nodes-held, d .links-held, d .nodes-are) (sized file)

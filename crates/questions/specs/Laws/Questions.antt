@@ -8,12 +8,13 @@ use mathlib.Core.Path.{_≡_, refl, sym, _∙_, ap}
 use lib.Dec.{ltb, leb, eqb}
 use lib.ListN.{length, getD}
 use borrow.Author.Tests.{ltb-true}
+use Rattle.study.specs.Fields.{closedByte}
 use Rattle.study.specs.Questions.{within}
 use Rattle.theory.specs.Finite.{sum, all}
 use Rattle.theory.specs.Laws.Finite.{all-suc, all-elim, all-refuted, and-left, and-right}
 use Rattle.theory.specs.Network.{totalTrips}
 use Rattle.theory.specs.Study.{tail, head, freeTime, rise, capacity, network}
-use Rattle.calls.specs.Questions.{endsFit, timesFit, destinationsFit, noTripsWithin, totalFits}
+use Rattle.calls.specs.Questions.{endsFit, timesFit, destinationsFit, closedFit, noTripsWithin, totalFits}
 use Rattle.questions.specs.Sized.{Sized}
 use Rattle.questions.specs.Destinations.{allNodes, allAscending}
 
@@ -88,6 +89,14 @@ timesTest rows l = within 1 16383 (freeTime rows l) && within 0 16383 (rise rows
 pub times-all : (rows : List (List ℕ)) → timesFit rows ≡ all (length rows) (timesTest rows)
 unfolding timesFit timesTest
 times-all rows = refl
+
+-- Question 19 is a test of each byte.
+unfoldable pub closedTest : List ℕ → ℕ → Bool
+closedTest closed j = leb (getD closed j 0) 1
+
+pub closed-all : (closed : List ℕ) → closedFit closed ≡ all (length closed) (closedTest closed)
+unfolding closedFit closedByte closedTest
+closed-all closed = refl
 
 -- Question 9 is a test of each destination.
 unfoldable pub withinTest : ℕ → List ℕ → List ℕ → ℕ → Bool

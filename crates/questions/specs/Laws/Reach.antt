@@ -11,16 +11,19 @@ use lib.Dec.{eqb}
 use lib.ListN.{getD, length, take, drop, set, replicate, length-take, length-drop, length-set, getD-replicate, length-replicate, List·getD-eq-default}
 use lib.Pow.{pow-lt}
 use lib.Seq.{getD-take, getD-drop, getD-set-same, getD-set-other}
-use borrow.Author.Tests.{eq-eqb, ne-eqb, eqb-true}
+use borrow.Author.Tests.{eq-eqb, ne-eqb, eqb-true, eqb-false}
+use Rattle.study.specs.Fields.{closedByte}
 use Rattle.theory.specs.Finite.{all}
-use Rattle.theory.specs.Laws.Cases.{on-equal, true-false}
+use Rattle.theory.specs.Laws.Cases.{on-equal, on-test, true-false}
 use Rattle.theory.specs.Laws.Finite.{order, below-suc, sum-add, sum-mono, sum-pick, all-cong, all-suc, and-left, and-right, getD-tabulate, tabulate-cong}
 use Rattle.theory.specs.Laws.Paths.{WellFormed}
-use Rattle.theory.specs.Study.{tail, head, network}
+use Rattle.theory.specs.Laws.Permission.{may-open, may-own, may-closed}
+use Rattle.theory.specs.Study.{tail, head, closed, mayUse, network}
 use Rattle.theory.specs.Laws.Reach.{Reaches, marked-has-distance}
 use Rattle.calls.specs.Questions.{hasPath, tripsReach}
-use Rattle.questions.specs.Reach.{bit, marked, Whole, noMarks, Marks, Started, Stranded, markedTest, allMarked, room, toDestination, PathTo, LinkSwept, Swept, Searched, Found, toward}
+use Rattle.questions.specs.Reach.{bit, marked, Whole, noMarks, Marks, Started, Stranded, markedTest, allMarked, room, toDestination, PathTo, AllOpen, handedOn, handedBy, LinkSwept, Swept, Searched, Found, toward}
 use Rattle.theory.specs.Laws.Bits.{or-grows}
+use Rattle.questions.specs.Sized.{ClosedHeads}
 use Rattle.questions.specs.Laws.Bits.{bit-or, bit-one, bit-zero, read-bit}
 use Rattle.questions.specs.Laws.Questions.{Ends}
 
@@ -83,7 +86,7 @@ started-next {destinations} {before} {after} {k} started new =
           (either (marked before i j) (eqb k i && eqb (getD destinations k 0) j) (sym (new .marks i j) ∙ e));
     }
 
--- The tail of a link gets the marks of its head: a word that grows leaves less room,
+-- The tail of a link gets the marks of a word: one that grows leaves less room,
 room-less : (n j word count : ℕ) (marks : List ℕ) → Whole marks → j < 128 → j < n → word < 2 ^ 32 → getD marks j 0 + count ≤ word → count + room n (set marks j word) ≤ room n marks
 unfolding room
 room-less n j word count marks whole here below fits grows =
@@ -106,65 +109,109 @@ same-marks marks j word h same k i =
     (λ e. rw (e, getD-set-same marks j word 0 h, same))
     (λ n. rw (getD-set-other marks j i word 0 n))
 
-mark-is-bit : (marks : List ℕ) (k j : ℕ) → bit (getD marks j 0) k ≡ marked marks k j
-unfolding marked
-mark-is-bit marks k j = refl
+module _ (tail word : ℕ) (marks : List ℕ) (whole : Whole marks) (here : tail < 128) (fits : word < 2 ^ 32) where
+  abbrev both : ℕ
+  both = bitOr (getD marks tail 0) word
 
-link-swept : (tail head : ℕ) (marks : List ℕ) (count : ℕ) → Whole marks → tail < 128 → count ≤ 1 → getD marks tail 0 + count ≤ bitOr (getD marks tail 0) (getD marks head 0) → (count ≡ 0 → bitOr (getD marks tail 0) (getD marks head 0) ≡ getD marks tail 0) → LinkSwept tail head marks (set marks tail (bitOr (getD marks tail 0) (getD marks head 0))) count
-link-swept tail head marks count whole here most grows same =
-    record {
-      whole = set-whole marks tail (getD marks head 0) whole here (whole .words head);
-      marks = λ k j. set-marked marks tail (getD marks head 0) whole here k j ∙ ap (λ mark. marked marks k j || (eqb tail j && mark)) (mark-is-bit marks k head);
-      most = most;
-      counts = λ n below. room-less n tail (bitOr (getD marks tail 0) (getD marks head 0)) count marks whole here below (or-lt 32 (getD marks tail 0) (getD marks head 0) (whole .words tail) (whole .words head)) grows;
-      same = λ z k j. same-marks marks tail (bitOr (getD marks tail 0) (getD marks head 0)) (omega (arith, whole .size)) (same z) k j;
-    }
+  link-swept : (count : ℕ) → count ≤ 1 → getD marks tail 0 + count ≤ both → (count ≡ 0 → both ≡ getD marks tail 0) → LinkSwept tail word marks (set marks tail both) count
+  link-swept count most grows same =
+      record {
+        whole = set-whole marks tail word whole here fits;
+        marks = set-marked marks tail word whole here;
+        most = most;
+        counts = λ n below. room-less n tail both count marks whole here below (or-lt 32 (getD marks tail 0) word (whole .words tail) fits) grows;
+        same = λ z. same-marks marks tail both (omega (arith, whole .size)) (same z);
+      }
 
-pub link-kept : (tail head : ℕ) (marks : List ℕ) → Whole marks → tail < 128 → bitOr (getD marks tail 0) (getD marks head 0) ≡ getD marks tail 0 → LinkSwept tail head marks (set marks tail (bitOr (getD marks tail 0) (getD marks head 0))) 0
-link-kept tail head marks whole here same = link-swept tail head marks 0 whole here (omega arith) (omega arith) (λ z. same)
+  pub link-kept : both ≡ getD marks tail 0 → LinkSwept tail word marks (set marks tail both) 0
+  link-kept same = link-swept 0 (omega arith) (omega arith) (λ z. same)
 
-pub link-grown : (tail head : ℕ) (marks : List ℕ) → Whole marks → tail < 128 → (bitOr (getD marks tail 0) (getD marks head 0) ≡ getD marks tail 0 → ⊥) → LinkSwept tail head marks (set marks tail (bitOr (getD marks tail 0) (getD marks head 0))) 1
-link-grown tail head marks whole here other =
-    link-swept tail head marks 1 whole here (omega arith) (omega (arith, or-grows (getD marks tail 0) (getD marks head 0))) (λ z. absurd (omega arith))
+  pub link-grown : (both ≡ getD marks tail 0 → ⊥) → LinkSwept tail word marks (set marks tail both) 1
+  link-grown other = link-swept 1 (omega arith) (omega (arith, or-grows (getD marks tail 0) word)) (λ z. absurd (omega arith))
+
+-- What a link hands on: over an open head the head's marks, over a closed one its own.
+module _ (links : List (List ℕ)) (own marks : List ℕ) (l k : ℕ) where
+  hands-open : eqb (closed links l) 1 ≡ false → bit (handedBy links own marks l) k ≡ marked marks k (head links l)
+  unfolding handedOn marked
+  hands-open e = rw e
+
+  hands-closed : eqb (closed links l) 1 ≡ true → bit (handedBy links own marks l) k ≡ marked own k (head links l)
+  unfolding handedOn marked
+  hands-closed e = rw e
+
+-- Where there are no closed bytes every head is open.
+pub none-closed : (links : List (List ℕ)) (closedBytes : List ℕ) → ClosedHeads links closedBytes → length closedBytes ≡ 0 → AllOpen links
+unfolding closedByte
+none-closed links closedBytes heads none l below shut =
+    let past = List·getD-eq-default closedBytes 0 {n = head links l} (omega arith) in
+    omega (arith, heads l below)
+
+-- The same marks are handed on where the marks are the same.
+hands-same : (links : List (List ℕ)) (own marks after : List ℕ) (l k : ℕ) → ((j : ℕ) → marked after k j ≡ marked marks k j) → bit (handedBy links own after l) k ≡ bit (handedBy links own marks l) k
+hands-same links own marks after l k same =
+    on-test (eqb (closed links l) 1)
+    (λ e. hands-closed links own after l k e ∙ sym (hands-closed links own marks l k e))
+    (λ e. hands-open links own after l k e ∙ same (head links l) ∙ sym (hands-open links own marks l k e))
+
+module _ (links : List (List ℕ)) (own marks : List ℕ) (k s l : ℕ) where
+  -- A mark handed on for s comes from a path to s,
+  hands-path : (nodes : ℕ) → ((j : ℕ) → marked own k j ≡ true → j ≡ s) → ((j : ℕ) → marked marks k j ≡ true → PathTo nodes links s j) → l < length links → bit (handedBy links own marks l) k ≡ true → PathTo nodes links s (tail links l)
+  unfolding network
+  hands-path nodes only paths below e =
+      on-test (eqb (closed links l) 1)
+      (λ shut.
+      let here : head links l ≡ s = only (head links l) (sym (hands-closed links own marks l k shut) ∙ e) in
+      (l ∷ [], (below, may-own links s l here, refl, here)))
+      (λ free.
+      let (path, p) = paths (head links l) (sym (hands-open links own marks l k free) ∙ e) in
+      (l ∷ path, (below, may-open links s l (eqb-false (closed links l) 1 free), refl, p)))
+
+  -- and a link that may be used hands on the mark of its head, where s has marked its own node.
+  hands-mark : marked own k s ≡ true → mayUse links s l ≡ true → marked marks k (head links l) ≡ true → bit (handedBy links own marks l) k ≡ true
+  hands-mark mine usable e =
+      on-test (eqb (closed links l) 1)
+      (λ shut.
+      let here = may-closed links s l (eqb-true (closed links l) 1 shut) usable in
+      hands-closed links own marks l k shut ∙ ap (marked own k) here ∙ mine)
+      (λ free. hands-open links own marks l k free ∙ e)
 
 -- A sweep over no links leaves the marks,
-pub swept-none : (nodes : ℕ) (links : List (List ℕ)) (marks : List ℕ) (l : ℕ) → Whole marks → Swept nodes links marks l l marks 0
-swept-none nodes links marks l whole =
+pub swept-none : (nodes : ℕ) (links : List (List ℕ)) (own marks : List ℕ) (l : ℕ) → Whole marks → Swept nodes links own marks l l marks 0
+swept-none nodes links own marks l whole =
     record {
       whole = whole;
       stays = λ k j e. e;
-      supports = λ k s paths j e. paths j e;
+      supports = λ k s only paths j e. paths j e;
       most = omega arith;
       counts = omega arith;
       closes = λ z k i low high. absurd (omega arith);
     }
 
 -- and one link more, l, goes by what is done at the link.
-module _ {nodes : ℕ} {links : List (List ℕ)} {before : List ℕ} {first end : ℕ} {marks : List ℕ} {count : ℕ} (swept : Swept nodes links before first end marks count) (l : ℕ) (below : l < length links) (ends : Ends nodes links) where
-  module _ {after : List ℕ} {more : ℕ} (link : LinkSwept (tail links l) (head links l) marks after more) where
-    came : (k j : ℕ) → marked after k j ≡ true → (marked marks k j ≡ true) ⊎ ((tail links l ≡ j) × (marked marks k (head links l) ≡ true))
+module _ {nodes : ℕ} {links : List (List ℕ)} {own before : List ℕ} {first end : ℕ} {marks : List ℕ} {count : ℕ} (swept : Swept nodes links own before first end marks count) (l : ℕ) (below : l < length links) (ends : Ends nodes links) where
+  module _ {after : List ℕ} {more : ℕ} (link : LinkSwept (tail links l) (handedBy links own marks l) marks after more) where
+    came : (k j : ℕ) → marked after k j ≡ true → (marked marks k j ≡ true) ⊎ ((tail links l ≡ j) × (bit (handedBy links own marks l) k ≡ true))
     came k j e =
         ⊎-elim inl
-        (λ f. inr (eqb-true (tail links l) j (and-left (eqb (tail links l) j) (marked marks k (head links l)) f), and-right (eqb (tail links l) j) (marked marks k (head links l)) f))
-        (either (marked marks k j) (eqb (tail links l) j && marked marks k (head links l)) (sym (link .marks k j) ∙ e))
+        (λ f. inr (eqb-true (tail links l) j (and-left (eqb (tail links l) j) (bit (handedBy links own marks l) k) f), and-right (eqb (tail links l) j) (bit (handedBy links own marks l) k) f))
+        (either (marked marks k j) (eqb (tail links l) j && bit (handedBy links own marks l) k) (sym (link .marks k j) ∙ e))
 
-    supported : (k s : ℕ) → ((j : ℕ) → marked before k j ≡ true → PathTo nodes links s j) → (j : ℕ) → marked after k j ≡ true → PathTo nodes links s j
-    unfolding network
-    supported k s paths j e =
-        ⊎-elim (swept .supports k s paths j)
-        (λ (same, led). let (path, p) = swept .supports k s paths (head links l) led in (l ∷ path, (below, refl, same, p)))
+    supported : (k s : ℕ) → ((j : ℕ) → marked own k j ≡ true → j ≡ s) → ((j : ℕ) → marked before k j ≡ true → PathTo nodes links s j) → (j : ℕ) → marked after k j ≡ true → PathTo nodes links s j
+    supported k s only paths j e =
+        ⊎-elim (swept .supports k s only paths j)
+        (λ (same, led). rw (← same) (hands-path links own marks k s l nodes only (swept .supports k s only paths) below led))
         (came k j e)
 
-    closed : more ≡ 0 → (k : ℕ) → marked after k (head links l) ≡ true → marked after k (tail links l) ≡ true
-    closed z k e =
-        let led : marked marks k (head links l) ≡ true = sym (link .same z k (head links l)) ∙ e in
+    closes-here : more ≡ 0 → (k : ℕ) → bit (handedBy links own after l) k ≡ true → marked after k (tail links l) ≡ true
+    closes-here z k e =
+        let led : bit (handedBy links own marks l) k ≡ true = sym (hands-same links own marks after l k (link .same z k)) ∙ e in
         link .marks k (tail links l) ∙ rw (led, eq-eqb (tail links l) (tail links l) refl, or-true)
 
-    closed-before : count ≡ 0 → more ≡ 0 → (k i : ℕ) → first ≤ i → i < end → marked after k (head links i) ≡ true → marked after k (tail links i) ≡ true
-    closed-before z y k i low high e =
-        link .same y k (tail links i) ∙ swept .closes z k i low high (sym (link .same y k (head links i)) ∙ e)
+    closes-before : count ≡ 0 → more ≡ 0 → (k i : ℕ) → first ≤ i → i < end → bit (handedBy links own after i) k ≡ true → marked after k (tail links i) ≡ true
+    closes-before z y k i low high e =
+        link .same y k (tail links i) ∙ swept .closes z k i low high (sym (hands-same links own marks after i k (link .same y k)) ∙ e)
 
-    swept-wider : (first′ end′ : ℕ) → 1 + first′ + end ≤ first + end′ → ((i : ℕ) → first′ ≤ i → i < end′ → ((first ≤ i) × (i < end)) ⊎ (i ≡ l)) → Swept nodes links before first′ end′ after (count + more)
+    swept-wider : (first′ end′ : ℕ) → 1 + first′ + end ≤ first + end′ → ((i : ℕ) → first′ ≤ i → i < end′ → ((first ≤ i) × (i < end)) ⊎ (i ≡ l)) → Swept nodes links own before first′ end′ after (count + more)
     swept-wider first′ end′ wider which =
         record {
           whole = link .whole;
@@ -173,17 +220,17 @@ module _ {nodes : ℕ} {links : List (List ℕ)} {before : List ℕ} {first end 
           most = omega (arith, swept .most, link .most);
           counts = omega (arith, swept .counts, link .counts nodes (ends .tail-node l below));
           closes = λ z k i low high e. ⊎-elim
-              (λ (p, q). closed-before (omega arith) (omega arith) k i p q e)
-              (λ same. rw same (closed (omega arith) k (rw same at e)))
+              (λ (p, q). closes-before (omega arith) (omega arith) k i p q e)
+              (λ same. rw same (closes-here (omega arith) k (rw same at e)))
               (which i low high);
         }
 
   -- The next link up,
-  pub swept-up : {after : List ℕ} {more : ℕ} → end ≡ l → LinkSwept (tail links l) (head links l) marks after more → Swept nodes links before first (l + 1) after (count + more)
+  pub swept-up : {after : List ℕ} {more : ℕ} → end ≡ l → LinkSwept (tail links l) (handedBy links own marks l) marks after more → Swept nodes links own before first (l + 1) after (count + more)
   swept-up e link = swept-wider link first (l + 1) (omega arith) (λ i low high. ⊎-elim (λ p. inl (low, omega arith)) inr (below-suc l i (omega arith)))
 
   -- and the next link down.
-  pub swept-down : {after : List ℕ} {more : ℕ} → first ≡ l + 1 → LinkSwept (tail links l) (head links l) marks after more → Swept nodes links before l end after (count + more)
+  pub swept-down : {after : List ℕ} {more : ℕ} → first ≡ l + 1 → LinkSwept (tail links l) (handedBy links own marks l) marks after more → Swept nodes links own before l end after (count + more)
   swept-down e link = swept-wider link l end (omega arith) (λ i low high. ⊎-elim (λ p. inl (omega arith, high)) (λ p. inr (omega arith)) (order l i))
 
 -- The routing of the search is well formed.
@@ -208,26 +255,28 @@ searched-first nodes links destinations marks started =
     }
 
 -- goes on with each sweep,
-pub searched-next : {nodes : ℕ} {links : List (List ℕ)} {destinations before after : List ℕ} {count : ℕ} → Searched nodes links destinations before → Swept nodes links before 0 (length links) after count → Searched nodes links destinations after
-searched-next {destinations} searched swept =
-    record {
-      whole = swept .whole;
-      own = λ k h. swept .stays k (getD destinations k 0) (searched .own k h);
-      supported = λ k. swept .supports k (getD destinations k 0) (searched .supported k);
-    }
+module _ {nodes : ℕ} {links : List (List ℕ)} {destinations own : List ℕ} (started : Started destinations (length destinations) own) where
+  pub searched-next : {before after : List ℕ} {count : ℕ} → Searched nodes links destinations before → Swept nodes links own before 0 (length links) after count → Searched nodes links destinations after
+  searched-next searched swept =
+      record {
+        whole = swept .whole;
+        own = λ k h. swept .stays k (getD destinations k 0) (searched .own k h);
+        supported = λ k. swept .supports k (getD destinations k 0) (started .only k) (searched .supported k);
+      }
 
--- and where a sweep gives no node a mark the nodes marked for a destination are those with a path to it.
-pub searched-all : {nodes : ℕ} {links : List (List ℕ)} {destinations before after : List ℕ} → Ends nodes links → ((k : ℕ) → k < length destinations → getD destinations k 0 < nodes) → Searched nodes links destinations before → Swept nodes links before 0 (length links) after 0 → Found nodes links destinations after
-unfolding hasPath network
-searched-all {nodes} {links} {destinations} {before} {after} ends below searched swept k h =
-    let q = toDestination nodes links (getD destinations k 0) in
-    let done = searched-next searched swept in
-    let reaches : Reaches q (marked after k) = record {
-      at-destination = done .own k h;
-      over-link = λ l p u e. swept .closes refl k l (omega arith) p e;
-      supported = λ j p e. done .supported k j e;
-    } in
-    tabulate-cong nodes _ _ (λ j p. marked-has-distance q (routing-well-formed nodes links (getD destinations k 0) ends (below k h)) (marked after k) reaches j p)
+  -- and where a sweep gives no node a mark the nodes marked for a destination are those with a path to it.
+  pub searched-all : {before after : List ℕ} → Ends nodes links → ((k : ℕ) → k < length destinations → getD destinations k 0 < nodes) → Searched nodes links destinations before → Swept nodes links own before 0 (length links) after 0 → Found nodes links destinations after
+  unfolding hasPath network
+  searched-all {before} {after} ends below searched swept k h =
+      let s = getD destinations k 0 in
+      let q = toDestination nodes links s in
+      let done = searched-next searched swept in
+      let reaches : Reaches q (marked after k) = record {
+        at-destination = done .own k h;
+        over-link = λ l p u e. swept .closes refl k l (omega arith) p (hands-mark links own after k s l (started .own k h) u e);
+        supported = λ j p e. done .supported k j e;
+      } in
+      tabulate-cong nodes _ _ (λ j p. marked-has-distance q (routing-well-formed nodes links s ends (below k h)) (marked after k) reaches j p)
 
 -- A node strands no trips where it has none, and else by its mark.
 pub stranded-none : (trips word k : ℕ) → trips ≡ 0 → Stranded trips word k 0

@@ -1,16 +1,18 @@
--- Question 16, a destination's row at a time.
+-- Question 16, a destination's row at a time, and question 20, a link at a time.
 use Prim.Native.Nat.{ℕ, _+_, _*_, _<_}
 use mathlib.Core.Path.{_≡_, refl, sym, _∙_, ap}
 use mathlib.Core.Bool.{Bool, true, false, _||_, cond}
 use mathlib.Core.List.{List}
 use lib.ListN.{length, getD}
 use lib.Dec.{eqb}
+use borrow.Author.Tests.{eq-eqb, ne-eqb}
 use Rattle.theory.specs.Finite.{all}
-use Rattle.theory.specs.Study.{tail, head}
-use Rattle.theory.specs.Flows.{entry, sumAt, balances}
-use Rattle.theory.specs.Laws.Finite.{sum-cong, all-cong, all-suc, both, all-refuted}
+use Rattle.theory.specs.Study.{tail, head, closed, mayUse, network}
+use Rattle.theory.specs.Flows.{entry, sumAt, balances, permits}
+use Rattle.theory.specs.Laws.Cases.{on-test, true-false}
+use Rattle.theory.specs.Laws.Finite.{sum-cong, all-cong, all-suc, all-elim, all-intro, both, all-refuted}
 use Rattle.travel.specs.Links.{rowBalances}
-use Rattle.questions.specs.Rows.{rowsConserve}
+use Rattle.questions.specs.Rows.{rowsConserve, linkPermits, rowsPermit}
 use Rattle.theory.specs.Laws.Parts.{part, part-at}
 
 -- A sum at a node goes by the flows of the links alone.
@@ -64,3 +66,33 @@ module _ (n : ℕ) (links : List (List ℕ)) (destinations trips : List ℕ) (sh
       rowsConserve n links destinations trips share table ≡ true
   unfolding rowsBefore rowsConserve
   rows-all k all-of so-far = rw (← all-of) so-far
+
+-- A test of all pairs may be put in either order,
+all-swap : (n m : ℕ) (test : ℕ → ℕ → Bool) → all n (λ i. all m (test i)) ≡ all m (λ j. all n (λ i. test i j))
+all-swap n m test =
+    on-test (all n (λ i. all m (test i)))
+    (λ e. e ∙ sym (turned n m test e))
+    (λ e. on-test (all m (λ j. all n (λ i. test i j))) (λ f. true-false (turned m n (λ j i. test i j) f) e) (λ f. e ∙ sym f))
+  where
+    turned : (a b : ℕ) (t : ℕ → ℕ → Bool) → all a (λ i. all b (t i)) ≡ true → all b (λ j. all a (λ i. t i j)) ≡ true
+    turned a b t e = all-intro b _ (λ j q. all-intro a _ (λ i p. all-elim b (t i) (all-elim a (λ x. all b (t x)) e i p) j q))
+
+-- so question 20 a link at a time.
+pub permits-is : (n : ℕ) (links : List (List ℕ)) (destinations trips table : List ℕ) → rowsPermit links destinations table ≡ permits (network n links destinations trips) table
+unfolding rowsPermit linkPermits permits network
+permits-is n links destinations trips table =
+    all-swap (length links) (length destinations) (λ l k. mayUse links (getD destinations k 0) l || eqb (entry (length links) table k l) 0)
+
+module _ (links : List (List ℕ)) (destinations table : List ℕ) (l : ℕ) where
+  -- A link whose head is open may carry any flow,
+  pub open-permits : (closed links l ≡ 1 → ⊥) → linkPermits links destinations table l ≡ true
+  unfolding linkPermits mayUse
+  open-permits open-head = all-intro (length destinations) _ (λ k h. rw (ne-eqb (closed links l) 1 open-head))
+
+  -- and one whose head is closed only flow to its head.
+  unfoldable pub carryTest : ℕ → Bool
+  carryTest k = eqb (head links l) (getD destinations k 0) || eqb (entry (length links) table k l) 0
+
+  pub closed-permits : closed links l ≡ 1 → linkPermits links destinations table l ≡ all (length destinations) carryTest
+  unfolding linkPermits mayUse carryTest
+  closed-permits shut = all-cong (length destinations) _ _ (λ k h. rw (eq-eqb (closed links l) 1 shut))

@@ -1,4 +1,4 @@
--- Questions 14 to 16: the number that they come to, and what the code's tests say of them.
+-- Questions 14 to 16, then 20: the number that they come to, and what the code's tests say of them.
 use Prim.Native.Nat.{ℕ, _*_, _≤_}
 use native.Mathlib.Nat.{mul-le-mul}
 use mathlib.Core.Path.{_≡_, refl, sym, _∙_, ap, ap₂}
@@ -15,7 +15,8 @@ use Rattle.theory.specs.Laws.Finite.{all-cong, and-right}
 use Rattle.calls.specs.Questions.{shareFits, shareQuestions}
 use Rattle.travel.specs.Links.{padded, listFits}
 use Rattle.travel.specs.Laws.Padded.{getD-padded}
-use Rattle.questions.specs.Rows.{rowsConserve}
+use Rattle.questions.specs.Rows.{rowsConserve, rowsPermit}
+use Rattle.questions.specs.Laws.Rows.{permits-is}
 
 -- A share that passes question 14 is at most 1,024.
 pub share-most : (share : ℕ) → shareFits share ≡ true → share ≤ 1024
@@ -57,6 +58,11 @@ module _ (n : ℕ) (links : List (List ℕ)) (destinations trips table : List �
       unfolding shareQuestions
       refused-16 e = rw (in-range, sym fits-is ∙ fit, sym rows-is ∙ e)
 
-      pub accepted : rowsConserve n links destinations trips share table ≡ true → 0 ≡ refusal
-      unfolding shareQuestions
-      accepted e = rw (in-range, sym fits-is ∙ fit, sym rows-is ∙ e)
+      module _ (conserve : rowsConserve n links destinations trips share table ≡ true) where
+        pub refused-20 : rowsPermit links destinations table ≡ false → 20 ≡ refusal
+        unfolding shareQuestions
+        refused-20 e = rw (in-range, sym fits-is ∙ fit, sym rows-is ∙ conserve, sym (permits-is n links destinations trips table) ∙ e)
+
+        pub accepted : rowsPermit links destinations table ≡ true → 0 ≡ refusal
+        unfolding shareQuestions
+        accepted e = rw (in-range, sym fits-is ∙ fit, sym rows-is ∙ conserve, sym (permits-is n links destinations trips table) ∙ e)

@@ -49,10 +49,10 @@ module _ {links : List (List ℕ)} (g : Chainable links) {times : List ℕ} {low
   walk-begins h e =
       record {
         size = length-replicate 8 noLink;
-        chain = chain-begins (g .few-links) chain h e;
+        chain = chain-begins (g .few-links) chain (omega arith) e;
         each = λ i b.
             record {
-              none-yet = λ q. chain-begins (g .few-links) chain h e;
+              none-yet = λ q. chain-begins (g .few-links) chain (omega arith) e;
               found = λ some-link. absurd (some-link (getD-replicate 8 i noLink 0 b));
             };
       }
@@ -68,11 +68,11 @@ module _ {links : List (List ℕ)} (g : Chainable links) {times : List ℕ} {low
       pub walk-at : (k < length links) × (k < 512) × (head links k < 128)
       walk-at =
           let below : k < length links = omega (arith, at .chain .on-chain some-link .0) in
-          (below, omega (arith, g .few-links), g .end-node 1 k (omega arith) below)
+          (below, omega (arith, g .few-links), g .head-node k below)
 
       -- and goes on from it to a higher one.
       pub walk-goes : {a time : ℕ} {row′ : List ℕ} {l′ : ℕ} → a ≡ head links k → time ≡ getD times k 0 % 65536
-          → RowKept (getD lows j []) (getD lows a []) time l row 8 row′ → l′ ≡ getD out (128 + k) 0
+          → RowKept (getD lows j []) (getD lows a []) time l row 8 row′ → l′ ≡ getD out (256 + k) 0
           → (l < l′) × EachCandidate links times lows j l′ row′
       walk-goes {a} {time} {row′} {l′} a≡ time≡ kept e =
           let (higher, on) = chain-goes (g .few-links) chain (at .chain) some-link refl k≡ e in (

@@ -1,17 +1,20 @@
--- The first fitting link, along the chain of a node's links.
+-- The first fitting link with an open head, along the chain of a node's links.
 use Prim.Native.Nat.{ℕ, _+_, _-_, _≤_, _<_}
 use native.Mathlib.Omega.{arith}
-use mathlib.Core.Path.{_≡_, refl, sym, _∙_, ap}
-use mathlib.Core.Bool.{true, false}
+use mathlib.Core.Path.{_≡_, sym, _∙_, ap}
+use mathlib.Core.Bool.{true, false, not, _&&_}
 use mathlib.Core.List.{List, [], _++_}
 use mathlib.Core.Option.{Option, none, some}
 use lib.ListN.{length, getD, replicate}
+use lib.Dec.{eqb}
+use borrow.Author.Tests.{eq-eqb, ne-eqb}
 use Rattle.theory.specs.Finite.{first}
 use Rattle.theory.specs.Routes.{Routing, distances, distance, fitsNext, nextLinks}
-use Rattle.theory.specs.Study.{tail, head, noLink}
+use Rattle.theory.specs.Study.{tail, head, closed, mayUse, noLink}
 use Rattle.theory.specs.Laws.Cases.{on-equal, on-test, on-option}
 use Rattle.theory.specs.Laws.Finite.{some-first, none-first}
 use Rattle.theory.specs.Laws.Paths.{WellFormed}
+use Rattle.theory.specs.Laws.Permission.{may-open}
 use Rattle.theory.specs.Laws.Distances.{distance-over-link}
 use Rattle.theory.specs.Laws.Next.{fits-through, through-fits, length-next}
 use Rattle.theory.specs.Laws.Padded.{padded-at}
@@ -20,10 +23,10 @@ use Rattle.search.specs.Search.{routingFrom, unreached, mark, marks}
 use Rattle.search.specs.Given.{Searchable}
 use Rattle.search.specs.Chains.{linkMark, chainOf}
 use Rattle.search.specs.Lanes.{EachSearchable, Found}
-use Rattle.search.specs.Laws.Chains.{chain-goes}
+use Rattle.search.specs.Laws.Chains.{place-open, place-of-open, chain-goes}
 use Rattle.search.specs.Laws.Found.{well-formed, marks-at}
 use Rattle.search.specs.Laws.Lanes.{lane-at, row-most}
-use Rattle.routes.specs.Next.{firstFitting, Unfit}
+use Rattle.routes.specs.Next.{fitting, firstFitting, firstOpen, Unfit}
 use Rattle.routes.specs.Table.{linkMarks}
 
 -- The test on marks is the definition's test on distances.
@@ -58,35 +61,58 @@ module _ (q : Routing) (w : WellFormed q) (few : q .nodes ≤ 128) (j : ℕ) (h 
   elsewhere-unfit : (l : ℕ) → l < q .links → (q .tail l ≡ j → ⊥) → fitsNext q (distances q) j l ≡ false
   elsewhere-unfit l b away = on-test (fitsNext q (distances q) j l) (λ e. absurd (away (fits-equal l b e .0))) (λ e. e)
 
--- The search along the chain of node j, to destination k of a group.
+-- The marks of the table to destination k of a group are those of the distances.
 module _ {nodes : ℕ} {links : List (List ℕ)} {times group : List ℕ} (g : EachSearchable nodes links times group) {table : List (List ℕ)}
-    (found : Found nodes links times group table) {j : ℕ} (h : j < nodes) {k : ℕ} (b : k < 8) where
-  -- The marks of the table are those of the distances.
+    (found : Found nodes links times group table) {k : ℕ} (b : k < 8) where
   mark-is : (i : ℕ) → i < nodes → getD (getD table i []) k 0 ≡ getD (marks (routingFrom nodes links times (getD group k 0))) i 0
   mark-is i c = sym (lane-at k table i (omega (arith, g k b .roads .few-nodes))) ∙ ap (λ d. getD d i 0) (found .least k b)
 
   mark-most : (i : ℕ) → i < nodes → getD (getD table i []) k 0 ≤ unreached
   mark-most i c = row-most table (found .marked) (omega (arith, g k b .roads .few-nodes)) k b
 
-  -- A link that does not give the node its mark does not fit.
+  -- What a link gives is a number of 32 bits.
+  pub gives : {i a : ℕ} → i < length links → a ≡ head links i → getD (getD table a []) k 0 + getD times i 0 < 4294967296
+  gives {i} {a} c a≡ =
+      let roads = g k b .roads in omega (arith, mark-most a (omega (arith, roads .head-node i c)), roads .short-time i c)
+
+-- Which links fit as the next link of node j, to destination k of a group.
+module _ {nodes : ℕ} {links : List (List ℕ)} {times group : List ℕ} (g : EachSearchable nodes links times group) {table : List (List ℕ)}
+    (found : Found nodes links times group table) {j : ℕ} (h : j < nodes) {k : ℕ} (b : k < 8) where
+  -- A link that does not give the node its mark does not fit,
   pub unfit : (l : ℕ) → l < length links → (getD (getD table (head links l) []) k 0 + getD times l 0 ≡ getD (getD table j []) k 0 → ⊥)
-      → fitsNext (routingFrom nodes links times (getD group k 0)) (distances (routingFrom nodes links times (getD group k 0))) j l ≡ false
+      → fitting nodes links times (getD group k 0) j l ≡ false
   unfolding routingFrom
   unfit l c differ =
       unequal-unfit (routingFrom nodes links times (getD group k 0)) (well-formed (g k b)) (g k b .roads .few-nodes) j h l c
-      (λ same. differ (omega (arith, mark-is j h, mark-is (head links l) (g k b .roads .head-node l c), same)))
+      (λ same. differ (omega (arith, mark-is g found b j h, mark-is g found b (head links l) (g k b .roads .head-node l c), same)))
 
-  -- No lower link fits.
-  lower : {l : ℕ} → Unfit nodes links times (getD group k 0) j l → (i : ℕ) → i < length links → i < l
-      → fitsNext (routingFrom nodes links times (getD group k 0)) (distances (routingFrom nodes links times (getD group k 0))) j i ≡ false
+  -- nor does one out of another node.
+  pub elsewhere : (l : ℕ) → l < length links → (tail links l ≡ j → ⊥) → fitting nodes links times (getD group k 0) j l ≡ false
   unfolding routingFrom
-  lower at i c d =
-      on-equal (tail links i) j (at .passed i c d)
-      (elsewhere-unfit (routingFrom nodes links times (getD group k 0)) (well-formed (g k b)) (g k b .roads .few-nodes) j h i c)
+  elsewhere l c away = elsewhere-unfit (routingFrom nodes links times (getD group k 0)) (well-formed (g k b)) (g k b .roads .few-nodes) j h l c away
 
+  -- A link out of the node that may be used and gives the node its mark fits.
+  pub fit : (l : ℕ) → l < length links → mayUse links (getD group k 0) l ≡ true → tail links l ≡ j
+      → getD (getD table (head links l) []) k 0 + getD times l 0 ≡ getD (getD table j []) k 0 → fitting nodes links times (getD group k 0) j l ≡ true
+  unfolding routingFrom
+  fit l c may leaves same =
+      equal-fits (routingFrom nodes links times (getD group k 0)) (well-formed (g k b)) (g k b .roads .few-nodes) j h l c may leaves
+      (omega (arith, mark-is g found b j h, mark-most g found b j h))
+      (omega (arith, mark-is g found b j h, mark-is g found b (head links l) (g k b .roads .head-node l c)))
+
+  -- No lower link with an open head fits.
+  lower : {l : ℕ} → Unfit nodes links times (getD group k 0) j l → (i : ℕ) → i < length links → i < l
+      → (not (eqb (closed links i) 1) && fitting nodes links times (getD group k 0) j i) ≡ false
+  lower at i c d =
+      on-equal (closed links i) 1
+      (λ shut. rw (eq-eqb (closed links i) 1 shut))
+      (λ is-open. rw (ne-eqb (closed links i) 1 is-open)
+      (on-equal (tail links i) j (λ e. at .passed i c d (place-open links 0 i is-open ∙ e)) (elsewhere i c)))
+
+  -- The search along the chain of node j
   module _ {l : ℕ} (at : Unfit nodes links times (getD group k 0) j l) where
-    -- The search ends past the last link,
-    pub next-none : l ≡ noLink → l ≡ firstFitting nodes links times (getD group k 0) j
+    -- ends past the last link,
+    pub next-none : l ≡ noLink → l ≡ firstOpen nodes links times (getD group k 0) j
     unfolding linkMark
     next-none e =
         e ∙ ap linkMark (sym (none-first (length links) _ (λ i c. lower at i c (omega (arith, g k b .roads .few-links)))))
@@ -101,25 +127,21 @@ module _ {nodes : ℕ} {links : List (List ℕ)} {times group : List ℕ} (g : E
           let roads = g k b .roads in (below, omega (arith, below, roads .few-links), omega (arith, roads .head-node i below, roads .few-nodes))
 
       module _ {a : ℕ} (a≡ : a ≡ head links i) where
-        pub next-sum : getD (getD table a []) k 0 + getD times i 0 < 4294967296
-        next-sum =
-            let roads = g k b .roads in
-            omega (arith, mark-most a (omega (arith, roads .head-node i below)), roads .short-time i below)
-
         -- ends at one that gives the node its mark,
-        pub next-here : getD (getD table a []) k 0 + getD times i 0 ≡ getD (getD table j []) k 0 → l ≡ firstFitting nodes links times (getD group k 0) j
-        unfolding routingFrom linkMark
+        pub next-here : getD (getD table a []) k 0 + getD times i 0 ≡ getD (getD table j []) k 0 → l ≡ firstOpen nodes links times (getD group k 0) j
+        unfolding linkMark
         next-here same =
             let roads = g k b .roads in
-            let at-head = ap (λ x. getD (getD table x []) k 0) a≡ ∙ mark-is (head links i) (roads .head-node i below) in
-            let fits = equal-fits (routingFrom nodes links times (getD group k 0)) (well-formed (g k b)) (roads .few-nodes) j h i below refl
-            (rw (← i≡) at (at .on-chain some-link .1)) (omega (arith, mark-is j h, mark-most j h)) (omega (arith, mark-is j h, at-head)) in
+            let (is-open, leaves) = place-of-open links 0 i (omega (arith, roads .few-nodes)) (rw (← i≡) at (at .on-chain some-link .1)) in
+            let fits = fit i below (may-open links (getD group k 0) i is-open) leaves (rw (← a≡) same) in
             sym i≡
-            ∙ ap linkMark (sym (some-first (length links) _ i (record { below = below; fits = fits; lower = λ x c. lower at x (omega (arith, below)) (omega arith) })))
+            ∙ ap linkMark
+            (sym (some-first (length links) _ i
+            (record { below = below; fits = rw (ne-eqb (closed links i) 1 is-open) fits; lower = λ x c. lower at x (omega (arith, below)) (omega arith) })))
 
         -- and goes on from any other to a higher one.
         pub next-goes : {out : List ℕ} → out ≡ chainOf links 0 → (getD (getD table a []) k 0 + getD times i 0 ≡ getD (getD table j []) k 0 → ⊥)
-            → {l′ : ℕ} → l′ ≡ getD out (128 + i) 0 → (l < l′) × Unfit nodes links times (getD group k 0) j l′
+            → {l′ : ℕ} → l′ ≡ getD out (256 + i) 0 → (l < l′) × Unfit nodes links times (getD group k 0) j l′
         next-goes chain differ e =
             let other = unfit i below (λ same. differ (rw a≡ same)) in
             chain-goes (g k b .roads .few-links) chain at some-link (rw i≡ at other) i≡ e
@@ -136,4 +158,4 @@ unfolding linkMarks nextLinks routingFrom
 link-marks-filled {nodes} {links} {times} {s} g w =
     filled-is (g .roads .few-nodes) w
     ∙ ap (λ front. front ++ replicate (128 - nodes) noLink)
-    (sym (map-tabulate linkMark nodes (λ j. first (length links) (fitsNext (routingFrom nodes links times s) (distances (routingFrom nodes links times s)) j))))
+    (sym (map-tabulate linkMark nodes (λ j. first (length links) (fitting nodes links times s j))))

@@ -6,16 +6,13 @@ use mathlib.Core.List.{List, []}
 use mathlib.Core.Logic.{⊎-elim, inl, inr}
 use lib.ListN.{length, getD, set, length-set}
 use lib.Seq.{getD-set-same, getD-set-other}
-use Rattle.theory.specs.Study.{noLink}
 use Rattle.theory.specs.Laws.Cases.{on-equal}
 use Rattle.theory.specs.Laws.Finite.{order}
-use Rattle.theory.specs.Laws.Filled.{Filled, filled-none, filled-more}
+use Rattle.theory.specs.Laws.Filled.{filled-none, filled-more}
 use Rattle.search.specs.Search.{routingFrom}
 use Rattle.search.specs.Lanes.{EachSearchable}
 use Rattle.search.specs.Groups.{Member, Unused}
-use Rattle.routes.specs.Next.{firstFitting}
-use Rattle.routes.specs.Table.{linkMarks, noLinks, NextRow, Nexts, NextsBelow, RowsPut, RowsEmpty, RowsCleared, NodePut, GroupPut}
-use Rattle.routes.specs.Laws.Next.{link-marks-filled}
+use Rattle.routes.specs.Table.{linkMarks, noLinks, NextRow, Nexts, NextsBelow, RowsPut, RowsEmpty, RowsCleared, NodePut, OpenPut, GroupPut}
 
 -- Rows are written one by one.
 module _ {Put : ℕ → List ℕ → Type 0} {table₀ : List (List ℕ)} {first : ℕ} where
@@ -38,28 +35,25 @@ module _ {Put : ℕ → List ℕ → Type 0} {table₀ : List (List ℕ)} {first
   row-before {k} w = w .rest k (λ b c. omega arith)
 
 -- The links of all nodes to the destinations of a group are written node by node.
-abbrev pub Putting : ℕ → List (List ℕ) → List ℕ → List ℕ → List (List ℕ) → ℕ → ℕ → ℕ → List (List ℕ) → Type 0
-Putting nodes links times group table₀ first past j table =
-    RowsPut (λ q row. Filled (firstFitting nodes links times (getD group (q - first) 0)) noLink 128 j row) table₀ first past table
-
 module _ {nodes : ℕ} {links : List (List ℕ)} {times : List ℕ} (group : List ℕ) (g : EachSearchable nodes links times group) {table₀ : List (List ℕ)}
     {first past : ℕ} where
-  pub put-none : length table₀ ≡ 32 → RowsEmpty first past table₀ → Putting nodes links times group table₀ first past 0 table₀
+  pub put-none : length table₀ ≡ 32 → RowsEmpty first past table₀ → OpenPut nodes links times group 0 table₀ first past table₀
   unfolding noLinks
   put-none size empty = record { size = size; put = λ q b c. rw (empty q b c) filled-none; rest = λ q off. refl }
 
-  module _ {j : ℕ} {table : List (List ℕ)} (w : Putting nodes links times group table₀ first past j table) where
-    pub put-more : {table′ : List (List ℕ)} → j < 128 → NodePut nodes links times group j table first past table′
-        → Putting nodes links times group table₀ first past (j + 1) table′
-    put-more h v =
-        record {
-          size = v .size;
-          put = λ q b c. rw (v .put q b c) (filled-more h refl (w .put q b c));
-          rest = λ q off. v .rest q off ∙ w .rest q off;
-        }
+  pub put-more : {j : ℕ} {table table′ : List (List ℕ)} → OpenPut nodes links times group j table₀ first past table → j < 128
+      → NodePut nodes links times group j table first past table′ → OpenPut nodes links times group (j + 1) table₀ first past table′
+  put-more w h v =
+      record {
+        size = v .size;
+        put = λ q b c. rw (v .put q b c) (filled-more h refl (w .put q b c));
+        rest = λ q off. v .rest q off ∙ w .rest q off;
+      }
 
-    pub put-all : past ≤ first + 8 → j ≡ nodes → GroupPut nodes links times group table₀ first past table
-    put-all few e = record { size = w .size; put = λ q b c. link-marks-filled (g (q - first) (omega arith)) (rw e at (w .put q b c)); rest = w .rest }
+  -- Then the links into closed destinations are.
+  pub put-both : {table table′ : List (List ℕ)} → OpenPut nodes links times group nodes table₀ first past table
+      → GroupPut nodes links times group table first past table′ → GroupPut nodes links times group table₀ first past table′
+  put-both w v = record { size = v .size; put = v .put; rest = λ q off. v .rest q off ∙ w .rest q off }
 
 -- The groups are done one after the other: none at first,
 module _ {nodes : ℕ} {links : List (List ℕ)} {destinations trips times : List ℕ} where

@@ -1,14 +1,15 @@
--- Where no link gives its tail less than its mark, the marks of a search are the distances.
+-- Where no link that may be used gives its tail less than its mark, the marks of a search are the distances.
 use Prim.Native.Nat.{ℕ, _+_, _≤_, _<_}
 use native.Mathlib.Omega.{arith}
 use mathlib.Core.Path.{_≡_, refl, sym, _∙_, ap}
+use mathlib.Core.Bool.{true}
 use mathlib.Core.List.{List}
 use mathlib.Core.Logic.{⊎-elim}
 use mathlib.Core.Option.{none, some, Option·some-injective}
 use lib.ListN.{length, getD, List·getD-eq-default}
 use lib.Dec.{ltb}
 use borrow.Author.Tests.{lt-ltb, ltb-true, le-ltb}
-use Rattle.theory.specs.Study.{tail, head}
+use Rattle.theory.specs.Study.{tail, head, mayUse}
 use Rattle.theory.specs.Routes.{Routing, distances, distance}
 use Rattle.theory.specs.Laws.Cases.{on-test, none-some}
 use Rattle.theory.specs.Laws.Finite.{order, sum-bound}
@@ -63,13 +64,13 @@ module _ {nodes : ℕ} {links : List (List ℕ)} {times : List ℕ} {s : ℕ} (g
       }
 
   module _ {d : List ℕ} (w : Searching nodes links times s d)
-      (settled : (l : ℕ) → l < length links → getD d (tail links l) 0 ≤ getD times l 0 + getD d (head links l) 0) where
-    over-link : (l x : ℕ) → l < length links → distanceOf (getD d (head links l) 0) ≡ some x
+      (settled : (l : ℕ) → l < length links → mayUse links s l ≡ true → getD d (tail links l) 0 ≤ getD times l 0 + getD d (head links l) 0) where
+    over-link : (l x : ℕ) → l < length links → mayUse links s l ≡ true → distanceOf (getD d (head links l) 0) ≡ some x
         → (y : ℕ) × (distanceOf (getD d (tail links l) 0) ≡ some y) × (y ≤ getD times l 0 + x)
-    over-link l x h e =
+    over-link l x h may e =
         let (same, below) = distance-some (getD d (head links l) 0) x e in
         let bound = w .bounded (head links l) (omega (arith, g .roads .head-node l h, g .roads .few-nodes)) below in
-        let least = settled l h in
+        let least = settled l h may in
         let fits : getD d (tail links l) 0 < unreached = omega (arith, g .roads .short-time l h, reached-few d) in
         (getD d (tail links l) 0, some-distance (getD d (tail links l) 0) fits, omega arith)
 
@@ -80,11 +81,11 @@ module _ {nodes : ℕ} {links : List (List ℕ)} {times : List ℕ} {s : ℕ} (g
         let (same, below) = distance-some (getD d j 0) y e in
         let a = w .attained j h away below in
         let place = ap (λ i. getD d i 0) (a .leaves) in
-        let least = settled (a .link) (a .below) in (
+        let least = settled (a .link) (a .below) (a .usable) in (
           a .link,
           record {
             below = a .below;
-            usable = refl;
+            usable = a .usable;
             leaves = a .leaves;
             rest = getD d (head links (a .link)) 0;
             at-head = some-distance (getD d (head links (a .link)) 0) (a .head-reached);
@@ -97,7 +98,7 @@ module _ {nodes : ℕ} {links : List (List ℕ)} {times : List ℕ} {s : ℕ} (g
     solves =
         record {
           at-destination = ap distanceOf (w .destination) ∙ some-distance 0 (omega arith);
-          over-link = λ l x h u e. over-link l x h e;
+          over-link = over-link;
           attained = attained;
         }
 

@@ -4,7 +4,7 @@ use native.Mathlib.Nat.{le-refl}
 use native.Mathlib.Omega.{arith}
 use mathlib.Core.Path.{_≡_, refl, sym, _∙_, ap}
 use mathlib.Core.List.{List, []}
-use mathlib.Core.Logic.{⊎-elim}
+use mathlib.Core.Logic.{inl, ⊎-elim}
 use lib.ListN.{length, getD, set, replicate, length-set, length-replicate, getD-replicate}
 use lib.Seq.{getD-set-same, getD-set-other, set-getD, ext-getD}
 use borrow.Author.Count.{below-more}
@@ -16,9 +16,9 @@ use Rattle.search.specs.Search.{unreached}
 use Rattle.search.specs.Given.{longest}
 use Rattle.search.specs.Chains.{chainOf}
 use Rattle.search.specs.Rows.{Worked}
-use Rattle.search.specs.Marks.{allUnreached, total}
-use Rattle.search.specs.Lanes.{lane, allRowsUnreached, totals, Shaped, Marked, RowMarked, EachRelaxed, Compared, EachSearchable, EachSearching, EachScanning, EachScanned, EachScans, EachQuiet, Visited, Swept, SetOut, Found}
-use Rattle.search.specs.Laws.Sweep.{relaxed-least, scan-begins, scan-ends, scan-at, scan-goes, scans-none, scans-more, scans-total, scans-settled}
+use Rattle.search.specs.Marks.{allUnreached, total, Hands, Entered}
+use Rattle.search.specs.Lanes.{lane, allRowsUnreached, totals, Shaped, Marked, RowMarked, EachRelaxed, Compared, EachSearchable, EachSearching, EachHands, EachScanning, EachScanned, EachEntered, EachScans, EachQuiet, Visited, Swept, SetOut, Found}
+use Rattle.search.specs.Laws.Sweep.{relaxed-least, sets-out, scan-begins, scan-ends, scan-at, scan-goes, hands-open, hands-own, scanned-entered, entered-lower, scans-none, scans-more, scans-total, scans-settled}
 use Rattle.search.specs.Laws.Found.{search-found}
 
 pub length-lane : (i : ℕ) (table : List (List ℕ)) → length (lane i table) ≡ 128
@@ -95,6 +95,16 @@ module _ {table : List (List ℕ)} (shaped : Shaped table) where
 pub row-most : (table : List (List ℕ)) → Marked table → {j : ℕ} → j < 128 → RowMarked (getD table j [])
 row-most table w {j} h i b = omega (arith, w i b j h, lane-at i table j h)
 
+-- What one lane of eight hands on: the mark 0 of a destination.
+own-lane : (k : ℕ) → k < 8 → getD (set (replicate 8 unreached) k 0) k 0 ≡ 0
+own-lane k h = getD-set-same (replicate 8 unreached) k 0 0 (omega (arith, length-replicate 8 unreached))
+
+other-lane : (k i : ℕ) → i < 8 → (i ≡ k → ⊥) → getD (set (replicate 8 unreached) k 0) i 0 ≡ unreached
+other-lane k i b away = getD-set-other (replicate 8 unreached) k i 0 0 away ∙ getD-replicate 8 i unreached 0 b
+
+pub enter-marked : (k : ℕ) → k < 8 → RowMarked (set (replicate 8 unreached) k 0)
+enter-marked k h i b = on-equal i k (λ e. rw e (omega (arith, own-lane k h))) (λ away. omega (arith, other-lane k i b away))
+
 -- A sum of which one term is less, and none is more.
 sum-less : (n : ℕ) (f g : ℕ → ℕ) (i : ℕ) → i < n → ((j : ℕ) → j < n → f j ≤ g j) → f i < g i → sum n f + 1 ≤ sum n g
 unfolding sum
@@ -106,15 +116,15 @@ sum-less (suc n) f g i h most less =
     (below-suc n i h)
 
 module _ {nodes : ℕ} {links : List (List ℕ)} {times group : List ℕ} (g : EachSearchable nodes links times group) where
-  -- A scan of node k begins with no link relaxed,
-  module _ {into : List ℕ} (chain : into ≡ chainOf links 1) {k : ℕ} {table₀ : List (List ℕ)} where
-    pub each-begins : {l : ℕ} → EachSearching nodes links times group table₀ → k < 128 → l ≡ getD into k 0
-        → EachScanning nodes links times group k table₀ table₀ l
-    each-begins w h e = record { shaped = w .shaped; each = λ i b. scan-begins (g i b) chain (w .each i b) h e }
+  -- A scan of a place begins with no link relaxed,
+  module _ {into : List ℕ} (chain : into ≡ chainOf links 1) {place : ℕ} {ahead : List ℕ} {table₀ : List (List ℕ)} where
+    pub each-begins : {l : ℕ} → EachSearching nodes links times group table₀ → EachHands nodes links times group place ahead table₀ → place < 256
+        → l ≡ getD into place 0 → EachScanning nodes links times group place ahead table₀ table₀ l
+    each-begins w hands h e = record { shaped = w .shaped; each = λ i b. scan-begins (g i b) chain (w .each i b) (hands .each i b) h e }
 
-    module _ {table : List (List ℕ)} {l : ℕ} (at : EachScanning nodes links times group k table₀ table l) where
+    module _ {table : List (List ℕ)} {l : ℕ} (at : EachScanning nodes links times group place ahead table₀ table l) where
       -- ends past the last,
-      pub each-ends : l ≡ noLink → EachScanned nodes links times group k table₀ table
+      pub each-ends : l ≡ noLink → EachScanned nodes links times group place ahead table₀ table
       each-ends e = record { shaped = at .shaped; each = λ i b. scan-ends (g i b) chain (at .each i b) e }
 
       pub each-marked : Marked table
@@ -129,20 +139,52 @@ module _ {nodes : ℕ} {links : List (List ℕ)} {times group : List ℕ} (g : E
             (below, omega (arith, g 0 b .roads .few-links), tail-node, g 0 b .roads .short-time a below)
 
         -- and goes on to a higher one.
-        pub each-goes : {t : ℕ} {ahead : List ℕ} {table′ : List (List ℕ)} {l′ : ℕ} → k < 128 → t ≡ tail links a → ahead ≡ getD table₀ k []
-            → EachRelaxed table table′ t ahead (getD times a 0) → l′ ≡ getD into (128 + a) 0
-            → (l < l′) × EachScanning nodes links times group k table₀ table′ l′
-        each-goes {ahead = ahead} h t≡ ahead≡ r l≡ =
+        pub each-goes : {t : ℕ} {table′ : List (List ℕ)} {l′ : ℕ} → t ≡ tail links a → EachRelaxed table table′ t ahead (getD times a 0)
+            → l′ ≡ getD into (256 + a) 0 → (l < l′) × EachScanning nodes links times group place ahead table₀ table′ l′
+        each-goes t≡ r l≡ =
             let b : 0 < 8 = omega arith in (
-              scan-goes (g 0 b) chain (at .each 0 b) some-link a≡ t≡ (mark-ahead 0) (r .each 0 b) l≡ .0,
+              scan-goes (g 0 b) chain (at .each 0 b) some-link a≡ t≡ (r .each 0 b) l≡ .0,
               record {
                 shaped = r .shaped;
-                each = λ i b. scan-goes (g i b) chain (at .each i b) some-link a≡ t≡ (mark-ahead i) (r .each i b) l≡ .1;
+                each = λ i b. scan-goes (g i b) chain (at .each i b) some-link a≡ t≡ (r .each i b) l≡ .1;
               },
             )
-          where
-            mark-ahead : (i : ℕ) → getD ahead i 0 ≡ getD (lane i table₀) k 0
-            mark-ahead i = ap (λ row. getD row i 0) ahead≡ ∙ sym (lane-at i table₀ k h)
+
+  -- An open node hands on its marks,
+  pub each-hands : {table : List (List ℕ)} {k : ℕ} → k < nodes → EachHands nodes links times group k (getD table k []) table
+  each-hands {table} {k} h =
+      record { each = λ i b. hands-open (g i b) h (sym (lane-at i table k (omega (arith, g i b .roads .few-nodes)))) }
+
+  -- and the links into a closed destination of the group hand on its own.
+  module _ {k : ℕ} (h : k < 8) {table : List (List ℕ)} (w : EachEntered nodes links times group k table) where
+    pub enter-hands : {s : ℕ} {ahead : List ℕ} → s ≡ getD group k 0 → ahead ≡ set (replicate 8 unreached) k 0
+        → EachHands nodes links times group (128 + s) ahead table
+    enter-hands {s} {ahead} s≡ ahead≡ =
+        record {
+          each = λ i b. on-equal i k (own i b) (λ away. record { on = inl (rw ahead≡ (other-lane k i b away)) });
+        }
+      where
+        own : (i : ℕ) → (b : i < 8) → i ≡ k → Hands nodes links times (getD group i 0) (128 + s) (getD ahead i 0) (lane i table)
+        own i b e =
+            let mark : getD ahead i 0 ≡ 0 = rw (ahead≡, e) (own-lane k h) in
+            let place : 128 + s ≡ 128 + getD group i 0 = rw (s≡, e) in
+            rw (mark, place) (hands-own (g i b) (w .searching .each i b))
+
+    pub enter-more : {s : ℕ} {ahead : List ℕ} {table′ : List (List ℕ)} → s ≡ getD group k 0 → ahead ≡ set (replicate 8 unreached) k 0
+        → EachScanned nodes links times group (128 + s) ahead table table′ → EachEntered nodes links times group (k + 1) table′
+    enter-more {s} {ahead} {table′} s≡ ahead≡ r =
+        record {
+          searching = record { shaped = r .shaped; each = λ i b. r .each i b .searching };
+          entered = λ i c b.
+              on-equal i k (λ e. here i b e)
+              (λ away. entered-lower (g i b) (lane i table) (lane i table′) (w .entered i (omega (arith, away)) b) (r .each i b .no-more));
+        }
+      where
+        here : (i : ℕ) → (b : i < 8) → i ≡ k → Entered nodes links times (getD group i 0) (lane i table′)
+        here i b e =
+            let mark : getD ahead i 0 ≡ 0 = rw (ahead≡, e) (own-lane k h) in
+            let place : 128 + s ≡ 128 + getD group i 0 = rw (s≡, e) in
+            scanned-entered (g i b) (rw (mark, place) at (r .each i b))
 
   module _ {table scanned : List (List ℕ)} (w : EachScans nodes links times group table scanned) where
     pub each-searching : EachSearching nodes links times group table
@@ -167,7 +209,7 @@ module _ {nodes : ℕ} {links : List (List ℕ)} {times group : List ℕ} (g : E
           }
 
       -- and of any other.
-      pub visit-scans : 0 < c → k < nodes → {table′ : List (List ℕ)} → EachScanned nodes links times group k table table′
+      pub visit-scans : 0 < c → k < nodes → {table′ : List (List ℕ)} → EachScanned nodes links times group k (getD table k []) table table′
           → Visited nodes links times group k table scanned table′ (set scanned k (getD table k [])) 1
       unfolding totals
       visit-scans some-lower inside {table′} r =
@@ -175,7 +217,7 @@ module _ {nodes : ℕ} {links : List (List ℕ)} {times group : List ℕ} (g : E
             scans = record {
               shaped = r .shaped;
               shaped-scans = shaped-set (w .shaped-scans) k (getD table k []) (w .shaped .rows k h);
-              each = λ i b. rw (stored i) (scans-more (g i b) (w .each i b) inside (r .each i b));
+              each = λ i b. rw (stored i) (scans-more (g i b) (w .each i b) inside (rw (← lane-at i table k h) at (r .each i b)));
             };
             falls = fewer;
             few = omega arith;
@@ -257,14 +299,22 @@ module _ {nodes : ℕ} {links : List (List ℕ)} {times group : List ℕ} (g : E
           ∙ ap (set (lane i table) s) (getD-set-other (getD table s []) k i 0 0 away ∙ sym (lane-at i table s node))
           ∙ set-getD (lane i table) s 0
 
-  -- and none scanned.
-  pub set-all : {table : List (List ℕ)} → SetOut group 8 table → EachScans nodes links times group table allRowsUnreached
+  pub set-all : {table : List (List ℕ)} → SetOut group 8 table → EachEntered nodes links times group 0 table
   set-all w =
       record {
-        shaped = w .shaped;
+        searching = record { shaped = w .shaped; each = λ i h. rw (w .marked i h) (sets-out (g i h)) };
+        entered = λ i c b. absurd (omega arith);
+      }
+
+  -- and none scanned.
+  pub enter-all : {table : List (List ℕ)} → EachEntered nodes links times group 8 table → EachScans nodes links times group table allRowsUnreached
+  enter-all w =
+      record {
+        shaped = w .searching .shaped;
         shaped-scans = unreached-shaped;
         each = λ i h.
-            rw (w .marked i h) (scans-none (g i h) (length-lane i allRowsUnreached) (λ j b. omega (arith, all-unreached i h j b)));
+            scans-none (g i h) (w .searching .each i h) (w .entered i h h) (length-lane i allRowsUnreached)
+            (λ j b. omega (arith, all-unreached i h j b));
       }
 
   -- After a sweep that scans no node the marks are the distances.

@@ -1,8 +1,9 @@
 -- A least-time search by scans: what it sets out with, what one link changes, and what a scan and a sweep of scans do.
-use Prim.Native.Nat.{ℕ, zero, suc, _+_, _*_, _≤_, _<_, min}
+use Prim.Native.Nat.{ℕ, zero, suc, _+_, _*_, _%_, _≤_, _<_, min}
 use native.Mathlib.Nat.{le-refl}
 use native.Mathlib.Omega.{arith}
 use mathlib.Core.Path.{_≡_, refl, sym, _∙_, ap}
+use mathlib.Core.Bool.{true}
 use mathlib.Core.List.{List}
 use mathlib.Core.Logic.{inl, inr, ⊎-elim}
 use lib.ListN.{length, getD, set, length-set, length-replicate, getD-replicate}
@@ -11,12 +12,13 @@ use borrow.Author.Tests.{lt-ltb, le-ltb}
 use Rattle.theory.specs.Finite.{sum}
 use Rattle.theory.specs.Laws.Cases.{on-equal}
 use Rattle.theory.specs.Laws.Finite.{below-suc, order, sum-cong}
-use Rattle.theory.specs.Study.{tail, head, noLink}
+use Rattle.theory.specs.Study.{tail, head, closed, mayUse, noLink}
+use Rattle.theory.specs.Laws.Permission.{may-open, may-own, may-closed}
 use Rattle.search.specs.Search.{unreached}
 use Rattle.search.specs.Given.{Searchable, longest}
-use Rattle.search.specs.Chains.{chainOf}
-use Rattle.search.specs.Marks.{allUnreached, total, reach, reached, relaxed, Attained, Searching, Scanning, Scanned, Scans}
-use Rattle.search.specs.Laws.Chains.{chain-begins, chain-goes, chain-ends, chain-map}
+use Rattle.search.specs.Chains.{endOf, chainOf}
+use Rattle.search.specs.Marks.{allUnreached, total, reach, reached, relaxed, Attained, Searching, Hands, Scanning, Scanned, Entered, Scans}
+use Rattle.search.specs.Laws.Chains.{place-open, place-closed, place-of-open, place-of-closed, place-node, chain-begins, chain-goes, chain-ends, chain-map}
 
 -- A sum over a list of which one element is another.
 module _ (f : ℕ → ℕ) (d : List ℕ) (t v : ℕ) (inside : t < length d) where
@@ -95,7 +97,7 @@ module _ {nodes : ℕ} {links : List (List ℕ)} {times : List ℕ} {s : ℕ} (g
       }
 
   -- A link l from t to k with time x that gives its tail less than its mark.
-  module _ {d : List ℕ} (w : Searching nodes links times s d) {l t k x : ℕ} (h : l < length links)
+  module _ {d : List ℕ} (w : Searching nodes links times s d) {l t k x : ℕ} (h : l < length links) (may : mayUse links s l ≡ true)
       (t≡ : tail links l ≡ t) (k≡ : head links l ≡ k) (x≡ : getD times l 0 ≡ x) (less : x + getD d k 0 < getD d t 0)
       {d′ : List ℕ} (d≡ : d′ ≡ set d t (x + getD d k 0)) where
     t-node : t < nodes
@@ -125,25 +127,27 @@ module _ {nodes : ℕ} {links : List (List ℕ)} {times : List ℕ} {s : ℕ} (g
         let b : reach (x + getD d k 0) ≡ 1 = omega (arith, tail-mark) in
         omega (arith, ap reached d≡)
 
-    attained-then : (j : ℕ) → j < nodes → (j ≡ s → ⊥) → getD d′ j 0 < unreached → Attained nodes links times d′ j
+    attained-then : (j : ℕ) → j < nodes → (j ≡ s → ⊥) → getD d′ j 0 < unreached → Attained nodes links times s d′ j
     attained-then j b away r = on-equal j t here there
       where
-        here : j ≡ t → Attained nodes links times d′ j
+        here : j ≡ t → Attained nodes links times s d′ j
         here e =
             record {
               link = l;
               below = h;
+              usable = may;
               leaves = t≡ ∙ sym e;
               head-reached = rw k≡ (omega (arith, lower-no-more k, tail-mark));
               at-least = rw (k≡, x≡, e) (omega (arith, lower-no-more k, at-tail));
             }
 
-        there : (j ≡ t → ⊥) → Attained nodes links times d′ j
+        there : (j ≡ t → ⊥) → Attained nodes links times s d′ j
         there off =
             let a = w .attained j b away (omega (arith, off-tail j off)) in
             record {
               link = a .link;
               below = a .below;
+              usable = a .usable;
               leaves = a .leaves;
               head-reached = omega (arith, lower-no-more (head links (a .link)), a .head-reached);
               at-least = omega (arith, lower-no-more (head links (a .link)), a .at-least, off-tail j off);
@@ -175,48 +179,68 @@ module _ {nodes : ℕ} {links : List (List ℕ)} {times : List ℕ} {s : ℕ} (g
           bounded = bounded-then;
         }
 
-  -- What a relaxed link makes of the marks of a search.
-  record Relaxing (d : List ℕ) (l k : ℕ) (d′ : List ℕ) : Type 0 where
+  -- What a relaxed link makes of the marks of a search, whose end hands on `ahead`.
+  record Relaxing (d : List ℕ) (l place ahead : ℕ) (d′ : List ℕ) : Type 0 where
     searching : Searching nodes links times s d′
     no-more : (j : ℕ) → getD d′ j 0 ≤ getD d j 0
-    kept : getD d′ k 0 ≡ getD d k 0
-    settled : getD d′ (tail links l) 0 ≤ getD times l 0 + getD d′ k 0
+    kept : Hands nodes links times s place ahead d′
+    settled : getD d′ (tail links l) 0 ≤ getD times l 0 + ahead
 
-  relaxing : {d : List ℕ} → Searching nodes links times s d → (l k : ℕ) → l < length links → head links l ≡ k
-      → Relaxing d l k (relaxed d (tail links l) (getD d k 0) (getD times l 0))
-  relaxing {d} w l k h k≡ = ⊎-elim lower same (order (getD times l 0 + getD d k 0) (getD d (tail links l) 0))
-    where
-      lower : getD times l 0 + getD d k 0 < getD d (tail links l) 0 → Relaxing d l k (relaxed d (tail links l) (getD d k 0) (getD times l 0))
-      lower less =
-          let d≡ = sym (relaxed-lower d (tail links l) (getD d k 0) (getD times l 0) less) in
-          let away : k ≡ tail links l → ⊥ = λ e. let same-mark = ap (λ i. getD d i 0) e in omega arith in
-          let kept = off-tail w h refl k≡ refl less d≡ k away in
-          record {
-            searching = lower-searching w h refl k≡ refl less d≡;
-            no-more = lower-no-more w h refl k≡ refl less d≡;
-            kept = kept;
-            settled = omega (arith, at-tail w h refl k≡ refl less d≡);
-          }
+  module _ {d : List ℕ} (w : Searching nodes links times s d) (l : ℕ) (h : l < length links) where
+    -- A link that gives its tail no less than its mark changes nothing.
+    relaxing-same : {place ahead : ℕ} → Hands nodes links times s place ahead d → getD d (tail links l) 0 ≤ getD times l 0 + ahead
+        → Relaxing d l place ahead (relaxed d (tail links l) ahead (getD times l 0))
+    relaxing-same {ahead = ahead} hands settled =
+        rw (← relaxed-same d (tail links l) ahead (getD times l 0) settled)
+        (record { searching = w; no-more = λ j. le-refl (getD d j 0); kept = hands; settled = settled })
 
-      same : getD d (tail links l) 0 ≤ getD times l 0 + getD d k 0 → Relaxing d l k (relaxed d (tail links l) (getD d k 0) (getD times l 0))
-      same settled =
-          rw (← relaxed-same d (tail links l) (getD d k 0) (getD times l 0) settled)
-          (record { searching = w; no-more = λ j. le-refl (getD d j 0); kept = refl; settled = settled })
+    relaxing-lower : {place k : ℕ} → ((a : ℕ) → a < length links → endOf links 1 a ≡ place → mayUse links s a ≡ true) → mayUse links s l ≡ true
+        → head links l ≡ k → k ≡ place % 128 → getD times l 0 + getD d k 0 < getD d (tail links l) 0
+        → Relaxing d l place (getD d k 0) (relaxed d (tail links l) (getD d k 0) (getD times l 0))
+    relaxing-lower {place} {k} usable may k≡ node less =
+        let d≡ = sym (relaxed-lower d (tail links l) (getD d k 0) (getD times l 0) less) in
+        let away : k ≡ tail links l → ⊥ = λ e. let same-mark = ap (λ i. getD d i 0) e in omega arith in
+        let kept = off-tail w h may refl k≡ refl less d≡ k away in
+        record {
+          searching = lower-searching w h may refl k≡ refl less d≡;
+          no-more = lower-no-more w h may refl k≡ refl less d≡;
+          kept = record { on = inr (usable, sym kept ∙ rw node) };
+          settled = omega (arith, at-tail w h may refl k≡ refl less d≡);
+        }
 
-  -- A scan of node k begins with no link relaxed,
-  module _ {into : List ℕ} (chain : into ≡ chainOf links 1) {k : ℕ} {d₀ : List ℕ} where
-    pub scan-begins : {l : ℕ} → Searching nodes links times s d₀ → k < 128 → l ≡ getD into k 0 → Scanning nodes links times s k d₀ d₀ l
-    scan-begins w h e =
-        record { searching = w; no-more = λ j. le-refl (getD d₀ j 0); kept = refl; settled = chain-begins (g .roads .few-links) chain h e }
+    relaxing : {place ahead : ℕ} → endOf links 1 l ≡ place → Hands nodes links times s place ahead d
+        → Relaxing d l place ahead (relaxed d (tail links l) ahead (getD times l 0))
+    relaxing {place} {ahead} e hands = ⊎-elim none given (hands .on)
+      where
+        tail-most : getD d (tail links l) 0 ≤ unreached
+        tail-most = w .marked (tail links l) (omega (arith, g .roads .tail-node l h, g .roads .few-nodes))
 
-    module _ {d : List ℕ} {l : ℕ} (at : Scanning nodes links times s k d₀ d l) where
+        none : ahead ≡ unreached → Relaxing d l place ahead (relaxed d (tail links l) ahead (getD times l 0))
+        none a≡ = relaxing-same hands (omega (arith, tail-most))
+
+        given : ((a : ℕ) → a < length links → endOf links 1 a ≡ place → mayUse links s a ≡ true) × (ahead ≡ getD d (place % 128) 0)
+            → Relaxing d l place ahead (relaxed d (tail links l) ahead (getD times l 0))
+        given (usable, a≡) =
+            let node = place-node links 1 l (omega (arith, g .roads .head-node l h, g .roads .few-nodes)) e in
+            ⊎-elim
+            (λ less. rw a≡ (relaxing-lower usable (usable l h e) node refl (omega (arith, less, a≡))))
+            (relaxing-same hands)
+            (order (getD times l 0 + ahead) (getD d (tail links l) 0))
+
+  -- A scan of a place begins with no link relaxed,
+  module _ {into : List ℕ} (chain : into ≡ chainOf links 1) {place ahead : ℕ} {d₀ : List ℕ} where
+    pub scan-begins : {l : ℕ} → Searching nodes links times s d₀ → Hands nodes links times s place ahead d₀ → place < 256 → l ≡ getD into place 0
+        → Scanning nodes links times s place ahead d₀ d₀ l
+    scan-begins w hands h e =
+        record { searching = w; no-more = λ j. le-refl (getD d₀ j 0); kept = hands; settled = chain-begins (g .roads .few-links) chain h e }
+
+    module _ {d : List ℕ} {l : ℕ} (at : Scanning nodes links times s place ahead d₀ d l) where
       -- ends past the last,
-      pub scan-ends : l ≡ noLink → Scanned nodes links times s k d₀ d
+      pub scan-ends : l ≡ noLink → Scanned nodes links times s place ahead d₀ d
       scan-ends e =
           record {
             searching = at .searching;
             no-more = at .no-more;
-            kept = at .kept;
             settled = chain-ends (g .roads .few-links) chain (at .settled) e;
           }
 
@@ -229,35 +253,69 @@ module _ {nodes : ℕ} {links : List (List ℕ)} {times : List ℕ} {s : ℕ} (g
             (i-below, omega (arith, g .roads .tail-node i i-below, g .roads .few-nodes))
 
         -- and goes on to a higher one.
-        pub scan-goes : {t x : ℕ} {d′ : List ℕ} {l′ : ℕ} → t ≡ tail links i → x ≡ getD d₀ k 0 → d′ ≡ relaxed d t x (getD times i 0)
-            → l′ ≡ getD into (128 + i) 0 → (l < l′) × Scanning nodes links times s k d₀ d′ l′
-        scan-goes {d′} t≡ x≡ d≡ l≡ =
+        pub scan-goes : {t : ℕ} {d′ : List ℕ} {l′ : ℕ} → t ≡ tail links i → d′ ≡ relaxed d t ahead (getD times i 0)
+            → l′ ≡ getD into (256 + i) 0 → (l < l′) × Scanning nodes links times s place ahead d₀ d′ l′
+        scan-goes {d′ = d′} t≡ d≡ l≡ =
             let (below, enters) = at .settled .on-chain some-link in
-            let r : Relaxing d l k d′ = rw (d≡, t≡, x≡, ← at .kept, i≡) (relaxing (at .searching) l k below enters) in
+            let r : Relaxing d l place ahead d′ = rw (d≡, t≡, i≡) (relaxing (at .searching) l below enters (at .kept)) in
             let passed =
-            chain-map {Q = λ a. getD d′ (tail links a) 0 ≤ getD times a 0 + getD d′ k 0} (at .settled)
-            (λ a b c. omega (arith, r .no-more (tail links a), r .kept)) in
+            chain-map {Q = λ a. getD d′ (tail links a) 0 ≤ getD times a 0 + ahead} (at .settled)
+            (λ a b c. omega (arith, r .no-more (tail links a))) in
             let (higher, there) = chain-goes (g .roads .few-links) chain passed some-link (r .settled) i≡ l≡ in (
               higher,
               record {
                 searching = r .searching;
                 no-more = λ j. omega (arith, r .no-more j, at .no-more j);
-                kept = r .kept ∙ at .kept;
+                kept = r .kept;
                 settled = there;
               },
             )
 
-  -- Before the first sweep no node is scanned.
-  pub scans-none : {p : List ℕ} → length p ≡ 128 → ((j : ℕ) → j < 128 → unreached ≤ getD p j 0) → Scans nodes links times s (set allUnreached s 0) p
-  scans-none size least =
+  -- An open node hands its mark on,
+  pub hands-open : {d : List ℕ} {k ahead : ℕ} → k < nodes → ahead ≡ getD d k 0 → Hands nodes links times s k ahead d
+  hands-open {d} {k} h e =
+      let below : k < 128 = omega (arith, g .roads .few-nodes) in
+      let node : k ≡ k % 128 = omega arith in
       record {
-        searching = sets-out;
+        on = inr (
+          λ l b p. may-open links s l (place-of-open links 1 l below p .0),
+          e ∙ ap (λ j. getD d j 0) node,
+        );
+      }
+
+  -- and a closed one only if it is the destination.
+  pub hands-own : {d : List ℕ} → Searching nodes links times s d → Hands nodes links times s (128 + s) 0 d
+  hands-own {d} w =
+      let below : s < 128 = omega (arith, g .destination-node, g .roads .few-nodes) in
+      let node : s ≡ (128 + s) % 128 = omega arith in
+      record {
+        on = inr (
+          λ l b p. may-own links s l (place-of-closed links 1 l (omega (arith, g .roads .head-node l b, g .roads .few-nodes)) p .1),
+          sym (w .destination) ∙ ap (λ j. getD d j 0) node,
+        );
+      }
+
+  -- After a scan of the links into the destination as a closed node no such link gives its tail less than its mark,
+  pub scanned-entered : {d₀ d : List ℕ} → Scanned nodes links times s (128 + s) 0 d₀ d → Entered nodes links times s d
+  scanned-entered r l b shut e = omega (arith, r .settled l b (place-closed links 1 l shut ∙ ap (λ j. 128 + j) e))
+
+  -- which holds of lower marks too.
+  pub entered-lower : (d d′ : List ℕ) → Entered nodes links times s d → ((j : ℕ) → getD d′ j 0 ≤ getD d j 0) → Entered nodes links times s d′
+  entered-lower d d′ w no-more l b shut e = omega (arith, w l b shut e, no-more (tail links l))
+
+  -- Before the first sweep no node is scanned.
+  pub scans-none : {d p : List ℕ} → Searching nodes links times s d → Entered nodes links times s d → length p ≡ 128
+      → ((j : ℕ) → j < 128 → unreached ≤ getD p j 0) → Scans nodes links times s d p
+  scans-none w entered size least =
+      record {
+        searching = w;
+        entered = entered;
         size = size;
-        above = λ j h. omega (arith, sets-out .marked j h, least j h);
-        settled = λ l h.
+        above = λ j h. omega (arith, w .marked j h, least j h);
+        settled = λ l h is-open.
             omega (
               arith,
-              sets-out .marked (tail links l) (omega (arith, g .roads .tail-node l h, g .roads .few-nodes)),
+              w .marked (tail links l) (omega (arith, g .roads .tail-node l h, g .roads .few-nodes)),
               least (head links l) (omega (arith, g .roads .head-node l h, g .roads .few-nodes)),
             );
       }
@@ -267,9 +325,15 @@ module _ {nodes : ℕ} {links : List (List ℕ)} {times : List ℕ} {s : ℕ} (g
     inside-scans = omega (arith, w .size, g .roads .few-nodes)
 
     -- A scan of node k, whose mark may have fallen since its last scan.
-    pub scans-more : {d′ : List ℕ} → Scanned nodes links times s k d d′ → Scans nodes links times s d′ (set p k (getD d k 0))
+    pub scans-more : {d′ : List ℕ} → Scanned nodes links times s k (getD d k 0) d d′ → Scans nodes links times s d′ (set p k (getD d k 0))
     scans-more {d′} r =
-        record { searching = r .searching; size = length-set p k (getD d k 0) ∙ w .size; above = above-then; settled = settled-then }
+        record {
+          searching = r .searching;
+          entered = entered-lower d d′ (w .entered) (r .no-more);
+          size = length-set p k (getD d k 0) ∙ w .size;
+          above = above-then;
+          settled = settled-then;
+        }
       where
         here : getD (set p k (getD d k 0)) k 0 ≡ getD d k 0
         here = getD-set-same p k (getD d k 0) 0 inside-scans
@@ -282,18 +346,22 @@ module _ {nodes : ℕ} {links : List (List ℕ)} {times : List ℕ} {s : ℕ} (g
             on-equal j k (λ e. rw e (omega (arith, here, r .no-more k)))
             (λ away. omega (arith, off j away, r .no-more j, w .above j b))
 
-        settled-then : (l : ℕ) → l < length links → getD d′ (tail links l) 0 ≤ getD times l 0 + getD (set p k (getD d k 0)) (head links l) 0
-        settled-then l b =
+        settled-then : (l : ℕ) → l < length links → (closed links l ≡ 1 → ⊥)
+            → getD d′ (tail links l) 0 ≤ getD times l 0 + getD (set p k (getD d k 0)) (head links l) 0
+        settled-then l b is-open =
             on-equal (head links l) k
-            (λ e. rw e (omega (arith, here, r .kept, r .settled l b e)))
-            (λ away. omega (arith, off (head links l) away, r .no-more (tail links l), w .settled l b))
+            (λ e. rw e (omega (arith, here, r .settled l b (place-open links 1 l is-open ∙ e))))
+            (λ away. omega (arith, off (head links l) away, r .no-more (tail links l), w .settled l b is-open))
 
     -- The sum of the marks at the last scans does not rise by it, and falls where the node's mark had fallen.
     pub scans-total : total (set p k (getD d k 0)) + getD p k 0 ≡ total p + getD d k 0
     unfolding total
     scans-total = sum-set (λ y. y) p k (getD d k 0) inside-scans 128 (omega (arith, g .roads .few-nodes))
 
-  -- Where no node's mark has fallen since its last scan, no link gives its tail less than its mark.
+  -- Where no node's mark has fallen since its last scan, no link that may be used gives its tail less than its mark.
   pub scans-settled : {d p : List ℕ} → Scans nodes links times s d p → ((j : ℕ) → j < nodes → getD p j 0 ≤ getD d j 0)
-      → (l : ℕ) → l < length links → getD d (tail links l) 0 ≤ getD times l 0 + getD d (head links l) 0
-  scans-settled w quiet l h = omega (arith, w .settled l h, quiet (head links l) (omega (arith, g .roads .head-node l h)))
+      → (l : ℕ) → l < length links → mayUse links s l ≡ true → getD d (tail links l) 0 ≤ getD times l 0 + getD d (head links l) 0
+  scans-settled w quiet l h may =
+      on-equal (closed links l) 1
+      (λ shut. omega (arith, w .entered l h shut (may-closed links s l shut may)))
+      (λ is-open. omega (arith, w .settled l h is-open, quiet (head links l) (omega (arith, g .roads .head-node l h))))

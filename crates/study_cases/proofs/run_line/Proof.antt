@@ -5,20 +5,8 @@ use borrow.Author.Needs.{needs}
 use Rattle.study_cases.proofs.run_line.Statement.{statement}
 use Rattle.study_cases.proofs.run_line.Tie as tie
 
-read-header-requires : tie.Need-read-header-requires
-read-header-requires c κs = search needs
-
-slice-reshare-prefix-answers : tie.Need-slice-reshare-prefix-answers
-slice-reshare-prefix-answers c = search needs
-
-slice-aggregate-answers : tie.Need-slice-aggregate-answers
-slice-aggregate-answers c = sym (length-take-le _ _ (search needs))
-
-answers-requires : tie.Need-answers-requires
-answers-requires c κs = search needs
-
-read-study-requires : tie.Need-read-study-requires
-read-study-requires c κs = search needs
+read-requires : tie.Need-read-requires
+read-requires c κs = search needs
 
 slice-reshare-prefix-study : tie.Need-slice-reshare-prefix-study
 slice-reshare-prefix-study c = search needs
@@ -26,8 +14,8 @@ slice-reshare-prefix-study c = search needs
 slice-aggregate-study : tie.Need-slice-aggregate-study
 slice-aggregate-study c = sym (length-take-le _ _ (search needs))
 
-answers-requires-2 : tie.Need-answers-requires-2
-answers-requires-2 c κs = search needs
+answers-requires : tie.Need-answers-requires
+answers-requires c κs = search needs
 
 all-requires : tie.Need-all-requires
 all-requires c κs = search needs
@@ -48,14 +36,10 @@ pub run-line-spec : {M : Type 1} → statement M
 run-line-spec =
     tie.close
     (tie.spec
-    read-header-requires
-    slice-reshare-prefix-answers
-    slice-aggregate-answers
-    answers-requires
-    read-study-requires
+    read-requires
     slice-reshare-prefix-study
     slice-aggregate-study
-    answers-requires-2
+    answers-requires
     all-requires
     same-length
     returns

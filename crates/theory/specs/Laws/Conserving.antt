@@ -1,4 +1,4 @@
--- Conservation without tests, and sums over links grouped by the node at one end.
+-- Conservation and permission without tests, and sums over links grouped by the node at one end.
 use Prim.Native.Nat.{ℕ, _+_, _*_, _<_}
 use native.Mathlib.Omega.{arith}
 use mathlib.Core.Path.{_≡_, refl, sym, _∙_}
@@ -8,7 +8,7 @@ use lib.Dec.{eqb}
 use borrow.Author.Tests.{eqb-true, eqb-false, eq-eqb, ne-eqb}
 use Rattle.theory.specs.Finite.{sum}
 use Rattle.theory.specs.Network.{Network}
-use Rattle.theory.specs.Flows.{entry, sumAt, balances, conserves}
+use Rattle.theory.specs.Flows.{entry, sumAt, balances, conserves, Permitted, permits, Carries}
 use Rattle.theory.specs.Laws.Finite.{sum-cong, sum-scale, sum-swap, sum-pick, all-elim, all-intro}
 
 -- Flow out of a node = flow into it + W × D(j,s), for every commodity and every node other than its destination.
@@ -40,6 +40,31 @@ conserves-balanced g share table h k j p q off =
     eqb-true _ _
     (or-false (eqb j (g .destination k)) _ (ne-eqb j (g .destination k) off)
     (all-elim (g .nodes) _ (all-elim (g .commodities) _ h k p) j q))
+
+-- Likewise the test of permission.
+pub permitted-permits : (g : Network) (table : List ℕ) → Permitted g table → permits g table ≡ true
+unfolding permits
+permitted-permits g table h =
+    all-intro (g .commodities) _ (λ k p. all-intro (g .links) _ (λ l q. at k l p q (g .mayUse k l) refl))
+  where
+    at : (k l : ℕ) → k < g .commodities → l < g .links → (may : Bool) → g .mayUse k l ≡ may →
+        (may || eqb (entry (g .links) table k l) 0) ≡ true
+    at k l p q true e = refl
+    at k l p q false e = eq-eqb _ _ (h k l p q e)
+
+pub permits-permitted : (g : Network) (table : List ℕ) → permits g table ≡ true → Permitted g table
+unfolding permits
+permits-permitted g table h k l p q e =
+    eqb-true _ _ (or-false (g .mayUse k l) _ e (all-elim (g .links) _ (all-elim (g .commodities) _ h k p) l q))
+
+-- A table that carries the trips, without tests: it balances, and has no flow on a link that may not carry it.
+pub record Carried (g : Network) (share : ℕ) (table : List ℕ) : Type 0 where
+  pub balanced : Balanced g share table
+  pub permitted : Permitted g table
+
+pub carries-carried : (g : Network) (share : ℕ) (table : List ℕ) → Carries g share table → Carried g share table
+carries-carried g share table c =
+    record { balanced = conserves-balanced g share table (c .conserving); permitted = c .permitted }
 
 -- A sum over links of an amount × a number of the node at one end, grouped by that node.
 pub sum-by-node : (links nodes : ℕ) (end : ℕ → ℕ) (amount π : ℕ → ℕ) → ((l : ℕ) → l < links → end l < nodes) →

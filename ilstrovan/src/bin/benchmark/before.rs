@@ -9,9 +9,14 @@ mod sys {
     declare_calls!("before");
 }
 
-pub fn check(file: &[u8]) {
+/// Whether it accepts a study: it refuses version 2 if it does not know that.
+pub fn accepts(file: &[u8]) -> bool {
     // SAFETY: pointer and length are those of a slice.
-    black_box(unsafe { sys::ilstrovan_check(file.as_ptr(), file.len()) });
+    unsafe { sys::ilstrovan_check(file.as_ptr(), file.len()) == 0 }
+}
+
+pub fn check(file: &[u8]) {
+    black_box(accepts(file));
 }
 
 pub fn pass(file: &[u8], table: &mut [u32], share: u32) {

@@ -5,7 +5,8 @@
 //! call the median processor time of either with its quartiles, and the median
 //! of the ratios of neighbouring measurements; then the stack that each call
 //! needs. Where ILSTROVAN_BEFORE names the static library of an earlier build,
-//! its calls are timed in the same turns; those that it lacks have a dash.
+//! its calls are timed in the same turns; calls that it lacks and studies that it
+//! refuses have a dash.
 
 #[cfg(before)]
 #[macro_use]
@@ -14,6 +15,13 @@ mod declare;
 
 #[cfg(before)]
 mod before;
+#[cfg(not(before))]
+mod before {
+    /// There is no earlier build.
+    pub fn accepts(_: &[u8]) -> bool {
+        false
+    }
+}
 mod measure;
 mod stack;
 mod studies;
@@ -21,7 +29,7 @@ mod studies;
 use std::cell::RefCell;
 use std::hint::black_box;
 
-use measure::{Comparison, compare};
+use measure::{Comparison, Way};
 use studies::Study;
 
 fn main() {
@@ -56,6 +64,11 @@ fn calls(study: &Study) -> [(String, Comparison); 5] {
     let mut started = room.clone();
     assert_eq!(second::start(file, &mut started), 0);
     let judged = agree(study, &started);
+    // The third way is the earlier build's.
+    let compare = |table: &[u32], ways: &mut [Way<'_>]| {
+        let known = if before::accepts(file) { ways.len() } else { 2 };
+        measure::compare(table, &mut ways[..known])
+    };
 
     let running = compare(
         &room,

@@ -29,7 +29,7 @@ impl fmt::Display for Comparison {
         write!(out, "{} | {} | {}", self.proved, self.second, self.ratio)?;
         match &self.before {
             Some((before, ratio)) => write!(out, " | {before} | {ratio}"),
-            // An earlier build without this call.
+            // An earlier build without this call, or one that refuses the study.
             None if cfg!(before) => write!(out, " | – | –"),
             None => Ok(()),
         }

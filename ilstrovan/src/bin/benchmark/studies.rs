@@ -3,7 +3,7 @@
 use std::path::Path;
 
 use ilstrovan::LINE_BYTES;
-use second::draft::{Dice, Draft, DraftLink, Plan, grid};
+use second::draft::{Dice, Draft, DraftLink, Plan, Versioned, grid};
 use study_tool::exact::Fraction;
 use study_tool::source::Source;
 use study_tool::tntp::{Options, convert};
@@ -46,19 +46,32 @@ impl Study {
     }
 
     fn of_draft(name: &str, draft: &Draft) -> Self {
+        Study::of(name, &draft.clone().into())
+    }
+
+    /// The study of version 2 with zones closed.
+    fn of_zones(name: &str, draft: &Draft) -> Self {
+        let zones = closed_zones(draft);
+        let name = format!("{name}, {} zones closed", zones.len());
+        Study::of(&name, &draft.clone().closing(&zones))
+    }
+
+    fn of(name: &str, study: &Versioned) -> Self {
+        let draft = &study.draft;
         Study {
             name: name.to_string(),
             nodes: usize::from(draft.nodes),
             links: draft.links.len(),
             destinations: draft.destinations.len(),
             trips: draft.total(),
-            file: draft.file(),
+            file: study.file(),
             table_length: draft.table_length(),
         }
     }
 }
 
-/// The town, Sioux Falls, and grids and random networks up to the largest study.
+/// The town, Sioux Falls, and grids and random networks up to the largest study;
+/// three of them once more with their zones closed.
 pub fn all() -> Vec<Study> {
     let mut studies = vec![Study::of_draft("town", &Draft::town()), sioux_falls()];
     let mut dice = Dice::new(31);
@@ -69,14 +82,35 @@ pub fn all() -> Vec<Study> {
             links.push(dice.pick(&links));
         }
         let draft = crowded(&mut dice, nodes, links);
-        studies.push(Study::of_draft(&format!("grid {wide} by {high}"), &draft));
+        let name = format!("grid {wide} by {high}");
+        studies.push(Study::of_draft(&name, &draft));
+        if nodes >= 64 {
+            studies.push(Study::of_zones(&name, &draft));
+        }
     }
     for nodes in [16, 32, 64, 128] {
         let links = (0..4 * nodes).map(|_| any_link(&mut dice, nodes)).collect();
         let draft = crowded(&mut dice, nodes, links);
-        studies.push(Study::of_draft(&format!("random {nodes}"), &draft));
+        let name = format!("random {nodes}");
+        studies.push(Study::of_draft(&name, &draft));
+        if nodes == 128 {
+            studies.push(Study::of_zones(&name, &draft));
+        }
     }
     studies
+}
+
+/// Destinations that can be closed with a path left for all trips: each in turn
+/// that can with those before it.
+fn closed_zones(draft: &Draft) -> Vec<u16> {
+    let mut closed = vec![];
+    for &destination in &draft.destinations {
+        closed.push(destination);
+        if second::check(&draft.clone().closing(&closed).file()) != 0 {
+            closed.pop();
+        }
+    }
+    closed
 }
 
 /// The field's standard test network, ten vehicles to a trip.

@@ -1,8 +1,8 @@
--- `network::check` meets its contract: questions 1 to 5 of the file, and then 6 to 11 of its study.
+-- `network::check` meets its contract: questions 1 to 5 of the file, and then those of its study.
 use borrow.Author.Needs.{needs}
 use mathlib.Core.Path.{sym, _∙_}
 use native.Mathlib.Omega.{arith}
-use Rattle.network.specs.Laws.Decoding.{links-within, destinations-within, trips-within, links-counted, destinations-counted, trips-counted, decoded-sized}
+use Rattle.network.specs.Laws.Decoding.{links-within, destinations-within, trips-within, links-counted, destinations-counted, trips-counted, decoded-sized, decoded-closed}
 use Rattle.network.specs.Laws.Checking.{check-refused, check-opened}
 use Rattle.network.proofs.checking.check.Statement.{statement}
 use Rattle.network.proofs.checking.check.Tie as tie
@@ -27,23 +27,30 @@ array-share-prefix-destinations c = destinations-within (c .before .before .deco
 slice-aggregate-study-refusal-2 : tie.Need-slice-aggregate-study-refusal-2
 slice-aggregate-study-refusal-2 c = destinations-counted (c .before .before .before .decode .ensures)
 
+accepted-section-requires : tie.Need-accepted-section-requires
+accepted-section-requires c κs = let decoded = c .before .before .before .decode .ensures in (sym (decoded .refusal-is) ∙ c .before .before .if1 .left, search needs)
+
 mul-trips : tie.Need-mul-trips
-mul-trips c = omega (arith, trips-within (c .before .before .before .decode .ensures), c .before .before .before .decode .ensures .entries-long)
+mul-trips c =
+    let decoded = c .before .before .before .before .decode .ensures in
+    omega (arith, trips-within decoded, decoded .entries-long)
 
 array-share-prefix-trips : tie.Need-array-share-prefix-trips
-array-share-prefix-trips c = trips-within (c .before .before .before .decode .ensures)
+array-share-prefix-trips c = trips-within (c .before .before .before .before .decode .ensures)
 
 slice-aggregate-study-refusal-3 : tie.Need-slice-aggregate-study-refusal-3
-slice-aggregate-study-refusal-3 c = trips-counted (c .before .before .before .before .decode .ensures)
+slice-aggregate-study-refusal-3 c = trips-counted (c .before .before .before .before .before .decode .ensures)
 
 study-refusal-requires : tie.Need-study-refusal-requires
-study-refusal-requires c κs = decoded-sized (c .before .before .before .before .decode .ensures)
+study-refusal-requires c κs =
+    let decoded = c .before .before .before .before .before .decode .ensures in
+    (decoded-sized decoded, rw (c .before .accepted-section .ensures) (decoded-closed decoded))
 
 returns-2 : tie.Need-returns-2
 returns-2 c =
-    let decoded = c .before .before .before .before .before .decode .ensures in
-    let opened = sym (decoded .refusal-is) ∙ c .before .before .before .before .if1 .left in
-    let number = rw (decoded .entries-held, decoded .nodes-held, decoded .links-held, decoded .nodes-are) at (c .study-refusal .ensures) in
+    let decoded = c .before .before .before .before .before .before .decode .ensures in
+    let opened = sym (decoded .refusal-is) ∙ c .before .before .before .before .before .if1 .left in
+    let number = rw (decoded .entries-held, c .before .before .accepted-section .ensures, decoded .nodes-held, decoded .links-held, decoded .nodes-are) at (c .study-refusal .ensures) in
     number ∙ sym (check-opened _ opened)
 
 pub check-spec : {M : Type 1} → statement M
@@ -56,6 +63,7 @@ check-spec =
     slice-aggregate-study-refusal
     array-share-prefix-destinations
     slice-aggregate-study-refusal-2
+    accepted-section-requires
     mul-trips
     array-share-prefix-trips
     slice-aggregate-study-refusal-3

@@ -1,6 +1,9 @@
 -- `network::decode` meets its contract: the sections of the file are decoded one by one.
 use borrow.Author.Needs.{needs}
 use denote.Ref.{now}
+use mathlib.Core.Path.{_≡_, sym, _∙_}
+use Rattle.study.specs.Laws.{accepted, nodes-field, links-field, destinations-field}
+use Rattle.study.specs.Questions.{refusal}
 use Rattle.questions.specs.Laws.Questions.{entries-fit}
 use Rattle.network.specs.Decoded.{Counts}
 use Rattle.network.specs.Laws.Decoding.{counts, links-there, destinations-there, trips-there, decoded, decoded-refused}
@@ -13,56 +16,71 @@ refusal-requires c κs = search needs
 returns : tie.Need-returns
 returns c = decoded-refused _ _ (c .before .refusal .ensures) (c .if1 .taken) (c .before .before .before .pre)
 
-node-count-requires : tie.Need-node-count-requires
-node-count-requires c κs = search needs
+-- The file is accepted where the code goes on.
+opened : (c : tie.Else1) → refusal (now (c .before .before .before .args .file)) ≡ 0
+opened c = sym (c .before .refusal .ensures) ∙ c .if1 .left
 
-link-count-requires : tie.Need-link-count-requires
-link-count-requires c κs = search needs
+node-field-requires : tie.Need-node-field-requires
+node-field-requires c κs = accepted _ (opened c) .length-least
 
-destination-count-requires : tie.Need-destination-count-requires
-destination-count-requires c κs = search needs
+link-field-requires : tie.Need-link-field-requires
+link-field-requires c κs = accepted _ (opened (c .before)) .length-least
+
+destination-field-requires : tie.Need-destination-field-requires
+destination-field-requires c κs = accepted _ (opened (c .before .before)) .length-least
 
 -- From where the counts are known back to the entry.
-abbrev start : tie.After-destination-count → tie.Start
+abbrev start : tie.After-destination-field → tie.Start
 start c = c .before .before .before .before .before .before
 
 -- The counts of the file.
-counted : (c : tie.After-destination-count) → Counts (now (start c .args .file)) (c .before .before .node-count .result) (c .before .link-count .result) (c .destination-count .result)
-counted c = counts _ (c .before .before .node-count .ensures) (c .before .link-count .ensures) (c .destination-count .ensures)
+counted : (c : tie.After-destination-field) → Counts (now (start c .args .file)) (c .before .before .node-field .result) (c .before .link-field .result) (c .destination-field .result)
+counted c =
+    let open′ = opened (c .before .before .before) in
+    counts _ (c .before .before .node-field .ensures .0 ∙ sym (nodes-field _ open′)) (c .before .link-field .ensures .0 ∙ sym (links-field _ open′))
+    (c .destination-field .ensures .0 ∙ sym (destinations-field _ open′))
 
-links-requires : tie.Need-links-requires
-links-requires c κs = search needs
+accepted-section-requires : tie.Need-accepted-section-requires
+accepted-section-requires c κs = (opened (c .before .before .before), search needs)
 
-destinations-requires : tie.Need-destinations-requires
-destinations-requires c κs = search needs
+accepted-section-requires-2 : tie.Need-accepted-section-requires-2
+accepted-section-requires-2 c κs = (opened (c .before .before .before .before), search needs)
 
-trips-requires : tie.Need-trips-requires
-trips-requires c κs = search needs
+accepted-section-requires-3 : tie.Need-accepted-section-requires-3
+accepted-section-requires-3 c κs = (opened (c .before .before .before .before .before), search needs)
+
+accepted-section-requires-4 : tie.Need-accepted-section-requires-4
+accepted-section-requires-4 c κs = (opened (c .before .before .before .before .before .before), search needs)
 
 decode-links-requires : tie.Need-decode-links-requires
 decode-links-requires c κs =
     let parted = c .before in
-    let after = parted .before .before .before in
-    (counted after .links-most, links-there (counted after) (parted .before .before .links .ensures), start after .pre .0)
+    let after = parted .before .before .before .before in
+    (counted after .links-most, links-there (counted after) (parted .before .before .before .accepted-section .ensures), start after .pre .0)
+
+decode-closed-requires : tie.Need-decode-closed-requires
+decode-closed-requires c κs =
+    let parted = c .before .before .before in
+    (counted (parted .before .before .before .before) .links-most, c .before .decode-links .ensures)
 
 decode-destinations-requires : tie.Need-decode-destinations-requires
 decode-destinations-requires c κs =
-    let parted = c .before .before .before in
-    let after = parted .before .before .before in
-    (counted after .destinations-most, destinations-there (counted after) (parted .before .destinations .ensures), start after .pre .1)
+    let parted = c .before .before .before .before .before in
+    let after = parted .before .before .before .before in
+    (counted after .destinations-most, destinations-there (counted after) (parted .before .before .accepted-section2 .ensures), start after .pre .1)
 
 decode-trips-requires : tie.Need-decode-trips-requires
 decode-trips-requires c κs =
-    let parted = c .before .before .before .before .before in
-    let after = parted .before .before .before in
-    (entries-fit (counted after .nodes-most) (counted after .destinations-most), trips-there (counted after) (parted .trips .ensures), start after .pre .2)
+    let parted = c .before .before .before .before .before .before .before in
+    let after = parted .before .before .before .before in
+    (entries-fit (counted after .nodes-most) (counted after .destinations-most), trips-there (counted after) (parted .before .accepted-section3 .ensures), start after .pre .2)
 
 returns-2 : tie.Need-returns-2
 returns-2 c =
-    let parted = c .before .before .before .before .before .before in
-    let after = parted .before .before .before in
-    decoded _ _ (after .before .before .before .before .refusal .ensures) (counted after) (parted .before .before .links .ensures)
-    (parted .before .destinations .ensures) (parted .trips .ensures) (c .before .before .before .before .decode-links .ensures)
+    let parted = c .before .before .before .before .before .before .before .before in
+    let after = parted .before .before .before .before in
+    decoded _ _ (after .before .before .before .before .refusal .ensures) (counted after) (parted .before .before .before .accepted-section .ensures)
+    (parted .before .before .accepted-section2 .ensures) (parted .before .accepted-section3 .ensures) (parted .accepted-section4 .ensures) (c .before .before .before .before .decode-closed .ensures)
     (c .before .before .decode-destinations .ensures) (c .decode-trips .ensures)
 
 pub decode-spec : {M : Type 1} → statement M
@@ -71,13 +89,15 @@ decode-spec =
     (tie.spec
     refusal-requires
     returns
-    node-count-requires
-    link-count-requires
-    destination-count-requires
-    links-requires
-    destinations-requires
-    trips-requires
+    node-field-requires
+    link-field-requires
+    destination-field-requires
+    accepted-section-requires
+    accepted-section-requires-2
+    accepted-section-requires-3
+    accepted-section-requires-4
     decode-links-requires
+    decode-closed-requires
     decode-destinations-requires
     decode-trips-requires
     returns-2)

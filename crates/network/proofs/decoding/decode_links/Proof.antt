@@ -1,10 +1,11 @@
 -- `network::decode_links` meets its contract.
 use borrow.Author.Needs.{needs}
 use denote.Ref.{now}
+use mathlib.Core.List.{[]}
 use mathlib.Core.Path.{_≡_}
 use native.Mathlib.Omega.{arith}
 use Prim.Native.Nat.{_≤_, _-_}
-use Rattle.study.specs.Fields.{HasLink}
+use Rattle.study.specs.Fields.{HasLink, closedByte}
 use Rattle.calls.specs.Study.{linkRow}
 use Rattle.theory.specs.Finite.{tabulate}
 use Rattle.network.specs.Decoded.{Holds, linkRowsIn, HasLinks}
@@ -13,7 +14,7 @@ use Rattle.network.proofs.decoding.decode_links.Statement.{statement}
 use Rattle.network.proofs.decoding.decode_links.Tie as tie
 
 abbrev Inv-loop : tie.InvT-loop
-Inv-loop bytes m links₀ l₀ links l = (l ≤ m) × Holds 512 (linkRowsIn bytes l) links
+Inv-loop bytes m links₀ l₀ links l = (l ≤ m) × Holds 512 (linkRowsIn bytes [] l) links
 
 abbrev μ-loop : tie.MeasureT-loop
 μ-loop bytes m links₀ l₀ links l = m - l
@@ -55,11 +56,11 @@ loop-less : tie.Need-loop-less Inv-loop μ-loop
 loop-less c = search needs
 
 loop-again : tie.Need-loop-again Inv-loop μ-loop
-unfolding linkRowsIn linkRow
+unfolding linkRowsIn linkRow closedByte
 loop-again c =
     let bytes = now (c .before .before .before .before .before .before .before .before .args .bytes) in
     let loop = c .before .before .before .before .before .before .loop in
-    (search needs, holds-next 512 (linkRow bytes) (loop .l) (omega arith) (loop .inv .1) (cc))
+    (search needs, holds-next 512 (linkRow bytes []) (loop .l) (omega arith) (loop .inv .1) (cc))
 
 returns : tie.Need-returns Inv-loop μ-loop
 returns c =

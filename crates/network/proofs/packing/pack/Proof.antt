@@ -5,7 +5,10 @@ use lib.ListN.{length}
 use mathlib.Core.Path.{_≡_, sym, _∙_}
 use native.Mathlib.Omega.{arith}
 use Prim.Native.Nat.{_≤_}
+use Rattle.study.specs.Laws.{accepted, nodes-field, links-field, destinations-field}
+use Rattle.study.specs.Questions.{refusal}
 use Rattle.calls.specs.Calls.{checkNumber}
+use Rattle.calls.specs.Laws.Questions.{check-passed}
 use Rattle.calls.specs.Questions.{packedSize}
 use Rattle.network.specs.Decoded.{Counts}
 use Rattle.network.specs.Laws.Decoding.{counts}
@@ -23,36 +26,53 @@ returns c = pack-refused _ _ (c .before .check .ensures) (c .if1 .taken)
 passed : (c : tie.Else1) → checkNumber (now (c .before .before .before .before .args .file)) ≡ 0
 passed c = sym (c .before .check .ensures) ∙ c .if1 .left
 
-node-count-requires : tie.Need-node-count-requires
-node-count-requires c κs = search needs
+-- So its file is accepted.
+opened : (c : tie.Else1) → refusal (now (c .before .before .before .before .args .file)) ≡ 0
+opened c = check-passed _ (passed c) .described .opened
 
-link-count-requires : tie.Need-link-count-requires
-link-count-requires c κs = search needs
+node-field-requires : tie.Need-node-field-requires
+node-field-requires c κs = accepted _ (opened c) .length-least
 
-destination-count-requires : tie.Need-destination-count-requires
-destination-count-requires c κs = search needs
+link-field-requires : tie.Need-link-field-requires
+link-field-requires c κs = accepted _ (opened (c .before)) .length-least
 
-counted : (c : tie.After-destination-count) → Counts (now (c .before .before .before .before .before .before .before .args .file)) (c .before .before .node-count .result) (c .before .link-count .result) (c .destination-count .result)
+destination-field-requires : tie.Need-destination-field-requires
+destination-field-requires c κs = accepted _ (opened (c .before .before)) .length-least
+
+counted : (c : tie.After-destination-field) → Counts (now (c .before .before .before .before .before .before .before .args .file)) (c .before .before .node-field .result) (c .before .link-field .result) (c .destination-field .result)
 counted c =
-    counts _ (c .before .before .node-count .ensures) (c .before .link-count .ensures) (c .destination-count .ensures)
+    let open′ = opened (c .before .before .before) in
+    counts _ (c .before .before .node-field .ensures .0 ∙ sym (nodes-field _ open′)) (c .before .link-field .ensures .0 ∙ sym (links-field _ open′))
+    (c .destination-field .ensures .0 ∙ sym (destinations-field _ open′))
 
-packed-size-requires : tie.Need-packed-size-requires
-packed-size-requires c κs = (counted c .nodes-most, counted c .links-most, counted c .destinations-most)
+version-requires : tie.Need-version-requires
+version-requires c κs = accepted _ (opened (c .before .before .before)) .length-least
+
+places-of-requires : tie.Need-places-of-requires
+places-of-requires c κs =
+    let counts = counted (c .before) in
+    (rw (c .version .ensures) (accepted _ (opened (c .before .before .before .before)) .version-known), (counts .nodes-most, counts .links-most, counts .destinations-most))
+
+-- The end of the packed study is its packed size.
+end-is : (c : tie.After-places-of) → c .places-of .result .end ≡ packedSize (now (c .before .before .before .before .before .before .before .before .before .args .file))
+end-is c = rw (c .places-of .ensures, c .before .version .ensures) (size-is (counted (c .before .before)))
 
 returns-2 : tie.Need-returns-2
-returns-2 c = pack-short _ _ (passed (c .before .before .before .before .before)) (omega (arith, size-is (counted (c .before .before))))
+returns-2 c = pack-short _ _ (passed (c .before .before .before .before .before .before .before)) (omega (arith, end-is (c .before .before)))
 
-held : (c : tie.Else2) → packedSize (now (c .before .before .before .before .before .before .before .before .before .args .file)) ≤ length (now (c .before .before .before .before .before .before .before .before .before .args .output))
-held c = omega (arith, size-is (counted (c .before .before)))
+-- The output is long enough.
+held : (c : tie.Else2) → packedSize (now (c .before .before .before .before .before .before .before .before .before .before .before .args .file)) ≤ length (now (c .before .before .before .before .before .before .before .before .before .before .before .args .output))
+held c = omega (arith, end-is (c .before .before))
 
 write-study-requires : tie.Need-write-study-requires
-write-study-requires c κs = (counted (c .before .before .before), held (c .before))
+write-study-requires c κs =
+    ((counted (c .before .before .before .before .before), opened (c .before .before .before .before .before .before .before .before)), held (c .before))
 
 same-length : tie.Need-same-length
 same-length c = search needs
 
 returns-3 : tie.Need-returns-3
-returns-3 c = pack-written _ _ (passed (c .before .before .before .before .before .before .before .before .before)) (held (c .before .before .before .before)) (c .before .before .write-study .ensures)
+returns-3 c = pack-written _ _ (passed (c .before .before .before .before .before .before .before .before .before .before .before)) (held (c .before .before .before .before)) (c .before .before .write-study .ensures)
 
 pub pack-spec : {M : Type 1} → statement M
 pack-spec =
@@ -60,10 +80,11 @@ pack-spec =
     (tie.spec
     check-requires
     returns
-    node-count-requires
-    link-count-requires
-    destination-count-requires
-    packed-size-requires
+    node-field-requires
+    link-field-requires
+    destination-field-requires
+    version-requires
+    places-of-requires
     returns-2
     write-study-requires
     same-length

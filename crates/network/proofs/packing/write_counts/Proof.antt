@@ -29,7 +29,7 @@ unfolding bytes16
 returns c =
     let start = c .before .before .before .before .before .before .before .before .before .before .before .before .before .before .before .before .before in
     let old = now (start .args .output) in
-    let v = bytes16 1 in
+    let v = bytes16 (start .args .version) in
     let n = bytes16 (start .args .n) in
     let m = bytes16 (start .args .m) in
     let p = bytes16 (start .args .p) in

@@ -1,75 +1,98 @@
 -- `network::packing::write_header` meets its contract: each pair extends the bytes written.
 use borrow.Author.Needs.{needs}
+use borrow.Author.Tests.{lt-ltb, le-ltb}
 use denote.Ref.{now}
-use mathlib.Core.List.{_++_}
-use mathlib.Core.Path.{refl}
+use lib.ListN.{length}
 use native.Mathlib.Omega.{arith}
-use Prim.Native.Nat.{_+_, _*_}
-use Rattle.calls.specs.Pack.{bytes16, bytes32, packedHeader}
-use Rattle.network.specs.Laws.Packing.{overwritten-more, size-fits}
+use Prim.Native.Nat.{_≤_, _<_}
+use Rattle.study.specs.Versions.{formOf}
+use Rattle.network.specs.Laws.Packing.{places-ordered, pairs-written, header-written, closed-header-written}
 use Rattle.network.proofs.packing.write_header.Statement.{statement}
 use Rattle.network.proofs.packing.write_header.Tie as tie
 
-mul-links-size : tie.Need-mul-links-size
-mul-links-size c = search needs
+places-of-requires : tie.Need-places-of-requires
+places-of-requires c κs = (c .before .pre .0, c .before .pre .2)
 
-mul-destinations-size : tie.Need-mul-destinations-size
-mul-destinations-size c = search needs
+-- The places rise, and the header's first 32 bytes are there.
+order : (c : tie.After-places-of) →
+    let r = c .places-of .result in
+    (r .links ≤ r .destinations) × (r .destinations ≤ r .trips) × (r .trips ≤ r .closed) × (r .closed ≤ r .end)
+order c = rw (c .places-of .ensures) (places-ordered _ _ _ _)
 
-mul-trips-size : tie.Need-mul-trips-size
-mul-trips-size c =
-    let start = c .before in
-    omega (arith, size-fits {n = start .args .n} {p = start .args .p} (start .pre .1 .0) (start .pre .1 .2))
-
-add-destinations : tie.Need-add-destinations
-add-destinations c = search needs
-
-add-trips : tie.Need-add-trips
-add-trips c = search needs
+long : (c : tie.After-places-of) → 32 ≤ length (now (c .before .before .args .output))
+long c = let given = c .before .before .pre in omega (arith, given .1, given .0 .pairs, given .0 .some-sections)
 
 write-counts-requires : tie.Need-write-counts-requires
-write-counts-requires c κs = search needs
+write-counts-requires c κs = omega (arith, long (c .before))
 
 write-pair-requires : tie.Need-write-pair-requires
-write-pair-requires c κs = search needs
+write-pair-requires c κs = (omega (arith, long (c .before .before .before .before .before), c .before .before .before .write-counts .kept .0), order (c .before .before .before .before .before) .0)
 
 write-pair-requires-2 : tie.Need-write-pair-requires-2
-write-pair-requires-2 c κs = search needs
+write-pair-requires-2 c κs =
+    (omega (arith, long (c .before .before .before .before .before .before .before .before .before), c .before .before .before .before .before .before .before .write-counts .kept .0, c .before .before .before .write-pair .kept .0), order (c .before .before .before .before .before .before .before .before .before) .1)
 
 write-pair-requires-3 : tie.Need-write-pair-requires-3
-write-pair-requires-3 c κs = search needs
+write-pair-requires-3 c κs =
+    let placed = c .before .before .before .before .before .before .before .before .before .before .before .before .before in (
+      omega (arith, long placed, c .before .before .before .before .before .before .before .before .before .before .before .write-counts .kept .0, c .before .before .before .before .before .before .before .write-pair .kept .0, c .before .before .before .write-pair2 .kept .0),
+      order placed .2,
+    )
+
+form-of-requires : tie.Need-form-of-requires
+form-of-requires c κs = let known = c .before .before .before .before .before .before .before .before .before .before .before .before .before .before .before .before .before .before .pre .0 in (known .least, known .most)
+
+-- Where the code finds a fourth section, the version has it.
+some-closed : (c : tie.Then1) → 3 < formOf (c .before .before .before .before .before .before .before .before .before .before .before .before .before .before .before .before .before .before .before .before .before .args .version) .sections
+some-closed c = rw (← c .before .before .form-of .ensures) (c .if1 .taken)
+
+write-pair-requires-4 : tie.Need-write-pair-requires-4
+write-pair-requires-4 c κs =
+    let placed = c .before .before .before .before .before .before .before .before .before .before .before .before .before .before .before .before .before .before .before .before in
+    let given = placed .before .before .pre in
+    let counts = c .before .before .before .before .before .before .before .before .before .before .before .before .before .before .before .before .before .before .write-counts .kept .0 in
+    let one = c .before .before .before .before .before .before .before .before .before .before .before .before .before .before .write-pair .kept .0 in
+    let two = c .before .before .before .before .before .before .before .before .before .before .write-pair2 .kept .0 in
+    let three = c .before .before .before .before .before .before .write-pair3 .kept .0 in
+    (omega (arith, given .1, given .0 .pairs, some-closed (c .before)), order placed .3)
 
 same-length : tie.Need-same-length
 same-length c = search needs
 
 returns : tie.Need-returns
-unfolding bytes16 bytes32 packedHeader
 returns c =
-    let start = c .before .before .before .before .before .before .before .before .before .before .before .before .before .before .before .before .before in
-    let old = now (start .args .output) in
-    let n = start .args .n in
-    let m = start .args .m in
-    let p = start .args .p in
-    let counts = bytes16 1 ++ bytes16 n ++ bytes16 m ++ bytes16 p in
-    let links = bytes32 32 ++ bytes32 (10 * m) in
-    let destinations = bytes32 (32 + 10 * m) ++ bytes32 (2 * p) in
-    let trips = bytes32 (32 + 10 * m + 2 * p) ++ bytes32 (2 * p * n) in
-    let two = overwritten-more old counts links 8 refl (omega (arith, start .pre .0)) (c .before .before .before .before .before .before .before .before .before .before .before .before .before .before .write-counts .ensures) (c .before .before .before .before .before .before .before .before .before .before .write-pair .ensures) in
-    let three = overwritten-more old (counts ++ links) destinations 16 refl (omega (arith, start .pre .0)) two (c .before .before .before .before .before .before .write-pair2 .ensures) in
-    overwritten-more old (counts ++ links ++ destinations) trips 24 refl (omega (arith, start .pre .0)) three (c .before .before .write-pair3 .ensures)
+    let then = c .before .before .before .before in
+    let start = c .before .before .before .before .before .before .before .before .before .before .before .before .before .before .before .before .before .before .before .before .before .before .before .before .before in
+    let places = c .before .before .before .before .before .before .before .before .before .before .before .before .before .before .before .before .before .before .before .before .before .before .before .places-of .ensures in
+    closed-header-written _ _ _ _ _ (start .pre .0) (start .pre .1) (lt-ltb _ _ (some-closed then))
+    (pairs-written _ _ _ _ _ (start .pre .0) (start .pre .1) (c .before .before .before .before .before .before .before .before .before .before .before .before .before .before .before .before .before .before .before .before .before .write-counts .ensures) (rw places at (c .before .before .before .before .before .before .before .before .before .before .before .before .before .before .before .before .before .write-pair .ensures))
+    (rw places at (c .before .before .before .before .before .before .before .before .before .before .before .before .before .write-pair2 .ensures)) (rw places at (c .before .before .before .before .before .before .before .before .before .write-pair3 .ensures)))
+    (rw places at (c .before .before .write-pair4 .ensures))
+
+same-length-2 : tie.Need-same-length-2
+same-length-2 c = search needs
+
+returns-2 : tie.Need-returns-2
+returns-2 c =
+    let start = c .before .before .before .before .before .before .before .before .before .before .before .before .before .before .before .before .before .before .before .before .before in
+    let places = c .before .before .before .before .before .before .before .before .before .before .before .before .before .before .before .before .before .before .before .places-of .ensures in
+    let none = rw (c .before .before .form-of .ensures) at (c .if1 .left) in
+    header-written _ _ _ _ _ (start .pre .0) (start .pre .1) (le-ltb _ _ none)
+    (pairs-written _ _ _ _ _ (start .pre .0) (start .pre .1) (c .before .before .before .before .before .before .before .before .before .before .before .before .before .before .before .before .before .write-counts .ensures) (rw places at (c .before .before .before .before .before .before .before .before .before .before .before .before .before .write-pair .ensures))
+    (rw places at (c .before .before .before .before .before .before .before .before .before .write-pair2 .ensures)) (rw places at (c .before .before .before .before .before .write-pair3 .ensures)))
 
 pub write-header-spec : {M : Type 1} → statement M
 write-header-spec =
     tie.close
     (tie.spec
-    mul-links-size
-    mul-destinations-size
-    mul-trips-size
-    add-destinations
-    add-trips
+    places-of-requires
     write-counts-requires
     write-pair-requires
     write-pair-requires-2
     write-pair-requires-3
+    form-of-requires
+    write-pair-requires-4
     same-length
-    returns)
+    returns
+    same-length-2
+    returns-2)

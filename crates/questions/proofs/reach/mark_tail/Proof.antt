@@ -4,17 +4,11 @@ use borrow.Author.Needs.{needs}
 use Rattle.questions.proofs.reach.mark_tail.Statement.{statement}
 use Rattle.questions.proofs.reach.mark_tail.Tie as tie
 
-mul-own : tie.Need-mul-own
-mul-own c = search needs
+mul-had : tie.Need-mul-had
+mul-had c = search needs
 
-element-copy-out-own : tie.Need-element-copy-out-own
-element-copy-out-own c = search needs
-
-mul-both : tie.Need-mul-both
-mul-both c = search needs
-
-element-copy-out-both : tie.Need-element-copy-out-both
-element-copy-out-both c = search needs
+element-copy-out-had : tie.Need-element-copy-out-had
+element-copy-out-had c = search needs
 
 mul-marks : tie.Need-mul-marks
 mul-marks c = search needs
@@ -24,23 +18,15 @@ element-write-marks c = search needs
 
 returns : tie.Need-returns
 returns c =
-    let start = c .before .before .before in
-    link-kept _ _ _ (start .pre .2) (start .pre .0) (c .if1 .taken)
+    let start = c .before .before in
+    link-kept _ (start .args .word) _ (start .pre .1) (start .pre .0) (search needs) (c .if1 .taken)
 
 returns-2 : tie.Need-returns-2
 returns-2 c =
-    let start = c .before .before .before in
-    link-grown _ _ _ (start .pre .2) (start .pre .0) (c .if1 .left)
+    let start = c .before .before in
+    link-grown _ (start .args .word) _ (start .pre .1) (start .pre .0) (search needs) (c .if1 .left)
 
 pub mark-tail-spec : {M : Type 1} → statement M
 mark-tail-spec =
     tie.close
-    (tie.spec
-    mul-own
-    element-copy-out-own
-    mul-both
-    element-copy-out-both
-    mul-marks
-    element-write-marks
-    returns
-    returns-2)
+    (tie.spec mul-had element-copy-out-had mul-marks element-write-marks returns returns-2)

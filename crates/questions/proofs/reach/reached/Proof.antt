@@ -8,10 +8,10 @@ use Rattle.questions.proofs.reach.reached.Statement.{statement}
 use Rattle.questions.proofs.reach.reached.Tie as tie
 
 abbrev Inv-loop : tie.InvT-loop
-Inv-loop nodes links destinations marks₀ marks = Searched nodes links destinations marks
+Inv-loop nodes links destinations all-open own marks₀ marks = Searched nodes links destinations marks
 
 abbrev μ-loop : tie.MeasureT-loop
-μ-loop nodes links destinations marks₀ marks = room nodes marks
+μ-loop nodes links destinations all-open own marks₀ marks = room nodes marks
 
 mark-destinations-requires : tie.Need-mark-destinations-requires Inv-loop μ-loop
 unfolding noMarks
@@ -22,32 +22,35 @@ loop-holds c = searched-first _ _ _ _ (c .mark-destinations .ensures)
 
 sweep-up-requires : tie.Need-sweep-up-requires Inv-loop μ-loop
 sweep-up-requires c κs =
-    let start = c .before .before .before .before .before in
-    (start .pre .0 .0, start .pre .1 .0, c .before .loop .inv .whole)
+    let start = c .before .before .before .before .before .before in
+    (start .pre .0 .0, start .pre .1 .0, c .before .before .loop .inv .whole, start .pre .0 .3)
 
 returns : tie.Need-returns Inv-loop μ-loop
 returns c =
-    let start = c .before .before .before .before .before .before .before in
+    let start = c .before .before .before .before .before .before .before .before in
     let last = rw (c .if1 .taken) at (c .before .sweep-up .ensures) in
-    searched-all (ends-below _ _ (start .pre .1 .0)) (destination-below _ (now (start .args .destinations)) (start .pre .1 .1)) (c .before .before .before .loop .inv) last
+    searched-all (c .before .before .before .before .before .mark-destinations .ensures) (ends-below _ _ (start .pre .1 .0)) (destination-below _ (now (start .args .destinations)) (start .pre .1 .1)) (c .before .before .before .before .loop .inv) last
 
 sweep-down-requires : tie.Need-sweep-down-requires Inv-loop μ-loop
 sweep-down-requires c κs =
-    let start = c .before .before .before .before .before .before .before .before in
-    (start .pre .0 .0, start .pre .1 .0, c .before .before .sweep-up .ensures .whole)
+    let start = c .before .before .before .before .before .before .before .before .before .before in
+    (start .pre .0 .0, start .pre .1 .0, c .before .before .before .sweep-up .ensures .whole, start .pre .0 .3)
 
 returns-2 : tie.Need-returns-2 Inv-loop μ-loop
 returns-2 c =
-    let start = c .before .before .before .before .before .before .before .before .before .before in
-    let searched = searched-next (c .before .before .before .before .before .before .loop .inv) (c .before .before .before .before .sweep-up .ensures) in
+    let start = c .before .before .before .before .before .before .before .before .before .before .before .before in
+    let started = c .before .before .before .before .before .before .before .before .before .mark-destinations .ensures in
+    let searched = searched-next started (c .before .before .before .before .before .before .before .before .loop .inv) (c .before .before .before .before .before .sweep-up .ensures) in
     let last = rw (c .if2 .taken) at (c .before .sweep-down .ensures) in
-    searched-all (ends-below _ _ (start .pre .1 .0)) (destination-below _ (now (start .args .destinations)) (start .pre .1 .1)) searched last
+    searched-all started (ends-below _ _ (start .pre .1 .0)) (destination-below _ (now (start .args .destinations)) (start .pre .1 .1)) searched last
 
 loop-less : tie.Need-loop-less Inv-loop μ-loop
-loop-less c = omega (arith, c .before .before .before .before .sweep-up .ensures .counts, c .before .sweep-down .ensures .counts)
+loop-less c = omega (arith, c .before .before .before .before .before .sweep-up .ensures .counts, c .before .sweep-down .ensures .counts)
 
 loop-again : tie.Need-loop-again Inv-loop μ-loop
-loop-again c = searched-next (searched-next (c .before .before .before .before .before .before .loop .inv) (c .before .before .before .before .sweep-up .ensures)) (c .before .sweep-down .ensures)
+loop-again c =
+    let started = c .before .before .before .before .before .before .before .before .before .mark-destinations .ensures in
+    searched-next started (searched-next started (c .before .before .before .before .before .before .before .before .loop .inv) (c .before .before .before .before .before .sweep-up .ensures)) (c .before .sweep-down .ensures)
 
 pub reached-spec : {M : Type 1} → statement M
 reached-spec =

@@ -14,16 +14,16 @@ use Rattle.questions.proofs.reach.trips_reach.Statement.{statement}
 use Rattle.questions.proofs.reach.trips_reach.Tie as tie
 
 abbrev Inv-loop : tie.InvT-loop
-Inv-loop nodes links destinations trips marks k₀ k =
+Inv-loop nodes links destinations trips all-open marks k₀ k =
     (k ≤ length destinations) × (all k (reachTest nodes links destinations trips) ≡ true)
 
 abbrev μ-loop : tie.MeasureT-loop
-μ-loop nodes links destinations trips marks k₀ k = length destinations - k
+μ-loop nodes links destinations trips all-open marks k₀ k = length destinations - k
 
 reached-requires : tie.Need-reached-requires Inv-loop μ-loop
 reached-requires c κs =
     let start = c .before .before in
-    ((start .pre .0 .few-nodes, start .pre .0 .few-links, start .pre .0 .few-destinations), start .pre .1)
+    ((start .pre .0 .0 .few-nodes, start .pre .0 .0 .few-links, start .pre .0 .0 .few-destinations, start .pre .0 .1), start .pre .1)
 
 loop-holds : tie.Need-loop-holds Inv-loop μ-loop
 unfolding all
@@ -31,7 +31,7 @@ loop-holds c = (search needs, refl)
 
 -- The trips to destination k are there.
 row : (c : tie.In-loop Inv-loop μ-loop) → c .before .loop .k * c .before .before .before .before .before .args .nodes + c .before .before .before .before .before .args .nodes ≤ length (now (c .before .before .before .before .before .args .trips))
-row c = trips-there _ (now (c .before .before .before .before .before .args .destinations)) (now (c .before .before .before .before .before .args .trips)) _ (c .loop-test .taken) (c .before .before .before .before .before .pre .0 .entries-long)
+row c = trips-there _ (now (c .before .before .before .before .before .args .destinations)) (now (c .before .before .before .before .before .args .trips)) _ (c .loop-test .taken) (c .before .before .before .before .before .pre .0 .0 .entries-long)
 
 mul-first : tie.Need-mul-first Inv-loop μ-loop
 mul-first c = omega (arith, row c)
@@ -54,14 +54,14 @@ part-trips-marked-end c = row c
 trips-marked-requires : tie.Need-trips-marked-requires Inv-loop μ-loop
 trips-marked-requires c κs =
     let start = c .before .before .before .before .before .before .before in
-    let size = trips-count _ (now (start .args .destinations)) (now (start .args .trips)) _ (c .before .before .loop-test .taken) (start .pre .0 .entries-long) in
-    (omega (arith, start .pre .0 .few-nodes), omega (arith, start .pre .0 .few-destinations))
+    let size = trips-count _ (now (start .args .destinations)) (now (start .args .trips)) _ (c .before .before .loop-test .taken) (start .pre .0 .0 .entries-long) in
+    (omega (arith, start .pre .0 .0 .few-nodes), omega (arith, start .pre .0 .0 .few-destinations))
 
 -- The test of destination k.
 tested : (c : tie.After-trips-marked Inv-loop μ-loop) → c .trips-marked .result ≡ reachTest (c .before .before .before .before .before .before .before .before .args .nodes) (now (c .before .before .before .before .before .before .before .before .args .links)) (now (c .before .before .before .before .before .before .before .before .args .destinations)) (now (c .before .before .before .before .before .before .before .before .args .trips)) (c .before .before .before .before .loop .k)
 tested c =
     c .trips-marked .ensures
-    ∙ marks-answer _ _ _ _ (c .before .before .before .loop-test .taken) (c .before .before .before .before .before .before .before .before .pre .0 .entries-long) _ _ (c .before .before .before .before .before .reached .ensures)
+    ∙ marks-answer _ _ _ _ (c .before .before .before .loop-test .taken) (c .before .before .before .before .before .before .before .before .pre .0 .0 .entries-long) _ _ (c .before .before .before .before .before .reached .ensures)
 
 returns : tie.Need-returns Inv-loop μ-loop
 returns c = all-failed _ _ _ (search needs) (was-no (tested (c .before)) (c .if1 .taken)) ∙ sym (reach-all _ _ _ _)

@@ -1,15 +1,16 @@
 -- `questions::study_refusal` meets its contract: each question that is passed was answered yes, and the first that is not gives its number.
 use borrow.Author.Needs.{needs}
 use denote.Ref.{now}
-use mathlib.Core.Bool.{true}
+use mathlib.Core.Bool.{true, false}
+use borrow.Author.Tests.{eqb-true}
 use mathlib.Core.Path.{_≡_, _∙_}
 use native.Mathlib.Omega.{arith}
 use Rattle.study.proofs.Flags.{was-yes, was-no}
 use Rattle.theory.specs.Network.{Network}
 use Rattle.theory.specs.Study.{network}
-use Rattle.calls.specs.Questions.{endsFit, timesFit, destinationsFit, noTripsWithin, totalFits, tripsReach, studyQuestions}
-use Rattle.questions.specs.Laws.Questions.{entries-fit}
-use Rattle.questions.specs.Laws.Questions.{ends-answer, destinations-answer, within-answer, total-answer}
+use Rattle.calls.specs.Questions.{endsFit, timesFit, destinationsFit, closedFit, noTripsWithin, totalFits, tripsReach, studyQuestions}
+use Rattle.questions.specs.Laws.Questions.{entries-fit, ends-answer, destinations-answer, within-answer, total-answer}
+use Rattle.questions.specs.Laws.Reach.{none-closed}
 use Rattle.questions.proofs.refusal.study_refusal.Statement.{statement}
 use Rattle.questions.proofs.refusal.study_refusal.Tie as tie
 
@@ -17,91 +18,120 @@ use Rattle.questions.proofs.refusal.study_refusal.Tie as tie
 abbrev study : tie.Start → Network
 study c = network (c .args .nodes) (now (c .args .links)) (now (c .args .destinations)) (now (c .args .trips))
 
--- The answer to each question is that of this network,
-answer-6 : (c : tie.After-ends-fit) → c .ends-fit .result ≡ endsFit (study (c .before .before .before))
-answer-6 c = c .ends-fit .ensures ∙ ends-answer _ _ _ _
+-- The place at which the function begins, from that at which a question is passed.
+abbrev of-6 : tie.Else1 → tie.Start
+of-6 c = c .before .before .before .before .before
 
-answer-7 : (c : tie.After-times-fit) → c .times-fit .result ≡ timesFit (now (c .before .before .before .before .before .args .links))
-answer-7 c = c .times-fit .ensures
+abbrev of-7 : tie.Else2 → tie.Start
+of-7 c = of-6 (c .before .before)
 
-answer-8 : (c : tie.After-destinations-fit) → c .destinations-fit .result ≡ destinationsFit (study (c .before .before .before .before .before .before .before))
-answer-8 c = c .destinations-fit .ensures ∙ destinations-answer _ _ _ _
+abbrev of-8 : tie.Else3 → tie.Start
+of-8 c = of-7 (c .before .before)
 
-answer-9 : (c : tie.After-no-trips-within) → c .no-trips-within .result ≡ noTripsWithin (study (c .before .before .before .before .before .before .before .before .before))
-answer-9 c = c .no-trips-within .ensures ∙ within-answer _ _ _ _
+abbrev of-19 : tie.Else4 → tie.Start
+of-19 c = of-8 (c .before .before)
 
-answer-10 : (c : tie.After-total-fits) → c .total-fits .result ≡ totalFits (study (c .before .before .before .before .before .before .before .before .before .before .before))
-answer-10 c = c .total-fits .ensures ∙ total-answer _ _ _ _ (c .before .before .before .before .before .before .before .before .before .before .before .pre)
+abbrev of-9 : tie.Else5 → tie.Start
+of-9 c = of-19 (c .before .before)
 
-answer-11 : (c : tie.After-trips-reach) → c .trips-reach .result ≡ tripsReach (study (c .before .before .before .before .before .before .before .before .before .before .before .before .before))
-answer-11 c = c .trips-reach .ensures
+abbrev of-10 : tie.Else6 → tie.Start
+of-10 c = of-9 (c .before .before)
 
--- and yes where the question is passed.
-yes-6 : (c : tie.Else1) → endsFit (study (c .before .before .before .before)) ≡ true
-yes-6 c = was-yes (answer-6 (c .before)) (c .if1 .left)
+abbrev of-11 : tie.Else7 → tie.Start
+of-11 c = of-10 (c .before .before)
 
-yes-7 : (c : tie.Else2) → timesFit (now (c .before .before .before .before .before .before .args .links)) ≡ true
-yes-7 c = was-yes (answer-7 (c .before)) (c .if2 .left)
+-- The answer to each question that is passed is yes.
+yes-6 : (c : tie.Else1) → endsFit (study (of-6 c)) ≡ true
+yes-6 c = was-yes (c .before .ends-fit .ensures ∙ ends-answer _ _ _ _) (c .if1 .left)
 
-yes-8 : (c : tie.Else3) → destinationsFit (study (c .before .before .before .before .before .before .before .before)) ≡ true
-yes-8 c = was-yes (answer-8 (c .before)) (c .if3 .left)
+yes-7 : (c : tie.Else2) → timesFit (now (of-7 c .args .links)) ≡ true
+yes-7 c = search was-yes
 
-yes-9 : (c : tie.Else4) → noTripsWithin (study (c .before .before .before .before .before .before .before .before .before .before)) ≡ true
-yes-9 c = was-yes (answer-9 (c .before)) (c .if4 .left)
+yes-8 : (c : tie.Else3) → destinationsFit (study (of-8 c)) ≡ true
+yes-8 c = was-yes (c .before .destinations-fit .ensures ∙ destinations-answer _ _ _ _) (c .if3 .left)
 
-yes-10 : (c : tie.Else5) → totalFits (study (c .before .before .before .before .before .before .before .before .before .before .before .before)) ≡ true
-yes-10 c = was-yes (answer-10 (c .before)) (c .if5 .left)
+yes-19 : (c : tie.Else4) → closedFit (now (of-19 c .args .closed)) ≡ true
+yes-19 c = search was-yes
 
-yes-11 : (c : tie.Else6) → tripsReach (study (c .before .before .before .before .before .before .before .before .before .before .before .before .before .before)) ≡ true
-yes-11 c = was-yes (answer-11 (c .before)) (c .if6 .left)
+yes-9 : (c : tie.Else5) → noTripsWithin (study (of-9 c)) ≡ true
+yes-9 c = was-yes (c .before .no-trips-within .ensures ∙ within-answer _ _ _ _) (c .if5 .left)
+
+yes-10 : (c : tie.Else6) → totalFits (study (of-10 c)) ≡ true
+yes-10 c = was-yes (c .before .total-fits .ensures ∙ total-answer _ _ _ _ (of-10 c .pre .0)) (c .if6 .left)
+
+yes-11 : (c : tie.Else7) → tripsReach (study (of-11 c)) ≡ true
+yes-11 c = search was-yes
 
 ends-fit-requires : tie.Need-ends-fit-requires
 ends-fit-requires c κs = search needs
 
 returns : tie.Need-returns
 unfolding studyQuestions
-returns c = rw (was-no (answer-6 (c .before)) (c .if1 .taken))
+returns c =
+    let no : endsFit (study (c .before .before .before .before .before)) ≡ false = was-no (c .before .ends-fit .ensures ∙ ends-answer _ _ _ _) (c .if1 .taken) in
+    rw no
 
 times-fit-requires : tie.Need-times-fit-requires
 times-fit-requires c κs = search needs
 
 returns-2 : tie.Need-returns-2
 unfolding studyQuestions
-returns-2 c = rw (yes-6 (c .before .before), was-no (answer-7 (c .before)) (c .if2 .taken))
+returns-2 c =
+    let no : timesFit (now (of-6 (c .before .before) .args .links)) ≡ false = search was-no in
+    rw (yes-6 (c .before .before), no)
 
 destinations-fit-requires : tie.Need-destinations-fit-requires
 destinations-fit-requires c κs = search needs
 
 returns-3 : tie.Need-returns-3
 unfolding studyQuestions
-returns-3 c = rw (yes-6 (c .before .before .before .before), yes-7 (c .before .before), was-no (answer-8 (c .before)) (c .if3 .taken))
+returns-3 c =
+    let no : destinationsFit (study (of-7 (c .before .before))) ≡ false = was-no (c .before .destinations-fit .ensures ∙ destinations-answer _ _ _ _) (c .if3 .taken) in
+    rw (yes-6 (c .before .before .before .before), yes-7 (c .before .before), no)
 
-no-trips-within-requires : tie.Need-no-trips-within-requires
-no-trips-within-requires c κs = (c .before .before .before .before .before .before .before .before .pre .entries-long, destinations-answer _ _ _ _ ∙ yes-8 c)
+closed-fit-requires : tie.Need-closed-fit-requires
+closed-fit-requires c κs = search needs
 
 returns-4 : tie.Need-returns-4
 unfolding studyQuestions
-returns-4 c = rw (yes-6 (c .before .before .before .before .before .before), yes-7 (c .before .before .before .before), yes-8 (c .before .before), was-no (answer-9 (c .before)) (c .if4 .taken))
+returns-4 c =
+    let no : closedFit (now (of-8 (c .before .before) .args .closed)) ≡ false = search was-no in
+    rw (yes-6 (c .before .before .before .before .before .before), yes-7 (c .before .before .before .before), yes-8 (c .before .before), no)
 
-total-fits-requires : tie.Need-total-fits-requires
-total-fits-requires c κs =
-    let size = c .before .before .before .before .before .before .before .before .before .before .pre in
-    omega (arith, entries-fit (size .few-nodes) (size .few-destinations))
+no-trips-within-requires : tie.Need-no-trips-within-requires
+no-trips-within-requires c κs = (of-19 c .pre .0 .entries-long, destinations-answer _ _ _ _ ∙ yes-8 (c .before .before))
 
 returns-5 : tie.Need-returns-5
 unfolding studyQuestions
-returns-5 c = rw (yes-6 (c .before .before .before .before .before .before .before .before), yes-7 (c .before .before .before .before .before .before), yes-8 (c .before .before .before .before), yes-9 (c .before .before), was-no (answer-10 (c .before)) (c .if5 .taken))
+returns-5 c =
+    let no : noTripsWithin (study (of-19 (c .before .before))) ≡ false = was-no (c .before .no-trips-within .ensures ∙ within-answer _ _ _ _) (c .if5 .taken) in
+    rw (yes-6 (c .before .before .before .before .before .before .before .before), yes-7 (c .before .before .before .before .before .before), yes-8 (c .before .before .before .before), yes-19 (c .before .before), no)
 
-trips-reach-requires : tie.Need-trips-reach-requires
-trips-reach-requires c κs = (c .before .before .before .before .before .before .before .before .before .before .before .before .pre, (ends-answer _ _ _ _ ∙ yes-6 (c .before .before .before .before .before .before .before .before), destinations-answer _ _ _ _ ∙ yes-8 (c .before .before .before .before)))
+total-fits-requires : tie.Need-total-fits-requires
+total-fits-requires c κs =
+    let size = of-9 c .pre .0 in
+    omega (arith, entries-fit (size .few-nodes) (size .few-destinations))
 
 returns-6 : tie.Need-returns-6
 unfolding studyQuestions
-returns-6 c = rw (yes-6 (c .before .before .before .before .before .before .before .before .before .before), yes-7 (c .before .before .before .before .before .before .before .before), yes-8 (c .before .before .before .before .before .before), yes-9 (c .before .before .before .before), yes-10 (c .before .before), was-no (answer-11 (c .before)) (c .if6 .taken))
+returns-6 c =
+    let no : totalFits (study (of-9 (c .before .before))) ≡ false = was-no (c .before .total-fits .ensures ∙ total-answer _ _ _ _ (of-9 (c .before .before) .pre .0)) (c .if6 .taken) in
+    rw (yes-6 (c .before .before .before .before .before .before .before .before .before .before), yes-7 (c .before .before .before .before .before .before .before .before), yes-8 (c .before .before .before .before .before .before), yes-19 (c .before .before .before .before), yes-9 (c .before .before), no)
+
+trips-reach-requires : tie.Need-trips-reach-requires
+trips-reach-requires c κs =
+    let start = of-10 c in
+    ((start .pre .0, λ none. none-closed (now (start .args .links)) (now (start .args .closed)) (start .pre .1) (eqb-true _ _ none)), (ends-answer _ _ _ _ ∙ yes-6 (c .before .before .before .before .before .before .before .before .before .before), destinations-answer _ _ _ _ ∙ yes-8 (c .before .before .before .before .before .before)))
 
 returns-7 : tie.Need-returns-7
 unfolding studyQuestions
-returns-7 c = rw (yes-6 (c .before .before .before .before .before .before .before .before .before .before), yes-7 (c .before .before .before .before .before .before .before .before), yes-8 (c .before .before .before .before .before .before), yes-9 (c .before .before .before .before), yes-10 (c .before .before), yes-11 c)
+returns-7 c =
+    let no : tripsReach (study (of-10 (c .before .before))) ≡ false = search was-no in
+    rw (yes-6 (c .before .before .before .before .before .before .before .before .before .before .before .before), yes-7 (c .before .before .before .before .before .before .before .before .before .before), yes-8 (c .before .before .before .before .before .before .before .before), yes-19 (c .before .before .before .before .before .before), yes-9 (c .before .before .before .before), yes-10 (c .before .before), no)
+
+returns-8 : tie.Need-returns-8
+unfolding studyQuestions
+returns-8 c = rw (yes-6 (c .before .before .before .before .before .before .before .before .before .before .before .before), yes-7 (c .before .before .before .before .before .before .before .before .before .before), yes-8 (c .before .before .before .before .before .before .before .before), yes-19 (c .before .before .before .before .before .before), yes-9 (c .before .before .before .before), yes-10 (c .before .before), yes-11 c)
 
 pub study-refusal-spec : {M : Type 1} → statement M
 study-refusal-spec =
@@ -113,10 +143,12 @@ study-refusal-spec =
     returns-2
     destinations-fit-requires
     returns-3
-    no-trips-within-requires
+    closed-fit-requires
     returns-4
-    total-fits-requires
+    no-trips-within-requires
     returns-5
-    trips-reach-requires
+    total-fits-requires
     returns-6
-    returns-7)
+    trips-reach-requires
+    returns-7
+    returns-8)

@@ -8,7 +8,8 @@ use lib.ListN.{length}
 use Rattle.study.proofs.Flags.{was-yes, was-no}
 use Rattle.calls.specs.Questions.{shareFits}
 use Rattle.travel.specs.Links.{listFits}
-use Rattle.questions.specs.Laws.Table.{share-most, limit-fits, refused-14, refused-15, refused-16, accepted}
+use Rattle.questions.specs.Rows.{rowsConserve}
+use Rattle.questions.specs.Laws.Table.{share-most, limit-fits, refused-14, refused-15, refused-16, refused-20, accepted}
 use Rattle.questions.proofs.table.table_refusal.Statement.{statement}
 use Rattle.questions.proofs.table.table_refusal.Tie as tie
 
@@ -70,11 +71,31 @@ returns-3 c = let after = c .before .before in
       λ e. absurd (omega arith),
     )
 
+rows-permit-requires : tie.Need-rows-permit-requires
+rows-permit-requires c κs = of-totals (of-fit (c .before .before)) .pre .0 .holds
+
+-- Question 16 is answered yes.
+conserve :
+    (c : tie.Else3) →
+    let x = of-totals (of-fit (c .before .before)) .args in
+    rowsConserve (x .nodes) (x .links .now) (x .destinations .now) (x .trips .now) (x .share) (x .table .now) ≡ true
+conserve c = was-yes (c .before .rows-conserve .ensures) (c .if3 .left)
+
 returns-4 : tie.Need-returns-4
-returns-4 c = let after = c .before .before in
+returns-4 c = let passed = c .before .before in
+    let after = passed .before .before in
     let at = of-fit after in (
-      accepted _ _ _ _ _ (of-totals at .args .share) (in-range (at .before .before)) (of-totals at .pre .1 .0) (at .write-totals .ensures .0) (fit after)
-          (was-yes (c .before .rows-conserve .ensures) (c .if3 .left)),
+      refused-20 _ _ _ _ _ (of-totals at .args .share) (in-range (at .before .before)) (of-totals at .pre .1 .0) (at .write-totals .ensures .0) (fit after) (conserve passed)
+          (was-no (c .before .rows-permit .ensures) (c .if4 .taken)),
+      λ e. absurd (omega arith),
+    )
+
+returns-5 : tie.Need-returns-5
+returns-5 c = let passed = c .before .before in
+    let after = passed .before .before in
+    let at = of-fit after in (
+      accepted _ _ _ _ _ (of-totals at .args .share) (in-range (at .before .before)) (of-totals at .pre .1 .0) (at .write-totals .ensures .0) (fit after) (conserve passed)
+          (was-yes (c .before .rows-permit .ensures) (c .if4 .left)),
       λ e. at .write-totals .ensures .0,
     )
 
@@ -90,4 +111,6 @@ table-refusal-spec =
     returns-2
     rows-conserve-requires
     returns-3
-    returns-4)
+    rows-permit-requires
+    returns-4
+    returns-5)

@@ -96,7 +96,7 @@ higher :
     (c : tie.After-l2 Inv-loop μ-loop) →
     let after-index = index-of (c .before .before) in
     let x = after-index .before .before .before .before .before .args in
-    let l = getD (x .out .now) (128 + after-index .index .result) 0 in
+    let l = getD (x .out .now) (256 + after-index .index .result) 0 in
     (after-index .before .before .loop .l < l) × EachCandidate (x .links .now) (x .times .now) (x .lows .now) (x .j) l (c .before .keep-row .last .0)
 higher c =
     let after-low = c .before .before in

@@ -7,7 +7,7 @@ use borrow.Author.Needs.{needs}
 use lib.ListN.{length, getD}
 use Rattle.theory.specs.Study.{head, noLink}
 use Rattle.routes.specs.Next.{Unfit}
-use Rattle.routes.specs.Laws.Next.{next-none, next-at, next-sum, next-here, next-goes}
+use Rattle.routes.specs.Laws.Next.{gives, next-none, next-at, next-here, next-goes}
 use Rattle.routes.proofs.next.next_link.Statement.{statement}
 use Rattle.routes.proofs.next.next_link.Tie as tie
 
@@ -86,9 +86,7 @@ add-if1 : tie.Need-add-if1 Inv-loop μ-loop
 add-if1 c =
     let after-index = c .before .before .before .before in
     let given = after-index .before .before .before .before .pre in
-    let sum = next-sum (given .0 .0) (given .0 .1) (given .1 .1) (given .1 .2) (after-index .before .before .loop .inv)
-    (after-index .before .loop-test .taken) (after-index .index .ensures) (c .before .before .index2 .ensures) in
-    omega (arith, sum)
+    omega (arith, gives (given .0 .0) (given .0 .1) (given .1 .2) (at-link after-index .0) (c .before .before .index2 .ensures))
 
 add-l : tie.Need-add-l Inv-loop μ-loop
 add-l c = omega (arith, at-link (c .before .before .before .before .before) .1)
@@ -104,7 +102,7 @@ higher :
     (c : tie.After-l Inv-loop μ-loop) →
     let after-index = c .before .before .before .before .before .before in
     let x = after-index .before .before .before .before .args in
-    let l = getD (x .out .now) (128 + after-index .index .result) 0 in
+    let l = getD (x .out .now) (256 + after-index .index .result) 0 in
     (after-index .before .before .loop .l < l) × Unfit (x .nodes) (x .links .now) (x .times .now) (getD (x .group .now) (x .k) 0) (x .j) l
 higher c =
     let after-index2 = c .before .before .before .before in

@@ -8,7 +8,7 @@ use mathlib.Core.Logic.{⊎-elim}
 use Rattle.search.specs.Lanes.{EachSearchable}
 use Rattle.search.specs.Laws.Groups.{members-searchable}
 use Rattle.routes.specs.Table.{NextsBelow}
-use Rattle.routes.specs.Laws.Table.{groups-none, groups-more, groups-skip, groups-all}
+use Rattle.routes.specs.Laws.Table.{put-both, groups-none, groups-more, groups-skip, groups-all}
 use native.Mathlib.Nat.{mul-le-mul-right}
 use Rattle.routes.proofs.next.next_table.Statement.{statement}
 use Rattle.routes.proofs.next.next_table.Tie as tie
@@ -81,14 +81,31 @@ search-requires c κs =
 index-1-put-group : tie.Need-index-1-put-group Inv-loop μ-loop
 index-1-put-group c = search needs
 
+-- The search, from where its least times are handed on.
+abbrev search-of : tie.After-marks2 Inv-loop μ-loop → tie.After-search Inv-loop μ-loop
+search-of c = c .before .before .before .before
+
 put-group-requires : tie.Need-put-group-requires Inv-loop μ-loop
 put-group-requires c κs =
-    let after-search = c .before .before .before .before in
+    let after-search = search-of c in
     let after-group = after-search .before .before .before in
     let cleared = after-group .before .before .before in
     let (low, high, few) = span cleared in
     let kept = cleared .clear-rows .ensures in
     ((searchable after-group, after-search .search .ensures), ((start-of (turn-of cleared) .pre .0 .1 .out, kept .size, kept .put), (low, high, few)))
+
+index-1-put-closed : tie.Need-index-1-put-closed Inv-loop μ-loop
+index-1-put-closed c = search needs
+
+put-closed-requires : tie.Need-put-closed-requires Inv-loop μ-loop
+put-closed-requires c κs =
+    let after-put = c .before .before .before .before in
+    let after-search = search-of (after-put .before) in
+    let after-group = after-search .before .before .before in
+    let cleared = after-group .before .before .before in
+    let (low, high, few) = span cleared in
+    let put = after-put .put-group .ensures in
+    ((searchable after-group, after-search .search .ensures), ((start-of (turn-of cleared) .pre .0 .1 .into, put .size, put .put), (low, high, few)))
 
 add-first : tie.Need-add-first Inv-loop μ-loop
 add-first c = omega (arith, start-of (turn-of (c .before .before)) .pre .0 .0 .few-destinations, end-of (c .before .before) .before .loop-test .taken)
@@ -102,7 +119,8 @@ loop-again c =
     let done = turn-of cleared .loop .inv in
     let last = end-of cleared .group-end .ensures in
     ⊎-elim
-    (λ w. rw (w .10) (groups-more done last (cleared .clear-rows .ensures) (w .1 .result) (w .1 .ensures) (w .9 .ensures)))
+    (λ w. rw (w .15) (groups-more done last (cleared .clear-rows .ensures) (w .1 .result) (w .1 .ensures)
+    (put-both (w .1 .result) (members-searchable (start-of (turn-of cleared) .pre .0 .0) (w .1 .result) (w .1 .ensures)) (w .9 .ensures) (w .14 .ensures))))
     (λ w. rw (w .1) (groups-skip done last (cleared .clear-rows .ensures) (c .before .group-trips .ensures (omega (arith, w .0 .left)))))
     (c .if1 .came)
 
@@ -124,6 +142,8 @@ next-table-spec =
     search-requires
     index-1-put-group
     put-group-requires
+    index-1-put-closed
+    put-closed-requires
     add-first
     loop-less
     loop-again

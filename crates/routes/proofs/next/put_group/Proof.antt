@@ -1,15 +1,16 @@
 -- `next::put_group` meets its contract. The loop's invariant: the next links of the nodes below `j` are written. The measure is what is left of the
 -- nodes.
 use Prim.Native.Nat.{_-_, _≤_}
-use mathlib.Core.Path.{refl}
+use mathlib.Core.Path.{_≡_, refl}
 use native.Mathlib.Omega.{arith}
 use borrow.Author.Needs.{needs}
-use Rattle.routes.specs.Laws.Table.{Putting, put-none, put-more, put-all}
+use Rattle.routes.specs.Table.{OpenPut}
+use Rattle.routes.specs.Laws.Table.{put-none, put-more}
 use Rattle.routes.proofs.next.put_group.Statement.{statement}
 use Rattle.routes.proofs.next.put_group.Tie as tie
 
 abbrev Inv-loop : tie.InvT-loop
-Inv-loop table₀ first past nodes links times group out marks lows j₀ table j = (j ≤ nodes) × Putting nodes links times group table₀ first past j table
+Inv-loop table₀ first past nodes links times group out marks lows j₀ table j = (j ≤ nodes) × OpenPut nodes links times group j table₀ first past table
 
 abbrev μ-loop : tie.MeasureT-loop
 μ-loop table₀ first past nodes links times group out marks lows j₀ table j = nodes - j
@@ -46,9 +47,7 @@ loop-again c =
     (search needs, put-more (start .args .group .now) (start .pre .0 .0) (turn .loop .inv .1) (omega (arith, few-nodes start, c .before .before .before .loop-test .taken)) (c .put-node .ensures))
 
 returns : tie.Need-returns Inv-loop μ-loop
-returns c =
-    let start = c .before .before .before .before in
-    put-all (start .args .group .now) (start .pre .0 .0) (c .before .loop .inv .1) (start .pre .1 .1 .1) (omega arith)
+returns c = let all : c .before .loop .j ≡ c .before .before .before .before .args .nodes = omega arith in rw all at (c .before .loop .inv .1)
 
 pub put-group-spec : {M : Type 1} → statement M
 put-group-spec =

@@ -1,7 +1,7 @@
 -- `next::put_lows` meets its contract. The loop's invariant: the last 16 bits of the marks of the nodes below `j` are taken. The measure is what
 -- is left of the nodes.
 use Prim.Native.Nat.{_-_, _≤_}
-use mathlib.Core.Path.{_≡_, refl}
+use mathlib.Core.Path.{_≡_}
 use native.Mathlib.Omega.{arith}
 use borrow.Author.Needs.{needs}
 use Rattle.routes.specs.Next.{Lows}

@@ -1,10 +1,11 @@
 -- `chains::chain_links` meets its contract. The loop's invariant: the links from `l` on are in their chains. The measure is `l`.
 use Prim.Native.Nat.{_+_, _-_, _≤_, _<_}
-use mathlib.Core.Path.{_≡_}
+use mathlib.Core.Path.{_≡_, _∙_}
 use native.Mathlib.Omega.{arith}
 use borrow.Author.Needs.{needs}
 use lib.ListN.{length}
-use Rattle.search.specs.Laws.Chains.{ChainedFrom, chains-begin, chains-take, chains-end}
+use Rattle.search.specs.Chains.{endOf}
+use Rattle.search.specs.Laws.Chains.{end-row, end-node, end-place, ChainedFrom, chains-begin, chains-take, chains-end}
 use Rattle.search.proofs.chains.chain_links.Statement.{statement}
 use Rattle.search.proofs.chains.chain_links.Tie as tie
 
@@ -15,37 +16,39 @@ abbrev μ-loop : tie.MeasureT-loop
 μ-loop links end chain₀ l₀ chain l = l
 
 loop-holds : tie.Need-loop-holds Inv-loop μ-loop
-loop-holds c = (search needs, chains-begin _ _ (c .pre .2))
+loop-holds c = (search needs, chains-begin _ _ (c .pre .1))
 
 sub-l : tie.Need-sub-l Inv-loop μ-loop
 sub-l c = search needs
 
-mul-index : tie.Need-mul-index Inv-loop μ-loop
-mul-index c = search needs
+mul-end-of : tie.Need-mul-end-of Inv-loop μ-loop
+mul-end-of c = search needs
 
-mul-index-2 : tie.Need-mul-index-2 Inv-loop μ-loop
-mul-index-2 c = search needs
+shared-slice-copy-out-end-of : tie.Need-shared-slice-copy-out-end-of Inv-loop μ-loop
+shared-slice-copy-out-end-of c = search needs
 
-index-1-index : tie.Need-index-1-index Inv-loop μ-loop
-index-1-index c = search needs
+end-of-requires : tie.Need-end-of-requires Inv-loop μ-loop
+end-of-requires c κs =
+    let start = c .before .before .before in
+    (start .pre .2, end-node (start .pre .0) (start .args .end) (c .before .before .loop .l - 1) (start .pre .2) (omega arith))
 
-index-2-index : tie.Need-index-2-index Inv-loop μ-loop
-index-2-index c = search needs
+-- The end of the link
+end-is : (c : tie.After-end-of Inv-loop μ-loop) →
+    let x = c .before .before .before .before .args in
+    c .end-of .result ≡ endOf (x .links .now) (x .end) (c .before .before .before .loop .l - 1)
+end-is c = let x = c .before .before .before .before .args in c .end-of .ensures ∙ end-row (x .links .now) (x .end) (c .before .before .before .loop .l - 1)
 
-index-requires : tie.Need-index-requires Inv-loop μ-loop
-index-requires c κs = search needs
-
--- The end of the link is one of 128 nodes.
-end-node : (c : tie.After-index Inv-loop μ-loop) → c .index .result < 128
-end-node c =
+-- is one of 256 places.
+place : (c : tie.After-end-of Inv-loop μ-loop) → c .end-of .result < 256
+place c =
     let start = c .before .before .before .before in
-    omega (arith, c .index .ensures, start .pre .0 .end-node (start .args .end) (c .before .before .before .loop .l - 1) (start .pre .1) (omega arith))
+    omega (arith, end-is c, end-place (start .pre .0) (start .args .end) (c .before .before .before .loop .l - 1) (start .pre .2) (omega arith))
 
 mul-chain : tie.Need-mul-chain Inv-loop μ-loop
-mul-chain c = omega (arith, end-node c)
+mul-chain c = omega (arith, place c)
 
 element-copy-out-chain : tie.Need-element-copy-out-chain Inv-loop μ-loop
-element-copy-out-chain c = omega (arith, end-node c)
+element-copy-out-chain c = omega (arith, place c)
 
 add-chain : tie.Need-add-chain Inv-loop μ-loop
 add-chain c = search needs
@@ -60,22 +63,22 @@ cast-chain : tie.Need-cast-chain Inv-loop μ-loop
 cast-chain c = search needs
 
 mul-chain-3 : tie.Need-mul-chain-3 Inv-loop μ-loop
-mul-chain-3 c = omega (arith, end-node (c .before))
+mul-chain-3 c = omega (arith, place (c .before))
 
 element-write-chain-2 : tie.Need-element-write-chain-2 Inv-loop μ-loop
-element-write-chain-2 c = omega (arith, end-node (c .before))
+element-write-chain-2 c = omega (arith, place (c .before))
 
 loop-less : tie.Need-loop-less Inv-loop μ-loop
 loop-less c = search needs
 
 loop-again : tie.Need-loop-again Inv-loop μ-loop
 loop-again c =
-    let after-index = c .before in
-    let turn = after-index .before .before .before .loop in
-    let start = after-index .before .before .before .before in
+    let after-end = c .before in
+    let turn = after-end .before .before .before .loop in
+    let start = after-end .before .before .before .before in
     let down : turn .l ≡ turn .l - 1 + 1 = omega arith in (
       search needs,
-      chains-take _ _ (omega arith) (start .pre .0 .few-links) (after-index .index .ensures) (end-node after-index) (rw down at (turn .inv .1)),
+      chains-take _ _ (omega arith) (start .pre .0 .few-links) (end-is after-end) (place after-end) (rw down at (turn .inv .1)),
     )
 
 returns : tie.Need-returns Inv-loop μ-loop
@@ -89,11 +92,9 @@ chain-links-spec =
     μ-loop
     loop-holds
     sub-l
-    mul-index
-    mul-index-2
-    index-1-index
-    index-2-index
-    index-requires
+    mul-end-of
+    shared-slice-copy-out-end-of
+    end-of-requires
     mul-chain
     element-copy-out-chain
     add-chain

@@ -1,5 +1,5 @@
 -- `scans::search` meets its contract. The search sets out with all marks unreached, and with no node scanned. The first loop's invariant:
--- the first `k` destinations of the group are marked, and nothing else is. The second loop's: in each lane the marks are those of a search
+-- the first `k` destinations of the group are marked, and nothing else is. Then the links into closed destinations are scanned. The second loop's: in each lane the marks are those of a search
 -- under way, and no link gives its tail less than its mark by the mark that its head had when it was last scanned. The sum of those falls with
 -- each sweep that scans a node; after one that scans none the marks are the distances.
 use Prim.Native.Nat.{_-_, _≤_}
@@ -7,7 +7,7 @@ use mathlib.Core.Path.{_≡_, refl}
 use native.Mathlib.Omega.{arith}
 use borrow.Author.Needs.{needs}
 use Rattle.search.specs.Lanes.{allRowsUnreached, totals, SetOut, EachScans}
-use Rattle.search.specs.Laws.Lanes.{set-none, set-more, set-all, sweep-found}
+use Rattle.search.specs.Laws.Lanes.{set-none, set-more, set-all, enter-all, sweep-found}
 use Rattle.search.proofs.scans.search.Statement.{statement}
 use Rattle.search.proofs.scans.search.Tie as tie
 
@@ -61,21 +61,26 @@ loop-again c =
       rw (c .set-out .ensures) (set-more (start-of turn .pre .0) (c .before .before .before .loop-test .taken) (c .before .index .ensures) (turn .loop .inv .2)),
     )
 
+enter-requires : tie.Need-enter-requires Inv-loop μ-loop Inv-loop2 μ-loop2
+enter-requires c κs =
+    let turn = c .before .before in
+    let all : turn .loop .k ≡ 8 = omega arith in
+    (start-of turn .pre, set-all (start-of turn .pre .0) (rw all at (turn .loop .inv .2)))
+
 loop2-holds : tie.Need-loop2-holds Inv-loop μ-loop Inv-loop2 μ-loop2
 loop2-holds c =
-    let turn = c .before in
-    let all : turn .loop .k ≡ 8 = omega arith in
-    rw (turn .loop .inv .1) (set-all (start-of turn .pre .0) (rw all at (turn .loop .inv .2)))
+    let turn = c .before .before .before in
+    rw (turn .loop .inv .1) (enter-all (start-of turn .pre .0) (c .enter .ensures))
 
 sweep-up-requires : tie.Need-sweep-up-requires Inv-loop μ-loop Inv-loop2 μ-loop2
 sweep-up-requires c κs =
     let turn = c .before .before in
-    (start-of (turn .before .before) .pre, turn .loop2 .inv)
+    (start-of (turn .before .before .before .before) .pre, turn .loop2 .inv)
 
 sweep-down-requires : tie.Need-sweep-down-requires Inv-loop μ-loop Inv-loop2 μ-loop2
 sweep-down-requires c κs =
     let swept = c .before .before .before in
-    (start-of (swept .before .before .before .before .before) .pre, swept .sweep-up .ensures .scans)
+    (start-of (swept .before .before .before .before .before .before .before) .pre, swept .sweep-up .ensures .scans)
 
 loop2-less : tie.Need-loop2-less Inv-loop μ-loop Inv-loop2 μ-loop2
 loop2-less c =
@@ -87,7 +92,7 @@ loop2-again c = c .sweep-down .ensures .scans
 
 returns : tie.Need-returns Inv-loop μ-loop Inv-loop2 μ-loop2
 returns c =
-    let given = start-of (c .before .before .before .before .before .before) .pre .0 in
+    let given = start-of (c .before .before .before .before .before .before .before .before) .pre .0 in
     sweep-found given (c .before .sweep-up .ensures) (omega (arith, c .if1 .taken))
 
 pub search-spec : {M : Type 1} → statement M
@@ -106,6 +111,7 @@ search-spec =
     add-k
     loop-less
     loop-again
+    enter-requires
     loop2-holds
     sweep-up-requires
     sweep-down-requires

@@ -1,7 +1,7 @@
 -- `scans::visit` meets its contract. One of the node's marks is below its mark at the last scan, or none is.
 use Prim.Native.Nat.{_<_}
 use native.Mathlib.Omega.{arith}
-use Rattle.search.specs.Laws.Lanes.{above-at, each-searching, visit-none, visit-scans}
+use Rattle.search.specs.Laws.Lanes.{row-most, each-hands, above-at, each-searching, visit-none, visit-scans}
 use Rattle.search.proofs.scans.visit.Statement.{statement}
 use Rattle.search.proofs.scans.visit.Tie as tie
 
@@ -34,7 +34,14 @@ element-set-from-row c = node (c .before .before .before .before)
 scan-requires : tie.Need-scan-requires
 scan-requires c κs =
     let start = c .before .before .before .before .before in
-    (start .pre .0, (each-searching (start .pre .0 .0) (start .pre .1 .0), start .pre .1 .1))
+    let given = start .pre .0 .0 in
+    let searching = each-searching given (start .pre .1 .0) in (
+      start .pre .0,
+      (
+        (searching, omega (arith, node start), row-most _ (λ i h. searching .each i h .marked) (node start)),
+        each-hands given (start .pre .1 .1),
+      ),
+    )
 
 returns : tie.Need-returns
 returns c =

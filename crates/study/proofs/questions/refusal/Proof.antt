@@ -51,14 +51,15 @@ unfolding opening refusal
 returns-3 c = rw (yes-1 (c .before .before .before .before), yes-2 (c .before .before), was-no (c .before .counts-fit .ensures) (c .if3 .taken))
 
 sections-in-order-requires : tie.Need-sections-in-order-requires
-sections-in-order-requires c κs = header-there (c .before .before .before .before)
+sections-in-order-requires c κs = (yes-1 (c .before .before .before .before), yes-2 (c .before .before))
 
 returns-4 : tie.Need-returns-4
 unfolding opening refusal
 returns-4 c = rw (yes-1 (c .before .before .before .before .before .before), yes-2 (c .before .before .before .before), yes-3 (c .before .before), was-no (c .before .sections-in-order .ensures) (c .if4 .taken))
 
 sizes-fit-requires : tie.Need-sizes-fit-requires
-sizes-fit-requires c κs = header-there (c .before .before .before .before .before .before)
+sizes-fit-requires c κs =
+    laws.headed-by _ (yes-1 (c .before .before .before .before .before .before)) (yes-2 (c .before .before .before .before)) (laws.sections-in-order _ (yes-4 c) .header)
 
 returns-5 : tie.Need-returns-5
 unfolding opening refusal

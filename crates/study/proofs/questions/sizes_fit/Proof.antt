@@ -9,6 +9,7 @@ use native.Mathlib.Nat.{le-of-lt, mul-le-mul-left}
 use native.Mathlib.Omega.{arith}
 use lib.Dec.{eqb}
 use denote.Ref.{now}
+use Rattle.study.specs.Laws.{known}
 use Rattle.study.specs.Questions.{sizesFit}
 use Rattle.study.proofs.Flags.{and-yes, and-no}
 use Rattle.study.proofs.questions.sizes_fit.Statement.{statement}
@@ -23,6 +24,15 @@ link-field-requires c κs = search needs
 destination-field-requires : tie.Need-destination-field-requires
 destination-field-requires c κs = search needs
 
+version-requires : tie.Need-version-requires
+version-requires c κs = search needs
+
+form-of-requires : tie.Need-form-of-requires
+form-of-requires c κs = search needs
+
+closed-field-requires : tie.Need-closed-field-requires
+closed-field-requires c κs = search needs
+
 size-requires : tie.Need-size-requires
 size-requires c κs = search needs
 
@@ -32,47 +42,64 @@ size-requires-2 c κs = search needs
 size-requires-3 : tie.Need-size-requires-3
 size-requires-3 c κs = search needs
 
+size-requires-4 : tie.Need-size-requires-4
+size-requires-4 c κs = search needs
+
 mul-if1 : tie.Need-mul-if1
-mul-if1 c = search needs
+mul-if1 c =
+    let headed = c .before .before .before .before .before .before .before .before .before .before .before .pre in
+    let v = known _ (headed .version-least) (headed .version-most) in
+    let ten : c .before .before .before .before .before .form-of .result .link ≡ 10 = cc (v .link-bytes) in
+    rw ten (search needs)
 
 mul-if2 : tie.Need-mul-if2
 mul-if2 c = search needs
 
-mul-result : tie.Need-mul-result
-mul-result c = search needs
+mul-if3 : tie.Need-mul-if3
+mul-if3 c = search needs
 
-mul-result-2 : tie.Need-mul-result-2
-mul-result-2 c =
-    let n = c .before .before .before .before .before .before .before .node-field in
-    let p = c .before .before .before .before .before .destination-field in
+mul-if3-2 : tie.Need-mul-if3-2
+mul-if3-2 c =
+    let n = c .before .before .before .before .before .before .before .before .before .before .before .node-field in
+    let p = c .before .before .before .before .before .before .before .before .before .destination-field in
     omega (arith, mul-le-mul-left (2 * p .result) (le-of-lt (n .ensures .1)))
 
--- The three tests of the code, which are the definition's.
-abbrev links : tie.After-size3 → Bool
-links c = eqb (c .before .before .size .result) (10 * (c .before .before .before .before .link-field .result))
+-- The four tests of the code, which are the definition's.
+abbrev links : tie.After-size4 → Bool
+links c =
+    eqb (c .before .before .before .size .result) (c .before .before .before .before .before .form-of .result .link * (c .before .before .before .before .before .before .before .before .link-field .result))
 
-abbrev destinations : tie.After-size3 → Bool
-destinations c = eqb (c .before .size2 .result) (2 * (c .before .before .before .destination-field .result))
+abbrev destinations : tie.After-size4 → Bool
+destinations c = eqb (c .before .before .size2 .result) (2 * (c .before .before .before .before .before .before .before .destination-field .result))
 
-abbrev trips : tie.After-size3 → Bool
+abbrev trips : tie.After-size4 → Bool
 trips c =
-    eqb (c .size3 .result)
-    (2 * (c .before .before .before .destination-field .result) * (c .before .before .before .before .before .node-field .result))
+    eqb (c .before .size3 .result)
+    (2 * (c .before .before .before .before .before .before .before .destination-field .result) * (c .before .before .before .before .before .before .before .before .before .node-field .result))
 
-tests : (c : tie.After-size3) → links c && destinations c && trips c ≡ sizesFit (now (c .before .before .before .before .before .before .before .args .file))
+abbrev closed : tie.After-size4 → Bool
+closed c = eqb (c .size4 .result) (c .before .before .before .before .closed-field .result)
+
+tests : (c : tie.After-size4) → links c && destinations c && trips c && closed c ≡ sizesFit (now (c .before .before .before .before .before .before .before .before .before .before .before .args .file))
 unfolding sizesFit
 tests c = cc
 
--- The flag where the ways of the first `&&` meet.
+-- The flag where the ways of the first `&&` meet, and of the second.
 two : (c : tie.Joined1) → c .if1 .if2 ≡ links (c .before) && destinations (c .before)
 two c =
     ⊎-elim (λ w. and-yes _ _ (eq-eqb _ _ (w .0 .taken)) (w .1)) (λ w. and-no _ _ (ne-eqb _ _ (w .0 .left)) (w .1)) (c .if1 .came)
 
+three : (c : tie.Joined2) → c .if2 .if3 ≡ links (c .before .before) && destinations (c .before .before) && trips (c .before .before)
+three c =
+    ⊎-elim (λ w. and-yes _ _ (sym (two (c .before)) ∙ w .0 .taken) (w .1))
+    (λ w. and-no _ _ (sym (two (c .before)) ∙ w .0 .left) (w .1 ∙ two (c .before)))
+    (c .if2 .came)
+
 returns : tie.Need-returns
-returns c = and-yes _ _ (sym (two (c .before)) ∙ c .if2 .taken) refl ∙ tests (c .before .before)
+returns c = and-yes _ _ (sym (three (c .before)) ∙ c .if3 .taken) refl ∙ tests (c .before .before .before)
 
 returns-2 : tie.Need-returns-2
-returns-2 c = and-no _ _ (sym (two (c .before)) ∙ c .if2 .left) (two (c .before)) ∙ tests (c .before .before)
+returns-2 c = and-no _ _ (sym (three (c .before)) ∙ c .if3 .left) (three (c .before)) ∙ tests (c .before .before .before)
 
 pub sizes-fit-spec : {M : Type 1} → statement M
 sizes-fit-spec =
@@ -81,12 +108,16 @@ sizes-fit-spec =
     node-field-requires
     link-field-requires
     destination-field-requires
+    version-requires
+    form-of-requires
+    closed-field-requires
     size-requires
     size-requires-2
     size-requires-3
+    size-requires-4
     mul-if1
     mul-if2
-    mul-result
-    mul-result-2
+    mul-if3
+    mul-if3-2
     returns
     returns-2)

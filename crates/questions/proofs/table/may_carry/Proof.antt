@@ -1,0 +1,13 @@
+-- `may_carry` meets its contract.
+use borrow.Author.Tests.{eq-eqb, ne-eqb}
+use Rattle.questions.proofs.table.may_carry.Statement.{statement}
+use Rattle.questions.proofs.table.may_carry.Tie as tie
+
+returns : tie.Need-returns
+returns c = rw (eq-eqb _ _ (c .if1 .taken))
+
+returns-2 : tie.Need-returns-2
+returns-2 c = rw (ne-eqb _ _ (c .if1 .left))
+
+pub may-carry-spec : {M : Type 1} → statement M
+may-carry-spec = tie.close (tie.spec returns returns-2)

@@ -1,0 +1,19 @@
+-- `study::versions::form_of` meets its contract: the code's two forms are the table's.
+use mathlib.Core.Path.{_≡_}
+use native.Mathlib.Omega.{arith}
+use Rattle.study.specs.Versions.{versions, formOf}
+use Rattle.study.proofs.versions.form_of.Statement.{statement}
+use Rattle.study.proofs.versions.form_of.Tie as tie
+
+returns : tie.Need-returns
+unfolding versions formOf
+returns c = rw (c .if1 .taken)
+
+returns-2 : tie.Need-returns-2
+unfolding versions formOf
+returns-2 c =
+    let latest : c .before .args .version ≡ 2 = omega arith in
+    rw latest
+
+pub form-of-spec : {M : Type 1} → statement M
+form-of-spec = tie.close (tie.spec returns returns-2)

@@ -1,0 +1,189 @@
+//! Drafts with a version: without closed bytes of version 1, with them of
+//! version 2.
+
+use super::{Dice, Draft, DraftLink, Plan, layout_of};
+use crate::format::{CLOSED_VERSION, VERSION};
+
+/// A study in the making with its version; it need not be an acceptable one.
+#[derive(Clone, Debug, PartialEq, Eq)]
+pub struct Versioned {
+    /// What the study has in every version.
+    pub draft: Draft,
+    /// By node, 1 for closed and 0 for open; none in version 1.
+    pub closed: Option<Vec<u8>>,
+}
+
+/// A study of version 1.
+impl From<Draft> for Versioned {
+    fn from(draft: Draft) -> Self {
+        Versioned {
+            draft,
+            closed: None,
+        }
+    }
+}
+
+impl Draft {
+    /// This study in version 2, with these closed bytes.
+    pub fn with_closed(self, closed: Vec<u8>) -> Versioned {
+        Versioned {
+            draft: self,
+            closed: Some(closed),
+        }
+    }
+
+    /// This study in version 2, with these nodes closed and all others open.
+    pub fn closing(self, nodes: &[u16]) -> Versioned {
+        let closed = (0..self.nodes).map(|node| u8::from(nodes.contains(&node)));
+        let closed = closed.collect();
+        self.with_closed(closed)
+    }
+
+    /// This study in version 2, with some nodes closed, about so many in ten,
+    /// and without the trips that have no path then.
+    pub fn closing_some(self, dice: &mut Dice, tenths: u64) -> Versioned {
+        let closed = (0..self.nodes).map(|_| u8::from(dice.below(10) < tenths));
+        let closed = closed.collect();
+        let mut study = self.with_closed(closed);
+        study.drop_pathless_trips();
+        study
+    }
+}
+
+impl Versioned {
+    /// The version's number.
+    pub fn version(&self) -> u16 {
+        match self.closed {
+            None => VERSION,
+            Some(_) => CLOSED_VERSION,
+        }
+    }
+
+    /// Bytes of the file without gaps.
+    pub fn packed_length(&self) -> usize {
+        self.draft.packed_length() - layout_of(VERSION).header
+            + layout_of(self.version()).header
+            + self.closed.as_ref().map_or(0, Vec::len)
+    }
+
+    /// The file without gaps.
+    pub fn file(&self) -> Vec<u8> {
+        self.file_with_gaps(&[])
+    }
+
+    /// The file with these bytes before each section and after the last. Gaps
+    /// that are not given are empty.
+    pub fn file_with_gaps(&self, gaps: &[&[u8]]) -> Vec<u8> {
+        let mut sections = self.draft.sections().to_vec();
+        sections.extend(self.closed.clone());
+        let mut all_gaps = gaps.to_vec();
+        all_gaps.resize(layout_of(self.version()).sections + 1, &[]);
+        self.draft.write(self.version(), &sections, &all_gaps)
+    }
+
+    /// Whether a node is closed.
+    pub fn is_closed(&self, node: u16) -> bool {
+        let closed = self.closed.as_deref().unwrap_or(&[]);
+        closed.get(usize::from(node)) == Some(&1)
+    }
+
+    /// Whether a link may carry flow to a destination.
+    pub fn may_carry(&self, link: usize, destination: u16) -> bool {
+        let head = self.draft.links[link][1];
+        head == destination || !self.is_closed(head)
+    }
+
+    /// For each node, the fewest links of a path to a destination; none where
+    /// there is no path.
+    pub fn hops(&self, destination: u16) -> Vec<Option<usize>> {
+        self.draft
+            .hops_by(destination, |link| self.may_carry(link, destination))
+    }
+
+    /// Takes away the trips that have no path and those of a destination to
+    /// itself.
+    pub fn drop_pathless_trips(&mut self) {
+        for position in 0..self.draft.destinations.len() {
+            let hops = self.hops(self.draft.destinations[position]);
+            self.draft.drop_trips_without(position, &hops);
+        }
+    }
+
+    /// A conserving table of this share, by links that may carry its flows.
+    /// The draft's own table of that name takes every node for open.
+    pub fn wandering_table(&self, dice: &mut Dice, share: u32) -> Vec<u32> {
+        self.draft
+            .wandering_table_by(dice, share, |link, destination| {
+                self.may_carry(link, destination)
+            })
+    }
+
+    /// Lets `amount` go round a cycle of links that may carry it, for some
+    /// destination. False when no cycle was found.
+    pub fn add_cycle(&self, dice: &mut Dice, table: &mut [u32], amount: u32) -> bool {
+        let links = &self.draft.links;
+        for _ in 0..8 {
+            let position = dice.index(self.draft.destinations.len());
+            let destination = self.draft.destinations[position];
+            let permitted = |link| self.may_carry(link, destination);
+            let first = dice.index(links.len());
+            let [tail, head, ..] = links[first];
+            let hops = self.draft.hops_by(tail, permitted);
+            let way = self.draft.wander(dice, head, &hops, permitted);
+            if let Some(way) = way.filter(|_| permitted(first)) {
+                for link in way.into_iter().chain([first]) {
+                    let flow = &mut table[position * links.len() + link];
+                    *flow = flow.saturating_add(amount);
+                }
+                return true;
+            }
+        }
+        false
+    }
+}
+
+impl Plan {
+    /// An acceptable study of version 2 on streets given, with zones beside
+    /// them: closed nodes, each with links to two street nodes and from two.
+    /// The trips are between zones.
+    pub fn with_zones(
+        &self,
+        dice: &mut Dice,
+        streets: u16,
+        zones: u16,
+        mut links: Vec<DraftLink>,
+    ) -> Versioned {
+        for zone in streets..streets + zones {
+            for turn in 0..4 {
+                let street = dice.below(u64::from(streets)) as u16;
+                let (tail, head) = match turn % 2 {
+                    0 => (zone, street),
+                    _ => (street, zone),
+                };
+                let time = dice.between(1, self.time) as u16;
+                let capacity = dice.between(1, self.capacity) as u16;
+                links.push([tail, head, time, time / 2, capacity]);
+            }
+        }
+        let mut destinations: Vec<u16> = (streets..streets + zones).collect();
+        destinations.truncate(self.destinations as usize);
+        let row = |dice: &mut Dice| {
+            let trips = (0..streets + zones).map(|node| {
+                let some = node >= streets && dice.below(10) < self.tenths;
+                u16::from(some) * dice.between(0, self.trips) as u16
+            });
+            trips.collect()
+        };
+        let draft = Draft {
+            nodes: streets + zones,
+            links,
+            trips: destinations.iter().map(|_| row(dice)).collect(),
+            destinations,
+        };
+        let all: Vec<u16> = (streets..streets + zones).collect();
+        let mut study = draft.closing(&all);
+        study.drop_pathless_trips();
+        study.draft.limit_total(65_535);
+        study
+    }
+}
