@@ -49,7 +49,8 @@ fn reached(nodes: usize, links: &[[u16; 6]], destinations: &[u16], all_open: boo
 {
     let mut own = [0u32; 128];
     mark_destinations(nodes, destinations, &mut own);
-    let mut marks = own;
+    let mut marks = [0u32; 128];
+    mark_destinations(nodes, destinations, &mut marks);
     loop {
         if sweep_up(nodes, links, all_open, &own, &mut marks) == 0 {
             return marks;

@@ -122,12 +122,12 @@ fn link_permits(links: &[[u16; 6]], l: usize, destinations: &[u16], table: &[u32
     true
 }
 
-// Whether a link whose head is closed may carry this flow to a destination.
+// Whether a link whose head is closed may carry this flow to a destination. Most of these flows are 0.
 fn may_carry(head: u16, destination: u16, flow: u32) -> bool
     ensures { λ r. ⌜ r ≡ (eqb head destination || eqb flow 0) ⌝ }
 {
-    if head == destination {
+    if flow == 0 {
         return true;
     }
-    flow == 0
+    head == destination
 }

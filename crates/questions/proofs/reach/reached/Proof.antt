@@ -17,29 +17,35 @@ mark-destinations-requires : tie.Need-mark-destinations-requires Inv-loop μ-loo
 unfolding noMarks
 mark-destinations-requires c κs = ((c .before .before .pre .0 .0, c .before .before .pre .0 .2), (c .before .before .pre .1 .1, started-none _))
 
+mark-destinations-requires-2 : tie.Need-mark-destinations-requires-2 Inv-loop μ-loop
+unfolding noMarks
+mark-destinations-requires-2 c κs =
+    let start = c .before .before .before .before in
+    ((start .pre .0 .0, start .pre .0 .2), (start .pre .1 .1, started-none _))
+
 loop-holds : tie.Need-loop-holds Inv-loop μ-loop
-loop-holds c = searched-first _ _ _ _ (c .mark-destinations .ensures)
+loop-holds c = searched-first _ _ _ _ (c .mark-destinations2 .ensures)
 
 sweep-up-requires : tie.Need-sweep-up-requires Inv-loop μ-loop
 sweep-up-requires c κs =
-    let start = c .before .before .before .before .before .before in
+    let start = c .before .before .before .before .before .before .before .before in
     (start .pre .0 .0, start .pre .1 .0, c .before .before .loop .inv .whole, start .pre .0 .3)
 
 returns : tie.Need-returns Inv-loop μ-loop
 returns c =
-    let start = c .before .before .before .before .before .before .before .before in
+    let start = c .before .before .before .before .before .before .before .before .before .before in
     let last = rw (c .if1 .taken) at (c .before .sweep-up .ensures) in
-    searched-all (c .before .before .before .before .before .mark-destinations .ensures) (ends-below _ _ (start .pre .1 .0)) (destination-below _ (now (start .args .destinations)) (start .pre .1 .1)) (c .before .before .before .before .loop .inv) last
+    searched-all (c .before .before .before .before .before .before .before .mark-destinations .ensures) (ends-below _ _ (start .pre .1 .0)) (destination-below _ (now (start .args .destinations)) (start .pre .1 .1)) (c .before .before .before .before .loop .inv) last
 
 sweep-down-requires : tie.Need-sweep-down-requires Inv-loop μ-loop
 sweep-down-requires c κs =
-    let start = c .before .before .before .before .before .before .before .before .before .before in
+    let start = c .before .before .before .before .before .before .before .before .before .before .before .before in
     (start .pre .0 .0, start .pre .1 .0, c .before .before .before .sweep-up .ensures .whole, start .pre .0 .3)
 
 returns-2 : tie.Need-returns-2 Inv-loop μ-loop
 returns-2 c =
-    let start = c .before .before .before .before .before .before .before .before .before .before .before .before in
-    let started = c .before .before .before .before .before .before .before .before .before .mark-destinations .ensures in
+    let start = c .before .before .before .before .before .before .before .before .before .before .before .before .before .before in
+    let started = c .before .before .before .before .before .before .before .before .before .before .before .mark-destinations .ensures in
     let searched = searched-next started (c .before .before .before .before .before .before .before .before .loop .inv) (c .before .before .before .before .before .sweep-up .ensures) in
     let last = rw (c .if2 .taken) at (c .before .sweep-down .ensures) in
     searched-all started (ends-below _ _ (start .pre .1 .0)) (destination-below _ (now (start .args .destinations)) (start .pre .1 .1)) searched last
@@ -49,7 +55,7 @@ loop-less c = omega (arith, c .before .before .before .before .before .sweep-up 
 
 loop-again : tie.Need-loop-again Inv-loop μ-loop
 loop-again c =
-    let started = c .before .before .before .before .before .before .before .before .before .mark-destinations .ensures in
+    let started = c .before .before .before .before .before .before .before .before .before .before .before .mark-destinations .ensures in
     searched-next started (searched-next started (c .before .before .before .before .before .before .before .before .loop .inv) (c .before .before .before .before .before .sweep-up .ensures)) (c .before .sweep-down .ensures)
 
 pub reached-spec : {M : Type 1} → statement M
@@ -59,6 +65,7 @@ reached-spec =
     Inv-loop
     μ-loop
     mark-destinations-requires
+    mark-destinations-requires-2
     loop-holds
     sweep-up-requires
     returns
