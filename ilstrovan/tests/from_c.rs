@@ -1,12 +1,15 @@
 //! A C program over the header and the static library, compiled, run and
 //! compared with the second implementation.
 
+mod zone;
+
 use std::fmt::Write;
 use std::path::Path;
 use std::process::Command;
 
 use second::draft::{Draft, Versioned};
 use second::{AuditAnswer, PassAnswer, RunAnswer};
+use zone::zone;
 
 #[test]
 fn town() {
@@ -119,21 +122,6 @@ fn expected() -> String {
     }
     line(table_words(&table));
     lines
-}
-
-/// The town with a zone, node 1.
-fn zone() -> Draft {
-    Draft {
-        nodes: 4,
-        links: vec![
-            [0, 1, 5, 20, 2],
-            [1, 2, 5, 0, 1],
-            [0, 3, 10, 0, 1],
-            [3, 2, 10, 0, 1],
-        ],
-        destinations: vec![2],
-        trips: vec![vec![2, 1, 0, 0]],
-    }
 }
 
 /// What the program is to print of the town with a zone: the figures of the

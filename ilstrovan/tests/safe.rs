@@ -1,8 +1,11 @@
 //! The safe functions on the town of two roads, document 01's cases, and on
 //! towns with a zone, those of request A.2.
 
+mod zone;
+
 use ilstrovan::{Audit, Ending, Outcome, Pass, Run, audit, check, pack, pass, run, start};
 use second::draft::{Draft, Versioned};
+use zone::zone;
 
 fn refusal<T: std::fmt::Debug>(result: Result<T, ilstrovan::Refusal>) -> u8 {
     result.expect_err("a refusal").number()
@@ -90,21 +93,6 @@ fn refused_calls() {
 
     let words = audit(&file, &table, 9).expect_err("a refusal").to_string();
     assert_eq!(words, "refused 16: the table does not conserve");
-}
-
-/// A zone, node 1, between nodes 0 and 2, and a way round it by node 3.
-fn zone() -> Draft {
-    Draft {
-        nodes: 4,
-        links: vec![
-            [0, 1, 5, 20, 2],
-            [1, 2, 5, 0, 1],
-            [0, 3, 10, 0, 1],
-            [3, 2, 10, 0, 1],
-        ],
-        destinations: vec![2],
-        trips: vec![vec![2, 1, 0, 0]],
-    }
 }
 
 fn closed_zone() -> Versioned {
