@@ -1,27 +1,54 @@
 ghost use mathlib.Core.Path.{_≡_};
+ghost use lib.ListN.{length};
+ghost use Rattle.network.specs.Decoded.{Room};
 ghost use Rattle.calls.specs.Calls.{passAnswer, passTable};
 ghost use Rattle.assignment.specs.Answers.{outcomeOf};
 use crate::answers::refused_pass;
-use crate::refusals::table_refusal;
+use crate::refusals::totals_refusal;
 use calls::Outcome;
 use calls::PassAnswer;
+use network::SHORT;
+use network::SHORT_ENTRIES;
+use network::SHORT_LINKS;
+use travel::TOTAL;
 
 // Pass: judges the table, then moves it.
 pub fn pass(file: &[u8], table: &mut [u32], share: u32) -> PassAnswer
     ensures { λ r. ⌜ r ≡ passAnswer (now (file .entry)) (now (table .entry)) share ⌝ }
     ensures { λ r. ⌜ now (table .exit) ≡ passTable (now (file .entry)) (now (table .entry)) share ⌝ }
 {
+    if file.len() <= SHORT {
+        let mut rows = [[0u16, 0, 0, 0, 0, 0]; SHORT_LINKS];
+        let mut entries = [0u16; SHORT_ENTRIES];
+        return pass_in(file, table, share, &mut rows, &mut entries);
+    }
     let mut rows = [[0u16, 0, 0, 0, 0, 0]; 512];
-    let mut places = [0u16; 32];
     let mut entries = [0u16; 4096];
-    let opening = network::decode(file, &mut rows, &mut places, &mut entries);
+    pass_in(file, table, share, &mut rows, &mut entries)
+}
+
+// The same, in places that are lent for the rows of its links and trips.
+fn pass_in(
+    file: &[u8],
+    table: &mut [u32],
+    share: u32,
+    rows: &mut [[u16; 6]],
+    entries: &mut [u16],
+) -> PassAnswer
+    requires { ⌜ Room (now file) (length (now rows)) (length (now entries)) ⌝ }
+    ensures { λ r. ⌜ r ≡ passAnswer (now (file .entry)) (now (table .entry)) share ⌝ }
+    ensures { λ r. ⌜ now (table .exit) ≡ passTable (now (file .entry)) (now (table .entry)) share ⌝ }
+{
+    let mut places = [0u16; 32];
+    let opening = network::decode(file, rows, &mut places, entries);
     let n = opening.nodes;
     let m = opening.links;
     let p = opening.destinations;
     let links = &rows[..m];
     let destinations = &places[..p];
     let trips = &entries[..p * n];
-    let refusal = table_refusal(
+    let mut flows = [[0u64; 512]; 2];
+    let refusal = totals_refusal(
         file,
         opening.refusal,
         n,
@@ -30,11 +57,12 @@ pub fn pass(file: &[u8], table: &mut [u32], share: u32) -> PassAnswer
         trips,
         table,
         share,
+        &mut flows[TOTAL],
     );
     if refusal != 0 {
         return refused_pass(refusal);
     }
-    let passed = judging::pass_table(n, links, destinations, trips, table, share);
+    let passed = judging::pass_table(n, links, destinations, trips, table, share, &mut flows);
     let outcome = outcome_of(passed.moved);
     PassAnswer {
         refusal: 0,

@@ -33,35 +33,8 @@ pub fn start_refusal(
     0
 }
 
-// Pass's and audit's number: as start's, and then questions 14 to 16 and 20.
-pub fn table_refusal(
-    file: &[u8],
-    opening: u8,
-    nodes: usize,
-    links: &[[u16; 6]],
-    destinations: &[u16],
-    trips: &[u16],
-    table: &[u32],
-    share: u32,
-) -> u8
-    requires { ⌜ PartsOf (now file) opening nodes (now links) (now destinations) (now trips) ⌝ }
-    ensures { λ r. ⌜ r ≡ tableNumber (now (file .entry)) (now (table .entry)) share ⌝ }
-{
-    let mut totals = [0u64; 512];
-    totals_refusal(
-        file,
-        opening,
-        nodes,
-        links,
-        destinations,
-        trips,
-        table,
-        share,
-        &mut totals,
-    )
-}
-
-// The same. Where nothing refuses, the links' totals stand in `totals`, which is lent with zeros.
+// Pass's and audit's number: as start's, and then questions 14 to 16 and 20. Where nothing refuses, the links' totals stand in `totals`, which
+// is lent with zeros.
 pub fn totals_refusal(
     file: &[u8],
     opening: u8,

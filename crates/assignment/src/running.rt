@@ -1,4 +1,6 @@
 ghost use mathlib.Core.Path.{_≡_};
+ghost use lib.ListN.{length};
+ghost use Rattle.network.specs.Decoded.{Room};
 ghost use Rattle.calls.specs.Calls.{runNumber, runAnswer, runTable};
 ghost use Rattle.assignment.specs.Answers.{endingOf, endedAnswer};
 ghost use Rattle.assignment.specs.Parts.{PartsOf};
@@ -8,6 +10,9 @@ use calls::Ending;
 use calls::RunAnswer;
 use judging::Standing;
 use judging::Step;
+use network::SHORT;
+use network::SHORT_ENTRIES;
+use network::SHORT_LINKS;
 use travel::TOTAL;
 
 // Run: a start, and then turns of one judged table each.
@@ -15,10 +20,31 @@ pub fn run(file: &[u8], table: &mut [u32], budget: u32, excess: u16) -> RunAnswe
     ensures { λ r. ⌜ r ≡ runAnswer (now (file .entry)) (now (table .entry)) budget excess ⌝ }
     ensures { λ r. ⌜ now (table .exit) ≡ runTable (now (file .entry)) (now (table .entry)) budget excess ⌝ }
 {
+    if file.len() <= SHORT {
+        let mut rows = [[0u16, 0, 0, 0, 0, 0]; SHORT_LINKS];
+        let mut entries = [0u16; SHORT_ENTRIES];
+        return run_in(file, table, budget, excess, &mut rows, &mut entries);
+    }
     let mut rows = [[0u16, 0, 0, 0, 0, 0]; 512];
-    let mut places = [0u16; 32];
     let mut entries = [0u16; 4096];
-    let opening = network::decode(file, &mut rows, &mut places, &mut entries);
+    run_in(file, table, budget, excess, &mut rows, &mut entries)
+}
+
+// The same, in places that are lent for the rows of its links and trips.
+fn run_in(
+    file: &[u8],
+    table: &mut [u32],
+    budget: u32,
+    excess: u16,
+    rows: &mut [[u16; 6]],
+    entries: &mut [u16],
+) -> RunAnswer
+    requires { ⌜ Room (now file) (length (now rows)) (length (now entries)) ⌝ }
+    ensures { λ r. ⌜ r ≡ runAnswer (now (file .entry)) (now (table .entry)) budget excess ⌝ }
+    ensures { λ r. ⌜ now (table .exit) ≡ runTable (now (file .entry)) (now (table .entry)) budget excess ⌝ }
+{
+    let mut places = [0u16; 32];
+    let opening = network::decode(file, rows, &mut places, entries);
     let n = opening.nodes;
     let m = opening.links;
     let p = opening.destinations;

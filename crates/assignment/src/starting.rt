@@ -1,16 +1,35 @@
 ghost use mathlib.Core.Path.{_≡_};
+ghost use lib.ListN.{length};
+ghost use Rattle.network.specs.Decoded.{Room};
 ghost use Rattle.calls.specs.Calls.{startNumber, startTable};
 use crate::refusals::start_refusal;
+use network::SHORT;
+use network::SHORT_ENTRIES;
+use network::SHORT_LINKS;
 
 // Start: W = 1, the table is the loading at empty roads.
 pub fn start(file: &[u8], table: &mut [u32]) -> u8
     ensures { λ r. ⌜ r ≡ startNumber (now (file .entry)) (now (table .entry)) ⌝ }
     ensures { λ r. ⌜ now (table .exit) ≡ startTable (now (file .entry)) (now (table .entry)) ⌝ }
 {
+    if file.len() <= SHORT {
+        let mut rows = [[0u16, 0, 0, 0, 0, 0]; SHORT_LINKS];
+        let mut entries = [0u16; SHORT_ENTRIES];
+        return start_in(file, table, &mut rows, &mut entries);
+    }
     let mut rows = [[0u16, 0, 0, 0, 0, 0]; 512];
-    let mut places = [0u16; 32];
     let mut entries = [0u16; 4096];
-    let opening = network::decode(file, &mut rows, &mut places, &mut entries);
+    start_in(file, table, &mut rows, &mut entries)
+}
+
+// The same, in places that are lent for the rows of its links and trips.
+fn start_in(file: &[u8], table: &mut [u32], rows: &mut [[u16; 6]], entries: &mut [u16]) -> u8
+    requires { ⌜ Room (now file) (length (now rows)) (length (now entries)) ⌝ }
+    ensures { λ r. ⌜ r ≡ startNumber (now (file .entry)) (now (table .entry)) ⌝ }
+    ensures { λ r. ⌜ now (table .exit) ≡ startTable (now (file .entry)) (now (table .entry)) ⌝ }
+{
+    let mut places = [0u16; 32];
+    let opening = network::decode(file, rows, &mut places, entries);
     let n = opening.nodes;
     let m = opening.links;
     let p = opening.destinations;

@@ -1,10 +1,12 @@
-// An audit. Data flows once: totals, times and least times are computed once. No next link is needed.
+// An audit. Data flows once: totals, which the questions need already, times and least times are computed once. No next link is needed.
+ghost use mathlib.Core.Path.{_≡_};
 ghost use Rattle.theory.specs.Study.{network};
+ghost use Rattle.travel.specs.Links.{tableTotals};
 ghost use Rattle.judging.specs.Study.{studyOf, Judgeable};
 ghost use Rattle.judging.specs.Judged.{Audited};
 use crate::Sums;
 
-// Audit: the gap and cost of a table. The gap is taken by its definition, from the least times.
+// Audit: the gap and cost of a table with these totals. The gap is taken by its definition, from the least times.
 pub fn audit_table(
     nodes: usize,
     links: &[[u16; 6]],
@@ -12,19 +14,19 @@ pub fn audit_table(
     trips: &[u16],
     table: &[u32],
     share: u32,
+    totals: &[u64; 512],
 ) -> Sums
     requires { ⌜ Judgeable (studyOf nodes (now links) (now destinations) (now trips)) (now table) share ⌝ }
+    requires { ⌜ now totals ≡ tableTotals (now links) (now destinations) (now table) ⌝ }
     ensures { λ r. ⌜ Audited (network nodes (now (links .entry)) (now (destinations .entry)) (now (trips .entry))) (now (table .entry)) share r ⌝ }
 {
     let mut times = [0u32; 512];
-    let m = links.len();
     let mut curves = [0u64; 769];
     travel::put_powers(&mut curves);
-    let totals = travel::totals(table, destinations.len(), m);
-    travel::times(links, &totals, share, &curves, &mut times);
+    travel::times(links, totals, share, &curves, &mut times);
     let into = search::into_chain(links);
     let least = search::least_times(nodes, links, destinations, trips, &times, &into);
-    let gap = travel::product(&times, &totals, m) - share as u64 * least;
-    let cost = travel::cost(links, &totals, share, &curves);
+    let gap = travel::product(&times, totals, links.len()) - share as u64 * least;
+    let cost = travel::cost(links, totals, share, &curves);
     Sums { gap, cost }
 }

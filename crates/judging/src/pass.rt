@@ -1,5 +1,9 @@
-// A pass. Data flows once: totals, times, next links and the loading are computed once.
+// A pass. Data flows once: totals, which the questions need already, times, next links and the loading are computed once.
+ghost use mathlib.Core.Path.{_≡_};
+ghost use mathlib.Core.List.{[], _∷_};
+ghost use lib.ListN.{replicate};
 ghost use Rattle.theory.specs.Study.{network};
+ghost use Rattle.travel.specs.Links.{tableTotals};
 ghost use Rattle.judging.specs.Study.{studyOf, Judgeable};
 ghost use Rattle.judging.specs.Judged.{PassedOn};
 use crate::Passed;
@@ -7,8 +11,8 @@ use crate::gaps::gap_of;
 use crate::judge::judge;
 use travel::TOTAL;
 
-// Pass: judges the table, then moves it. With no turn before it to take a guess of j from, it guesses an eighth of the share, near which
-// the choices of runs often are.
+// Pass: judges the table, whose totals stand in `flows` with no loads yet, then moves it. With no turn before it to take a guess of j from,
+// it guesses an eighth of the share, near which the choices of runs often are.
 pub fn pass_table(
     nodes: usize,
     links: &[[u16; 6]],
@@ -16,21 +20,21 @@ pub fn pass_table(
     trips: &[u16],
     table: &mut [u32],
     share: u32,
+    flows: &mut [[u64; 512]; 2],
 ) -> Passed
     requires { ⌜ Judgeable (studyOf nodes (now links) (now destinations) (now trips)) (now table) share ⌝ }
+    requires { ⌜ now flows ≡ tableTotals (now links) (now destinations) (now table) ∷ replicate 512 0 ∷ [] ⌝ }
     ensures { λ r. ⌜ PassedOn (network nodes (now (links .entry)) (now (destinations .entry)) (now (trips .entry))) (now (table .entry)) share r (now (table .exit)) ⌝ }
 {
     let mut times = [0u32; 512];
     let mut next = [[0u16; 128]; 32];
     let mut volumes = [[0u16; 128]; 32];
-    let mut flows = [[0u64; 512]; 2];
     let m = links.len();
     let p = destinations.len();
     let chains = search::link_chains(links);
     let mut curves = [0u64; 769];
     travel::put_powers(&mut curves);
     travel::put_reciprocals(&mut curves, links);
-    travel::write_totals(table, p, m, &mut flows[TOTAL]);
     judge(
         nodes,
         links,
@@ -43,11 +47,11 @@ pub fn pass_table(
         &mut times,
         &mut next,
         &mut volumes,
-        &mut flows,
+        flows,
     );
-    let gap = gap_of(&times, &flows, m, share);
+    let gap = gap_of(&times, flows, m, share);
     let cost = travel::cost(links, &flows[TOTAL], share, &curves);
-    let j = travel::chosen(links, &flows, share, share / 8, gap, &curves);
+    let j = travel::chosen(links, flows, share, share / 8, gap, &curves);
     let moved = moves::can_move(share, j);
     let after = moves::move_table(table, nodes, m, p, &next, &volumes, share, j);
     Passed {

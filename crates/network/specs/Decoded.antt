@@ -20,8 +20,8 @@ unfoldable pub linkRowsIn : List ℕ → List ℕ → ℕ → List (List ℕ)
 linkRowsIn linkBytes closedBytes m = tabulate m (linkRow linkBytes closedBytes)
 
 -- The rows of m links, of which the first l have the closed bytes of their heads.
-pub record ClosedBelow (linkBytes closedBytes : List ℕ) (m l : ℕ) (array : List (List ℕ)) : Type 0 where
-  pub held : Holds 512 (linkRowsIn linkBytes closedBytes l) array
+pub record ClosedBelow (size : ℕ) (linkBytes closedBytes : List ℕ) (m l : ℕ) (array : List (List ℕ)) : Type 0 where
+  pub held : Holds size (linkRowsIn linkBytes closedBytes l) array
   pub rest : (i : ℕ) → l ≤ i → i < m → getD array i [] ≡ linkRow linkBytes [] i
 
 -- The nodes of the first p destinations.
@@ -45,6 +45,11 @@ HasRow tripBytes n k = (j : ℕ) → j < n → HasTrips tripBytes n k j
 unfoldable pub HasRows : List ℕ → ℕ → ℕ → Type 0
 HasRows tripBytes n p = (k : ℕ) → k < p → HasRow tripBytes n k
 
+-- What decoding asks of the places that it is lent: one for each link, and one for each entry of the trips.
+pub record Room (file : List ℕ) (linkPlaces entryPlaces : ℕ) : Type 0 where
+  pub for-links : links file ≤ linkPlaces
+  pub for-entries : destinations file * nodes file ≤ entryPlaces
+
 -- What decoding makes of a file: the number of the first of questions 1 to 5 that refuses it, or 0; n, m and p; and its rows in the first
 -- places of three arrays.
 pub record Decoded (file : List ℕ) (opening : Opening) (linkArray : List (List ℕ)) (nodeArray entryArray : List ℕ) : Type 0 where
@@ -52,9 +57,9 @@ pub record Decoded (file : List ℕ) (opening : Opening) (linkArray : List (List
   pub nodes-are : opening .nodes ≡ nodes file
   pub links-are : opening .links ≡ links file
   pub destinations-are : opening .destinations ≡ destinations file
-  pub links-long : length linkArray ≡ 512
-  pub nodes-long : length nodeArray ≡ 32
-  pub entries-long : length entryArray ≡ 4096
+  pub links-within : opening .links ≤ length linkArray
+  pub destinations-within : opening .destinations ≤ length nodeArray
+  pub trips-within : opening .destinations * opening .nodes ≤ length entryArray
   pub links-held : take (opening .links) linkArray ≡ linkRows file
   pub nodes-held : take (opening .destinations) nodeArray ≡ destinationNodes file
   pub entries-held : take (opening .destinations * opening .nodes) entryArray ≡ tripEntries file

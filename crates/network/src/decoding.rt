@@ -4,9 +4,17 @@ ghost use mathlib.Core.Path.{_≡_};
 ghost use mathlib.Core.List.{[]};
 ghost use lib.ListN.{length, getD, set};
 ghost use Rattle.study.specs.Fields.{closedByte};
-ghost use Rattle.network.specs.Decoded.{Decoded, Holds, linkRowsIn, nodesIn, entriesIn, HasLinks, HasDestinations, HasRow, HasRows};
+ghost use Rattle.network.specs.Decoded.{Room, Decoded, Holds, linkRowsIn, nodesIn, entriesIn, HasLinks, HasDestinations, HasRow, HasRows};
 use theory::CLOSED;
 use theory::HEAD;
+
+// A file is short that has at most so many bytes. It has at most so many links, of ten bytes each, and entries of trips, of two: fewer places
+// are lent for it, since they are cleared first.
+pub const SHORT: usize = 2048;
+
+pub const SHORT_LINKS: usize = 204;
+
+pub const SHORT_ENTRIES: usize = 1024;
 
 // The number of the first of questions 1 to 5 that refuses a file, or 0, and how many nodes, links and destinations an accepted one has.
 pub struct Opening {
@@ -16,15 +24,15 @@ pub struct Opening {
     pub destinations: usize,
 }
 
-// Reads the fields of a file into the first links, destinations and trips of what it is lent. Of a file that one of questions 1 to 5
-// refuses every count is 0.
+// Reads the fields of a file into the first links, destinations and trips of what it is lent, which has room for them. Of a file that one of
+// questions 1 to 5 refuses every count is 0.
 pub fn decode(
     file: &[u8],
-    links: &mut [[u16; 6]; 512],
+    links: &mut [[u16; 6]],
     destinations: &mut [u16; 32],
-    trips: &mut [u16; 4096],
+    trips: &mut [u16],
 ) -> Opening
-    requires { ⌜ (length (now links) ≡ 512) × (length (now destinations) ≡ 32) × (length (now trips) ≡ 4096) ⌝ }
+    requires { ⌜ Room (now file) (length (now links)) (length (now trips)) × (length (now destinations) ≡ 32) ⌝ }
     ensures { λ r. ⌜ Decoded (now (file .entry)) r (now (links .exit)) (now (destinations .exit)) (now (trips .exit)) ⌝ }
 {
     let refusal = study::refusal(file);
@@ -56,9 +64,9 @@ pub fn decode(
 }
 
 // The fields of the links, as if every node were open.
-fn decode_links(bytes: &[u8], m: usize, links: &mut [[u16; 6]; 512])
-    requires { ⌜ (m ≤ 512) × HasLinks (now bytes) m × (length (now links) ≡ 512) ⌝ }
-    ensures { λ _. ⌜ Holds 512 (linkRowsIn (now (bytes .entry)) [] m) (now (links .exit)) ⌝ }
+fn decode_links(bytes: &[u8], m: usize, links: &mut [[u16; 6]])
+    requires { ⌜ (m ≤ length (now links)) × HasLinks (now bytes) m ⌝ }
+    ensures { λ _. ⌜ Holds (length (now (links .entry))) (linkRowsIn (now (bytes .entry)) [] m) (now (links .exit)) ⌝ }
 {
     let mut l = 0;
     while l < m {
@@ -75,9 +83,9 @@ fn decode_links(bytes: &[u8], m: usize, links: &mut [[u16; 6]; 512])
 }
 
 // Writes the closed byte of each link's head into its row, where there are closed bytes.
-fn decode_closed(bytes: &[u8], closed: &[u8], m: usize, links: &mut [[u16; 6]; 512])
-    requires { ⌜ (m ≤ 512) × Holds 512 (linkRowsIn (now bytes) [] m) (now links) ⌝ }
-    ensures { λ _. ⌜ Holds 512 (linkRowsIn (now (bytes .entry)) (now (closed .entry)) m) (now (links .exit)) ⌝ }
+fn decode_closed(bytes: &[u8], closed: &[u8], m: usize, links: &mut [[u16; 6]])
+    requires { ⌜ (m ≤ length (now links)) × Holds (length (now links)) (linkRowsIn (now bytes) [] m) (now links) ⌝ }
+    ensures { λ _. ⌜ Holds (length (now (links .entry))) (linkRowsIn (now (bytes .entry)) (now (closed .entry)) m) (now (links .exit)) ⌝ }
 {
     if closed.len() == 0 {
         return;
@@ -110,9 +118,9 @@ fn decode_destinations(bytes: &[u8], p: usize, destinations: &mut [u16; 32])
 }
 
 // The trips from node j to destination k are entry k * n + j.
-fn decode_trips(bytes: &[u8], n: usize, p: usize, trips: &mut [u16; 4096])
-    requires { ⌜ (p * n ≤ 4096) × HasRows (now bytes) n p × (length (now trips) ≡ 4096) ⌝ }
-    ensures { λ _. ⌜ Holds 4096 (entriesIn (now (bytes .entry)) n p) (now (trips .exit)) ⌝ }
+fn decode_trips(bytes: &[u8], n: usize, p: usize, trips: &mut [u16])
+    requires { ⌜ (p * n ≤ length (now trips)) × HasRows (now bytes) n p ⌝ }
+    ensures { λ _. ⌜ Holds (length (now (trips .entry))) (entriesIn (now (bytes .entry)) n p) (now (trips .exit)) ⌝ }
 {
     let mut k = 0;
     while k < p {
@@ -122,9 +130,9 @@ fn decode_trips(bytes: &[u8], n: usize, p: usize, trips: &mut [u16; 4096])
 }
 
 // The trips to destination k, after those to the destinations before it.
-fn decode_row(bytes: &[u8], n: usize, k: usize, trips: &mut [u16; 4096])
-    requires { ⌜ (k * n + n ≤ 4096) × HasRow (now bytes) n k × Holds 4096 (entriesIn (now bytes) n k) (now trips) ⌝ }
-    ensures { λ _. ⌜ Holds 4096 (entriesIn (now (bytes .entry)) n (k + 1)) (now (trips .exit)) ⌝ }
+fn decode_row(bytes: &[u8], n: usize, k: usize, trips: &mut [u16])
+    requires { ⌜ (k * n + n ≤ length (now trips)) × HasRow (now bytes) n k × Holds (length (now trips)) (entriesIn (now bytes) n k) (now trips) ⌝ }
+    ensures { λ _. ⌜ Holds (length (now (trips .entry))) (entriesIn (now (bytes .entry)) n (k + 1)) (now (trips .exit)) ⌝ }
 {
     let mut j = 0;
     while j < n {

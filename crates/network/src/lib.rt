@@ -6,5 +6,8 @@ mod packing;
 
 pub use checking::check;
 pub use decoding::Opening;
+pub use decoding::SHORT;
+pub use decoding::SHORT_ENTRIES;
+pub use decoding::SHORT_LINKS;
 pub use decoding::decode;
 pub use packing::pack;

@@ -1,17 +1,43 @@
 ghost use mathlib.Core.Path.{_≡_};
+ghost use lib.ListN.{length};
 ghost use Rattle.calls.specs.Calls.{pageNumber, pageSlice};
+ghost use Rattle.network.specs.Decoded.{Room};
 ghost use Rattle.pages.specs.Lines.{afterAudit};
 use crate::lines::put_lines;
+use network::SHORT;
+use network::SHORT_ENTRIES;
+use network::SHORT_LINKS;
 
 // Page: writes the page of a lent table that the audit accepts into the first bytes of a page slice.
 pub fn page(file: &[u8], table: &[u32], share: u32, page: &mut [u8]) -> u8
     ensures { λ r. ⌜ r ≡ pageNumber (now (file .entry)) (now (table .entry)) share (now (page .entry)) ⌝ }
     ensures { λ _. ⌜ now (page .exit) ≡ pageSlice (now (file .entry)) (now (table .entry)) share (now (page .entry)) ⌝ }
 {
+    if file.len() <= SHORT {
+        let mut rows = [[0u16, 0, 0, 0, 0, 0]; SHORT_LINKS];
+        let mut entries = [0u16; SHORT_ENTRIES];
+        return page_in(file, table, share, page, &mut rows, &mut entries);
+    }
     let mut rows = [[0u16, 0, 0, 0, 0, 0]; 512];
-    let mut places = [0u16; 32];
     let mut entries = [0u16; 4096];
-    let opening = network::decode(file, &mut rows, &mut places, &mut entries);
+    page_in(file, table, share, page, &mut rows, &mut entries)
+}
+
+// The same, in places that are lent for the rows of its links and trips.
+fn page_in(
+    file: &[u8],
+    table: &[u32],
+    share: u32,
+    page: &mut [u8],
+    rows: &mut [[u16; 6]],
+    entries: &mut [u16],
+) -> u8
+    requires { ⌜ Room (now file) (length (now rows)) (length (now entries)) ⌝ }
+    ensures { λ r. ⌜ r ≡ pageNumber (now (file .entry)) (now (table .entry)) share (now (page .entry)) ⌝ }
+    ensures { λ _. ⌜ now (page .exit) ≡ pageSlice (now (file .entry)) (now (table .entry)) share (now (page .entry)) ⌝ }
+{
+    let mut places = [0u16; 32];
+    let opening = network::decode(file, rows, &mut places, entries);
     let n = opening.nodes;
     let m = opening.links;
     let p = opening.destinations;

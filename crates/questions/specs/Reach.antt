@@ -69,6 +69,11 @@ PathTo nodes links s j = (path : List ℕ) × IsPath (toDestination nodes links 
 abbrev pub AllOpen : List (List ℕ) → Type 0
 AllOpen links = (l : ℕ) → l < length links → closed links l ≡ 1 → ⊥
 
+-- Words with no mark but those of the destinations' own nodes, and with these where a head is closed.
+pub record Owned (links : List (List ℕ)) (destinations own : List ℕ) : Type 0 where
+  pub only : (k j : ℕ) → marked own k j ≡ true → j ≡ getD destinations k 0
+  pub mine : (l k : ℕ) → l < length links → closed links l ≡ 1 → k < length destinations → marked own k (getD destinations k 0) ≡ true
+
 -- The word that a link hands on to its tail, by the marks of the destinations' own nodes and the marks so far: that of its head, and where the
 -- head is closed only the mark of the destination that the head itself is (A.2).
 unfoldable pub handedOn : ℕ → ℕ → List ℕ → List ℕ → ℕ

@@ -133,18 +133,18 @@ pub fn no_trips_within(nodes: usize, destinations: &[u16], trips: &[u16]) -> boo
     true
 }
 
-// T of document 01: the sum of the trips of all nodes to all destinations.
+// T of document 01: the sum of the trips of all nodes to all destinations. It has 32 bits, of which the compiler adds more at once than of 64.
 pub fn total_trips(trips: &[u16]) -> u64
     requires { ⌜ length (now trips) ≤ 4096 ⌝ }
     ensures { λ r. ⌜ r ≡ sum (length (now (trips .entry))) (λ i. getD (now (trips .entry)) i 0) ⌝ }
 {
-    let mut total = 0;
+    let mut total: u32 = 0;
     let mut i = 0;
     while i < trips.len() {
         total += amount(trips[i]);
         i += 1;
     }
-    total
+    total as u64
 }
 
 // 10. Is the total of trips, T, at most 65,535?

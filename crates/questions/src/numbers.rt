@@ -8,8 +8,8 @@ pub fn node(field: u16) -> usize
     field as usize
 }
 
-pub fn amount(field: u16) -> u64
+pub fn amount(field: u16) -> u32
     ensures { λ r. ⌜ (r ≡ field) × (r < 65536) ⌝ }
 {
-    field as u64
+    field as u32
 }

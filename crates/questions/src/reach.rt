@@ -48,7 +48,9 @@ fn reached(nodes: usize, links: &[[u16; 6]], destinations: &[u16], all_open: boo
     ensures { λ r. ⌜ Found nodes (now (links .entry)) (now (destinations .entry)) r ⌝ }
 {
     let mut own = [0u32; 128];
-    mark_destinations(nodes, destinations, &mut own);
+    if !all_open {
+        mark_destinations(nodes, destinations, &mut own);
+    }
     let mut marks = [0u32; 128];
     mark_destinations(nodes, destinations, &mut marks);
     loop {

@@ -68,6 +68,8 @@ fn rows_conserve(
     ensures { λ r. ⌜ r ≡ rowsConserve nodes (now (links .entry)) (now (destinations .entry)) (now (trips .entry)) share (now (table .entry)) ⌝ }
 {
     let m = links.len();
+    let mut out = [0u64; 128];
+    let mut into = [0u64; 128];
     let mut k: usize = 0;
     while k < destinations.len() {
         let start = k * m;
@@ -82,6 +84,8 @@ fn rows_conserve(
             &trips[first..past],
             &table[start..end],
             share,
+            &mut out,
+            &mut into,
         ) {
             return false;
         }

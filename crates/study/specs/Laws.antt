@@ -320,6 +320,12 @@ module _ (file : List ℕ) where
   unfolding part
   part-refused section refused = value-refused file (take (size file section) (drop (offset file section) file)) [] refused
 
+  -- No part is longer than the file.
+  pub part-most : (section : ℕ) → length (part file section) ≤ length file
+  part-most section =
+      by-answer (λ e. rw (part-accepted file e section) (simp (length-take, length-drop) (omega arith)))
+      (λ refused. rw (part-refused section refused) (omega arith))
+
   pub link-length : length (linkPart file) ≡ 10 * links file
   link-length =
       by-answer (λ e. omega (arith, part-size file e 0 (omega arith), (rw (known-version file e .link-bytes) at (sizes file e .links)), links-field file e))

@@ -54,10 +54,14 @@ pub record ShareFits (share : ℕ) : Type 0 where
 abbrev pub Within : ℕ → ℕ → List ℕ → Type 0
 Within m most xs = (l : ℕ) → l < m → getD xs l 0 ≤ most
 
--- An array of 512 numbers of which those past the first m are 0.
-pub record Clear (m : ℕ) (xs : List ℕ) : Type 0 where
-  pub size : length xs ≡ 512
+-- An array of n numbers of which those past the first m are 0.
+pub record ClearPast (n m : ℕ) (xs : List ℕ) : Type 0 where
+  pub size : length xs ≡ n
   pub rest : (l : ℕ) → m ≤ l → getD xs l 0 ≡ 0
+
+-- The same of an array by link.
+abbrev pub Clear : ℕ → List ℕ → Type 0
+Clear m xs = ClearPast 512 m xs
 
 -- What the choice of j goes by: links, their flows S in an accepted table with a share, and their flows Y in a loading.
 pub record MoveFits (links flows : List (List ℕ)) (share : ℕ) : Type 0 where

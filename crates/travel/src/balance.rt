@@ -3,11 +3,12 @@ ghost use Prim.Native.Nat.{_≤_};
 ghost use mathlib.Core.Path.{_≡_};
 ghost use lib.ListN.{length};
 ghost use Rattle.travel.specs.Links.{rowBalances};
-ghost use Rattle.travel.specs.Ranges.{EndsFit, RowFits, SumsAt};
+ghost use Rattle.travel.specs.Ranges.{ClearPast, EndsFit, RowFits, SumsAt};
 use theory::HEAD;
 use theory::TAIL;
 
-// Does the row balance at every node but its destination: flow out = flow in + share × trips?
+// Does the row balance at every node but its destination: flow out = flow in + share × trips? `out` and `into` are lent for the sums, and
+// are 0 past the nodes.
 pub fn row_balances(
     nodes: usize,
     links: &[[u16; 6]],
@@ -15,13 +16,17 @@ pub fn row_balances(
     trips: &[u16],
     row: &[u32],
     share: u32,
+    out: &mut [u64; 128],
+    into: &mut [u64; 128],
 ) -> bool
     requires { ⌜ RowFits nodes (now links) (now trips) (now row) × (share ≤ 1024) ⌝ }
+    requires { ⌜ ClearPast 128 nodes (now out) × ClearPast 128 nodes (now into) ⌝ }
     ensures { λ r. ⌜ r ≡ rowBalances nodes (now (links .entry)) destination (now (trips .entry)) share (now (row .entry)) ⌝ }
+    ensures { λ _. ⌜ ClearPast 128 nodes (now (out .exit)) × ClearPast 128 nodes (now (into .exit)) ⌝ }
 {
-    let mut out = [0; 128];
-    let mut into = [0; 128];
-    add_at(&mut out, &mut into, links, row);
+    clear(nodes, out);
+    clear(nodes, into);
+    add_at(out, into, links, row);
     let mut j = 0;
     while j < nodes {
         if j != destination {
@@ -33,6 +38,18 @@ pub fn row_balances(
         j += 1;
     }
     true
+}
+
+// Sets the sums of the nodes to 0, the last node's first.
+fn clear(nodes: usize, sums: &mut [u64; 128])
+    requires { ⌜ (nodes ≤ 128) × ClearPast 128 nodes (now sums) ⌝ }
+    ensures { λ _. ⌜ ClearPast 128 0 (now (sums .exit)) ⌝ }
+{
+    let mut j = nodes;
+    while 0 < j {
+        j -= 1;
+        sums[j] = 0;
+    }
 }
 
 // Adds to sums that are 0, at each node, the flow of the links out of it and that of the links into it.

@@ -8,7 +8,7 @@ use mathlib.Core.Path.{_≡_, refl, sym, _∙_, ap}
 use lib.ListN.{length, getD, take, set, length-append, length-set}
 use lib.Seq.{length-take-le, take-suc-set, getD-take, getD-set-other}
 use Rattle.study.specs.Fields.{destination, trips, closedByte}
-use Rattle.study.specs.Laws.{accepted, nodes-refused, links-refused, destinations-refused, has-link, has-destination, has-trips}
+use Rattle.study.specs.Laws.{accepted, nodes-refused, links-refused, destinations-refused, link-length, trip-length, part-most, has-link, has-destination, has-trips}
 use Rattle.study.specs.Questions.{refusal}
 use Rattle.study.specs.Sections.{nodes, links, destinations, linkPart, destinationPart, tripPart, closedPart}
 use Rattle.theory.specs.Finite.{tabulate, rows}
@@ -19,7 +19,7 @@ use Rattle.calls.specs.Laws.Networks.{links-length, closed-head}
 use Rattle.network.specs.declared.decoding.Opening.{Opening}
 use Rattle.questions.specs.Sized.{Sized, ClosedHeads}
 use Rattle.questions.specs.Laws.Questions.{entries-fit}
-use Rattle.network.specs.Decoded.{Holds, linkRowsIn, nodesIn, entriesIn, HasLinks, HasDestinations, HasRow, HasRows, ClosedBelow, Decoded, Counts}
+use Rattle.network.specs.Decoded.{Holds, linkRowsIn, nodesIn, entriesIn, HasLinks, HasDestinations, HasRow, HasRows, ClosedBelow, Room, Decoded, Counts}
 
 module _ {A : Type 0} (size : ℕ) where
   -- Every array holds the list of no entries.
@@ -46,34 +46,38 @@ module _ {A : Type 0} (size : ℕ) where
   pub holds-next : (f : ℕ → A) (i : ℕ) {array : List A} {x : A} → i < size → Holds size (tabulate i f) array → x ≡ f i → Holds size (tabulate (i + 1) f) (set array i x)
   holds-next f i h held read = holds-after [] f i i (omega arith) h held read
 
+  -- An array holds as much by its own size.
+  pub holds-own : {list array : List A} → Holds size list array → Holds (length array) list array
+  holds-own held = record { long = refl; front = held .front }
+
   -- The list is read off again by its length.
   held-front : (n : ℕ) {list array : List A} → Holds size list array → length list ≡ n → take n array ≡ list
   held-front n held e = rw e at (held .front)
 
 -- Rows of links get the closed bytes of their heads one by one.
-module _ (linkBytes closedBytes : List ℕ) (m : ℕ) where
-  pub closed-begins : {array : List (List ℕ)} → m ≤ 512 → Holds 512 (linkRowsIn linkBytes [] m) array → ClosedBelow linkBytes closedBytes m 0 array
+module _ (size : ℕ) (linkBytes closedBytes : List ℕ) (m : ℕ) where
+  pub closed-begins : {array : List (List ℕ)} → Holds size (linkRowsIn linkBytes [] m) array → ClosedBelow size linkBytes closedBytes m 0 array
   unfolding linkRowsIn tabulate
-  closed-begins {array} few held =
+  closed-begins {array} held =
       record {
-        held = holds-none 512 (held .long);
+        held = holds-none size (held .long);
         rest = λ i low b.
             sym (getD-take m array i [] b)
-            ∙ ap (λ rows. getD rows i []) (held-front 512 m held (length-tabulate m (linkRow linkBytes [])))
+            ∙ ap (λ rows. getD rows i []) (held-front size m held (length-tabulate m (linkRow linkBytes [])))
             ∙ getD-tabulate m (linkRow linkBytes []) [] i b;
       }
 
-  pub closed-more : {array : List (List ℕ)} {l : ℕ} {row : List ℕ} → m ≤ 512 → l < m → ClosedBelow linkBytes closedBytes m l array
-      → row ≡ set (getD array l []) 5 (closedByte closedBytes (getD (getD array l []) 1 0)) → ClosedBelow linkBytes closedBytes m (l + 1) (set array l row)
+  pub closed-more : {array : List (List ℕ)} {l : ℕ} {row : List ℕ} → m ≤ size → l < m → ClosedBelow size linkBytes closedBytes m l array
+      → row ≡ set (getD array l []) 5 (closedByte closedBytes (getD (getD array l []) 1 0)) → ClosedBelow size linkBytes closedBytes m (l + 1) (set array l row)
   unfolding linkRowsIn linkRow
-  closed-more {array} {l} {row} few below w is =
+  closed-more {array} {l} {row} room below w is =
       record {
-        held = holds-next 512 (linkRow linkBytes closedBytes) l (omega arith) (w .held) (is ∙ rw (w .rest l (le-refl l) below));
+        held = holds-next size (linkRow linkBytes closedBytes) l (omega arith) (w .held) (is ∙ rw (w .rest l (le-refl l) below));
         rest = λ i low b. getD-set-other array l i row [] (λ e. omega arith) ∙ w .rest i (omega arith) b;
       }
 
   -- Where there are no closed bytes nothing is to be done.
-  pub closed-none : {array : List (List ℕ)} → length closedBytes ≡ 0 → Holds 512 (linkRowsIn linkBytes [] m) array → Holds 512 (linkRowsIn linkBytes closedBytes m) array
+  pub closed-none : {array : List (List ℕ)} → length closedBytes ≡ 0 → Holds size (linkRowsIn linkBytes [] m) array → Holds size (linkRowsIn linkBytes closedBytes m) array
   closed-none none held = rw (no-entries closedBytes none) held
     where
       no-entries : (list : List ℕ) → length list ≡ 0 → list ≡ []
@@ -137,6 +141,31 @@ module _ (file : List ℕ) where
         entries-long = rw destinations-length trips-length;
       }
 
+-- There is room for any file in 512 and 4,096 places,
+pub room-most : (file : List ℕ) {linkPlaces entryPlaces : ℕ} → linkPlaces ≡ 512 → entryPlaces ≡ 4096 → Room file linkPlaces entryPlaces
+room-most file l-are e-are =
+    let known = counts file refl refl refl in
+    record {
+      for-links = rw l-are (known .links-most);
+      for-entries = rw e-are (entries-fit (known .nodes-most) (known .destinations-most));
+    }
+
+-- and for a file of at most 2,048 bytes in 204 and 1,024: a link has ten bytes, and an entry two.
+pub room-short : (file : List ℕ) {linkPlaces entryPlaces : ℕ} → length file ≤ 2048 → linkPlaces ≡ 204 → entryPlaces ≡ 1024 → Room file linkPlaces entryPlaces
+room-short file short l-are e-are =
+    record {
+      for-links = omega (arith, short, l-are, link-length file, part-most file 0);
+      for-entries = omega (arith, short, e-are, trip-length file, part-most file 2);
+    }
+
+-- Room is for the file's counts.
+module _ {file : List ℕ} {n m p : ℕ} (known : Counts file n m p) {linkPlaces entryPlaces : ℕ} (room : Room file linkPlaces entryPlaces) where
+  pub room-links : m ≤ linkPlaces
+  room-links = rw (known .links-are) (room .for-links)
+
+  pub room-entries : p * n ≤ entryPlaces
+  room-entries = rw (known .nodes-are, known .destinations-are) (room .for-entries)
+
 -- The sections of a file are there to decode.
 module _ {file : List ℕ} {n m p : ℕ} (known : Counts file n m p) {bytes : List ℕ} where
   pub links-there : bytes ≡ linkPart file → HasLinks bytes m
@@ -153,61 +182,57 @@ module _ {file : List ℕ} {n m p : ℕ} (known : Counts file n m p) {bytes : Li
 
 -- Decoded, they are the file decoded.
 pub decoded :
-    (file : List ℕ) (opening : Opening) {linkBytes destinationBytes tripBytes closedBytes : List ℕ} {linkArray : List (List ℕ)} {nodeArray entryArray : List ℕ} →
+    (file : List ℕ) (opening : Opening) {linkBytes destinationBytes tripBytes closedBytes : List ℕ} {linkArray : List (List ℕ)} {nodeArray entryArray : List ℕ}
+    {linkPlaces entryPlaces : ℕ} →
+    Room file linkPlaces entryPlaces →
     opening .refusal ≡ refusal file → Counts file (opening .nodes) (opening .links) (opening .destinations) →
     linkBytes ≡ linkPart file → destinationBytes ≡ destinationPart file → tripBytes ≡ tripPart file → closedBytes ≡ closedPart file →
-    Holds 512 (linkRowsIn linkBytes closedBytes (opening .links)) linkArray →
+    Holds linkPlaces (linkRowsIn linkBytes closedBytes (opening .links)) linkArray →
     Holds 32 (nodesIn destinationBytes (opening .destinations)) nodeArray →
-    Holds 4096 (entriesIn tripBytes (opening .nodes) (opening .destinations)) entryArray →
+    Holds entryPlaces (entriesIn tripBytes (opening .nodes) (opening .destinations)) entryArray →
     Decoded file opening linkArray nodeArray entryArray
 unfolding linkRows destinationNodes tripEntries linkRowsIn nodesIn entriesIn
-decoded file opening {linkBytes} {destinationBytes} {tripBytes} {closedBytes} {linkArray} {nodeArray} {entryArray} refusal-is known l-are d-are t-are c-are l-held d-held t-held =
+decoded file opening {linkBytes} {destinationBytes} {tripBytes} {closedBytes} {linkArray} {nodeArray} {entryArray} {linkPlaces} {entryPlaces} room refusal-is known l-are d-are t-are c-are l-held d-held t-held =
     record {
       refusal-is = refusal-is;
       nodes-are = known .nodes-are;
       links-are = known .links-are;
       destinations-are = known .destinations-are;
-      links-long = l-held .long;
-      nodes-long = d-held .long;
-      entries-long = t-held .long;
-      links-held = held-front 512 (opening .links) l-held (length-tabulate (opening .links) (linkRow linkBytes closedBytes)) ∙ rw (l-are, c-are, known .links-are);
+      links-within = rw (l-held .long) (room-links known room);
+      destinations-within = rw (d-held .long) (known .destinations-most);
+      trips-within = rw (t-held .long) (room-entries known room);
+      links-held = held-front linkPlaces (opening .links) l-held (length-tabulate (opening .links) (linkRow linkBytes closedBytes)) ∙ rw (l-are, c-are, known .links-are);
       nodes-held = held-front 32 (opening .destinations) d-held (length-tabulate (opening .destinations) (destination destinationBytes)) ∙ rw (d-are, known .destinations-are);
-      entries-held = held-front 4096 (opening .destinations * opening .nodes) t-held (entries-length tripBytes (opening .nodes) (opening .destinations)) ∙ rw (t-are, known .nodes-are, known .destinations-are);
+      entries-held = held-front entryPlaces (opening .destinations * opening .nodes) t-held (entries-length tripBytes (opening .nodes) (opening .destinations)) ∙ rw (t-are, known .nodes-are, known .destinations-are);
     }
 
 -- A refused file counts nothing, so every array holds what it has.
 pub decoded-refused :
     (file : List ℕ) (number : ℕ) {linkArray : List (List ℕ)} {nodeArray entryArray : List ℕ} → number ≡ refusal file → (number ≡ 0 → ⊥) →
-    (length linkArray ≡ 512) × (length nodeArray ≡ 32) × (length entryArray ≡ 4096) →
+    Room file (length linkArray) (length entryArray) → length nodeArray ≡ 32 →
     Decoded file (record { refusal = number; nodes = 0; links = 0; destinations = 0 }) linkArray nodeArray entryArray
 unfolding linkRowsIn nodesIn entriesIn tabulate rows
-decoded-refused file number number-is refused (links-long, nodes-long, entries-long) =
+decoded-refused file number number-is refused room nodes-long =
     let no : refusal file ≡ 0 → ⊥ = λ e. refused (number-is ∙ e) in
-    decoded file _ number-is (counts file (sym (nodes-refused file no)) (sym (links-refused file no)) (sym (destinations-refused file no))) refl refl refl refl
-    (holds-none 512 links-long) (holds-none 32 nodes-long) (holds-none 4096 entries-long)
+    decoded file _ room number-is (counts file (sym (nodes-refused file no)) (sym (links-refused file no)) (sym (destinations-refused file no))) refl refl refl refl
+    (holds-none _ refl) (holds-none 32 nodes-long) (holds-none _ refl)
 
--- What decoding leaves is lent on in parts: the places are there, each part has its count, and together they are a study of allowed size.
+-- What decoding leaves is lent on in parts: each part has its count, and together they are a study of allowed size.
 module _ {file : List ℕ} {opening : Opening} {linkArray : List (List ℕ)} {nodeArray entryArray : List ℕ} (d : Decoded file opening linkArray nodeArray entryArray) where
   pub decoded-counts : Counts file (opening .nodes) (opening .links) (opening .destinations)
   decoded-counts = counts file (d .nodes-are) (d .links-are) (d .destinations-are)
 
-  pub links-within : opening .links ≤ length linkArray
-  links-within = omega (arith, d .links-long, decoded-counts .links-most)
-
-  pub destinations-within : opening .destinations ≤ length nodeArray
-  destinations-within = omega (arith, d .nodes-long, decoded-counts .destinations-most)
-
-  pub trips-within : opening .destinations * opening .nodes ≤ length entryArray
-  trips-within = omega (arith, d .entries-long, entries-fit (decoded-counts .nodes-most) (decoded-counts .destinations-most))
+  pub trips-few : opening .destinations * opening .nodes ≤ 4096
+  trips-few = entries-fit (decoded-counts .nodes-most) (decoded-counts .destinations-most)
 
   pub links-counted : opening .links ≡ length (take (opening .links) linkArray)
-  links-counted = sym (length-take-le (opening .links) linkArray links-within)
+  links-counted = sym (length-take-le (opening .links) linkArray (d .links-within))
 
   pub destinations-counted : opening .destinations ≡ length (take (opening .destinations) nodeArray)
-  destinations-counted = sym (length-take-le (opening .destinations) nodeArray destinations-within)
+  destinations-counted = sym (length-take-le (opening .destinations) nodeArray (d .destinations-within))
 
   pub trips-counted : opening .destinations * opening .nodes ≡ length (take (opening .destinations * opening .nodes) entryArray)
-  trips-counted = sym (length-take-le (opening .destinations * opening .nodes) entryArray trips-within)
+  trips-counted = sym (length-take-le (opening .destinations * opening .nodes) entryArray (d .trips-within))
 
   pub decoded-closed : ClosedHeads (take (opening .links) linkArray) (closedPart file)
   decoded-closed = rw (d .links-held) (closed-head file)

@@ -21,7 +21,7 @@ use Rattle.theory.specs.Laws.Permission.{may-open, may-own, may-closed}
 use Rattle.theory.specs.Study.{tail, head, closed, mayUse, network}
 use Rattle.theory.specs.Laws.Reach.{Reaches, marked-has-distance}
 use Rattle.calls.specs.Questions.{hasPath, tripsReach}
-use Rattle.questions.specs.Reach.{bit, marked, Whole, noMarks, Marks, Started, Stranded, markedTest, allMarked, room, toDestination, PathTo, AllOpen, handedOn, handedBy, LinkSwept, Swept, Searched, Found, toward}
+use Rattle.questions.specs.Reach.{bit, marked, Whole, noMarks, Marks, Started, Stranded, markedTest, allMarked, room, toDestination, PathTo, AllOpen, Owned, handedOn, handedBy, LinkSwept, Swept, Searched, Found, toward}
 use Rattle.theory.specs.Laws.Bits.{or-grows}
 use Rattle.questions.specs.Sized.{ClosedHeads}
 use Rattle.questions.specs.Laws.Bits.{bit-or, bit-one, bit-zero, read-bit}
@@ -167,12 +167,13 @@ module _ (links : List (List ℕ)) (own marks : List ℕ) (k s l : ℕ) where
       (l ∷ path, (below, may-open links s l (eqb-false (closed links l) 1 free), refl, p)))
 
   -- and a link that may be used hands on the mark of its head, where s has marked its own node.
-  hands-mark : marked own k s ≡ true → mayUse links s l ≡ true → marked marks k (head links l) ≡ true → bit (handedBy links own marks l) k ≡ true
+  hands-mark : (closed links l ≡ 1 → marked own k s ≡ true) → mayUse links s l ≡ true → marked marks k (head links l) ≡ true → bit (handedBy links own marks l) k ≡ true
   hands-mark mine usable e =
       on-test (eqb (closed links l) 1)
       (λ shut.
-      let here = may-closed links s l (eqb-true (closed links l) 1 shut) usable in
-      hands-closed links own marks l k shut ∙ ap (marked own k) here ∙ mine)
+      let is-shut = eqb-true (closed links l) 1 shut in
+      let here = may-closed links s l is-shut usable in
+      hands-closed links own marks l k shut ∙ ap (marked own k) here ∙ mine is-shut)
       (λ free. hands-open links own marks l k free ∙ e)
 
 -- A sweep over no links leaves the marks,
@@ -254,14 +255,22 @@ searched-first nodes links destinations marks started =
       supported = λ k j e. ([], started .only k j e);
     }
 
+-- has the destinations' own marks at hand, which it needs only where a head is closed,
+module _ {links : List (List ℕ)} {destinations own : List ℕ} where
+  pub owned-started : Started destinations (length destinations) own → Owned links destinations own
+  owned-started started = record { only = started .only; mine = λ l k h shut below. started .own k below }
+
+  pub owned-open : AllOpen links → Started destinations 0 own → Owned links destinations own
+  owned-open all-open started = record { only = started .only; mine = λ l k h shut below. absurd (all-open l h shut) }
+
 -- goes on with each sweep,
-module _ {nodes : ℕ} {links : List (List ℕ)} {destinations own : List ℕ} (started : Started destinations (length destinations) own) where
+module _ {nodes : ℕ} {links : List (List ℕ)} {destinations own : List ℕ} (owned : Owned links destinations own) where
   pub searched-next : {before after : List ℕ} {count : ℕ} → Searched nodes links destinations before → Swept nodes links own before 0 (length links) after count → Searched nodes links destinations after
   searched-next searched swept =
       record {
         whole = swept .whole;
         own = λ k h. swept .stays k (getD destinations k 0) (searched .own k h);
-        supported = λ k. swept .supports k (getD destinations k 0) (started .only k) (searched .supported k);
+        supported = λ k. swept .supports k (getD destinations k 0) (owned .only k) (searched .supported k);
       }
 
   -- and where a sweep gives no node a mark the nodes marked for a destination are those with a path to it.
@@ -273,7 +282,7 @@ module _ {nodes : ℕ} {links : List (List ℕ)} {destinations own : List ℕ} (
       let done = searched-next searched swept in
       let reaches : Reaches q (marked after k) = record {
         at-destination = done .own k h;
-        over-link = λ l p u e. swept .closes refl k l (omega arith) p (hands-mark links own after k s l (started .own k h) u e);
+        over-link = λ l p u e. swept .closes refl k l (omega arith) p (hands-mark links own after k s l (λ shut. owned .mine l k p shut h) u e);
         supported = λ j p e. done .supported k j e;
       } in
       tabulate-cong nodes _ _ (λ j p. marked-has-distance q (routing-well-formed nodes links s ends (below k h)) (marked after k) reaches j p)

@@ -1,4 +1,4 @@
--- Arrays of 512 numbers of which the first m count and the others are 0.
+-- Arrays of which the first m numbers count and the others are 0. Those by link have 512 numbers.
 use Prim.Native.Nat.{ℕ, _+_, _-_, _≤_, _<_}
 use native.Mathlib.Omega.{arith}
 use mathlib.Core.Path.{_≡_, refl, sym, _∙_, ap}
@@ -9,7 +9,7 @@ use lib.Seq.{getD-append-add, ext-getD, getD-set-same, getD-set-other}
 use Rattle.theory.specs.Finite.{tabulate}
 use Rattle.theory.specs.Laws.Finite.{length-tabulate, getD-tabulate, order, below-suc}
 use Rattle.travel.specs.Links.{padded}
-use Rattle.travel.specs.Ranges.{Clear, RowAdded}
+use Rattle.travel.specs.Ranges.{ClearPast, Clear, RowAdded}
 
 getD-zeros : (n i : ℕ) → getD {A = ℕ} (replicate n 0) i 0 ≡ 0
 getD-zeros n i =
@@ -73,8 +73,23 @@ padded-zeros m f h zero = padded-none f ∙ padded-is m f (padded 0 f) h (length
 pub padded-clear : (m : ℕ) (f : ℕ → ℕ) → m ≤ 512 → Clear m (padded m f)
 padded-clear m f h = record { size = length-padded m f h; rest = getD-padded-rest m f }
 
+pub zeros-past : (n m : ℕ) → ClearPast n m (replicate n 0)
+zeros-past n m = record { size = length-replicate {A = ℕ} n 0; rest = λ l p. getD-zeros n l }
+
 pub zeros-clear : (m : ℕ) → Clear m (replicate 512 0)
-zeros-clear m = record { size = length-replicate {A = ℕ} 512 0; rest = λ l p. getD-zeros 512 l }
+zeros-clear m = zeros-past 512 m
+
+-- A zero is written before those of an array.
+pub clear-more : (n m l : ℕ) (xs : List ℕ) → l < n → m ≤ l + 1 → ClearPast n m xs → ClearPast n l (set xs l 0)
+clear-more n m l xs h next clear =
+    record {
+      size = length-set xs l 0 ∙ clear .size;
+      rest = λ i p.
+          ⊎-elim (λ q. getD-set-other xs l i 0 0 (λ e. omega arith) ∙ clear .rest i (omega arith)) (λ q. here i (omega arith)) (order l i);
+    }
+  where
+    here : (i : ℕ) → i ≡ l → getD (set xs l 0) i 0 ≡ 0
+    here i e = rw e (getD-set-same xs l 0 0 (omega (arith, clear .size)))
 
 -- An array whose first m numbers are written one after the other: the first l are written, and past m there are zeros.
 pub record Filled (l m : ℕ) (f : ℕ → ℕ) (xs : List ℕ) : Type 0 where

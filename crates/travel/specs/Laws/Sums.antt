@@ -4,15 +4,16 @@ use native.Mathlib.Omega.{arith}
 use mathlib.Core.Path.{_≡_, refl, sym, _∙_, ap}
 use mathlib.Core.Bool.{Bool, true, false, cond}
 use mathlib.Core.List.{List}
-use lib.ListN.{getD, set, replicate, length-set, length-replicate, getD-replicate}
+use mathlib.Core.Logic.{⊎-elim}
+use lib.ListN.{getD, set, length-set, List·getD-eq-default}
 use lib.Dec.{eqb}
 use lib.Seq.{getD-set-same, getD-set-other}
-use borrow.Author.Tests.{eqb-true, eqb-false}
+use borrow.Author.Tests.{eqb-true, eqb-false, ne-eqb}
 use Rattle.theory.specs.Finite.{sum}
 use Rattle.theory.specs.Study.{column}
 use Rattle.theory.specs.Flows.{sumAt}
-use Rattle.theory.specs.Laws.Finite.{sum-suc, sum-bound}
-use Rattle.travel.specs.Ranges.{SumsAt}
+use Rattle.theory.specs.Laws.Finite.{order, sum-suc, sum-zero, sum-bound}
+use Rattle.travel.specs.Ranges.{ClearPast, SumsAt}
 
 -- A number counted or not is no more than it is.
 counted-most : (b : Bool) (x most : ℕ) → x ≤ most → cond b x 0 ≤ most
@@ -20,9 +21,9 @@ counted-most true x most h = h
 counted-most false x most h = omega arith
 
 module _ (links : List (List ℕ)) (end : ℕ) (row : List ℕ) where
-  pub sums-none : SumsAt 0 links end row (replicate 128 0)
+  pub sums-none : (sums : List ℕ) → ClearPast 128 0 sums → SumsAt 0 links end row sums
   unfolding sumAt sum
-  sums-none = record { size = length-replicate {A = ℕ} 128 0; at = λ j p. getD-replicate 128 j 0 0 p }
+  sums-none sums clear = record { size = clear .size; at = λ j p. clear .rest j (omega arith) }
 
   pub sums-most : (l most j : ℕ) → ((i : ℕ) → getD row i 0 ≤ most) → sumAt l (column end links) j (λ i. getD row i 0) ≤ l * most
   unfolding sumAt
@@ -58,3 +59,15 @@ module _ (links : List (List ℕ)) (end : ℕ) (row : List ℕ) where
           let this : term j l ≡ 0 = rw e in
           let kept = getD-set-other sums node j x 0 (λ q. eqb-false node j e (sym q)) in
           omega (arith, kept, so-far .at j p)
+
+  -- No link has its end past the nodes, so nothing is added there.
+  pub sums-past : (m nodes : ℕ) (sums : List ℕ) → ((l : ℕ) → l < m → column end links l < nodes) → SumsAt m links end row sums → ClearPast 128 nodes sums
+  unfolding sumAt
+  sums-past m nodes sums ends all =
+      record {
+        size = all .size;
+        rest = λ j p.
+            ⊎-elim (λ q. all .at j q ∙ sum-zero m _ (λ l h. rw (ne-eqb (column end links l) j (λ e. omega (arith, ends l h)))))
+            (λ q. List·getD-eq-default sums 0 (omega (arith, all .size)))
+            (order j 128);
+      }

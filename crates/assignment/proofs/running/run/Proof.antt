@@ -1,93 +1,52 @@
--- `assignment::run` meets its contract: it runs a study that its questions accept, and leaves the table of any other.
-use native.Mathlib.Omega.{arith}
-use mathlib.Core.Path.{_≡_, sym, _∙_}
+-- `assignment::run` meets its contract: there is room for the file in the places that it lends.
 use borrow.Author.Needs.{needs}
-use denote.Ref.{now}
-use Rattle.calls.specs.Calls.{runNumber}
-use Rattle.calls.specs.Laws.Calls.{run-kept}
-use Rattle.network.specs.Laws.Decoding.{links-within, destinations-within, trips-within, links-counted, destinations-counted, trips-counted}
-use Rattle.assignment.specs.Laws.Parts.{parts-decoded, parts-opened}
-use Rattle.assignment.specs.Laws.Answers.{run-refusal, run-opened}
+use mathlib.Core.Path.{refl}
+use native.Mathlib.Omega.{arith}
+use Rattle.network.specs.Laws.Decoding.{room-most, room-short}
 use Rattle.assignment.proofs.running.run.Statement.{statement}
 use Rattle.assignment.proofs.running.run.Tie as tie
 
-decode-requires : tie.Need-decode-requires
-decode-requires c κs = search needs
+slice-aggregate-run-in : tie.Need-slice-aggregate-run-in
+slice-aggregate-run-in c = search needs
 
-array-share-prefix-rows : tie.Need-array-share-prefix-rows
-array-share-prefix-rows c = links-within (c .decode .ensures)
+slice-aggregate-run-in-2 : tie.Need-slice-aggregate-run-in-2
+slice-aggregate-run-in-2 c = search needs
 
-slice-aggregate-links : tie.Need-slice-aggregate-links
-slice-aggregate-links c = links-counted (c .before .decode .ensures)
-
-array-share-prefix-places : tie.Need-array-share-prefix-places
-array-share-prefix-places c = destinations-within (c .before .decode .ensures)
-
-slice-aggregate-destinations : tie.Need-slice-aggregate-destinations
-slice-aggregate-destinations c = destinations-counted (c .before .before .decode .ensures)
-
-mul-entries : tie.Need-mul-entries
-mul-entries c = omega (arith, trips-within (c .before .before .decode .ensures), c .before .before .decode .ensures .entries-long)
-
-array-share-prefix-entries : tie.Need-array-share-prefix-entries
-array-share-prefix-entries c = trips-within (c .before .before .decode .ensures)
-
-slice-aggregate-trips : tie.Need-slice-aggregate-trips
-slice-aggregate-trips c = trips-counted (c .before .before .before .decode .ensures)
-
-run-refusal-requires : tie.Need-run-refusal-requires
-run-refusal-requires c κs = parts-decoded (c .before .before .before .before .decode .ensures)
-
-refused-run-requires : tie.Need-refused-run-requires
-refused-run-requires c κs = search needs
+run-in-requires : tie.Need-run-in-requires
+run-in-requires c κs = room-short _ (omega arith) refl refl
 
 same-length : tie.Need-same-length
 same-length c = search needs
 
 returns : tie.Need-returns
-returns c =
-    let number = c .before .before .run-refusal .ensures in (
-      c .refused-run .ensures ∙ run-refusal _ _ _ _ _ number (c .before .if1 .taken),
-      sym (run-kept _ _ _ _ (λ e. c .before .if1 .taken (number ∙ e))),
-    )
+returns c = c .before .before .before .before .run-in .ensures
 
--- What was decoded, and the call's arguments.
-abbrev read : tie.Else1 → tie.After-decode
-read c = c .before .before .before .before .before .before
+slice-aggregate-run-in-3 : tie.Need-slice-aggregate-run-in-3
+slice-aggregate-run-in-3 c = search needs
 
-abbrev given : tie.Else1 → tie.Start
-given c = read c .before .before .before .before .before .before
+slice-aggregate-run-in-4 : tie.Need-slice-aggregate-run-in-4
+slice-aggregate-run-in-4 c = search needs
 
-accepted : (c : tie.Else1) → runNumber (now (given c .args .file)) (now (given c .args .table)) (given c .args .budget) ≡ 0
-accepted c = sym (c .before .run-refusal .ensures) ∙ c .if1 .left
-
-turns-requires : tie.Need-turns-requires
-turns-requires c κs =
-    let else = c .before in
-    (parts-opened (parts-decoded (read else .decode .ensures)) (run-opened _ _ _ (accepted else)), accepted else)
+run-in-requires-2 : tie.Need-run-in-requires-2
+run-in-requires-2 c κs = room-most _ refl refl
 
 same-length-2 : tie.Need-same-length-2
 same-length-2 c = search needs
 
 returns-2 : tie.Need-returns-2
-returns-2 c = search needs
+returns-2 c = c .before .before .before .before .run-in2 .ensures
 
 pub run-spec : {M : Type 1} → statement M
 run-spec =
     tie.close
     (tie.spec
-    decode-requires
-    array-share-prefix-rows
-    slice-aggregate-links
-    array-share-prefix-places
-    slice-aggregate-destinations
-    mul-entries
-    array-share-prefix-entries
-    slice-aggregate-trips
-    run-refusal-requires
-    refused-run-requires
+    slice-aggregate-run-in
+    slice-aggregate-run-in-2
+    run-in-requires
     same-length
     returns
-    turns-requires
+    slice-aggregate-run-in-3
+    slice-aggregate-run-in-4
+    run-in-requires-2
     same-length-2
     returns-2)

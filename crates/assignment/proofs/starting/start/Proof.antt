@@ -1,107 +1,52 @@
--- `assignment::start` meets its contract: it fills a table that its questions accept, and leaves any other.
-use Prim.Native.Nat.{ℕ}
-use native.Mathlib.Omega.{arith}
-use mathlib.Core.Path.{_≡_, refl, sym, _∙_}
-use lib.ListN.{length-replicate}
+-- `assignment::start` meets its contract: there is room for the file in the places that it lends.
 use borrow.Author.Needs.{needs}
-use denote.Ref.{now}
-use Rattle.calls.specs.Calls.{startNumber}
-use Rattle.calls.specs.Laws.Calls.{start-kept}
-use Rattle.network.specs.Laws.Decoding.{links-within, destinations-within, trips-within, links-counted, destinations-counted, trips-counted}
-use Rattle.judging.specs.Laws.Judged.{zeros-lent}
-use Rattle.judging.specs.Laws.Study.{chainable}
-use Rattle.assignment.specs.Laws.Parts.{parts-decoded}
-use Rattle.assignment.specs.Laws.Answers.{start-ready, start-holds, start-leaves}
+use mathlib.Core.Path.{refl}
+use native.Mathlib.Omega.{arith}
+use Rattle.network.specs.Laws.Decoding.{room-most, room-short}
 use Rattle.assignment.proofs.starting.start.Statement.{statement}
 use Rattle.assignment.proofs.starting.start.Tie as tie
 
-decode-requires : tie.Need-decode-requires
-decode-requires c κs = search needs
+slice-aggregate-start-in : tie.Need-slice-aggregate-start-in
+slice-aggregate-start-in c = search needs
 
-array-share-prefix-rows : tie.Need-array-share-prefix-rows
-array-share-prefix-rows c = links-within (c .decode .ensures)
+slice-aggregate-start-in-2 : tie.Need-slice-aggregate-start-in-2
+slice-aggregate-start-in-2 c = search needs
 
-slice-aggregate-links : tie.Need-slice-aggregate-links
-slice-aggregate-links c = links-counted (c .before .decode .ensures)
-
-array-share-prefix-places : tie.Need-array-share-prefix-places
-array-share-prefix-places c = destinations-within (c .before .decode .ensures)
-
-slice-aggregate-destinations : tie.Need-slice-aggregate-destinations
-slice-aggregate-destinations c = destinations-counted (c .before .before .decode .ensures)
-
-mul-entries : tie.Need-mul-entries
-mul-entries c = omega (arith, trips-within (c .before .before .decode .ensures), c .before .before .decode .ensures .entries-long)
-
-array-share-prefix-entries : tie.Need-array-share-prefix-entries
-array-share-prefix-entries c = trips-within (c .before .before .decode .ensures)
-
-slice-aggregate-trips : tie.Need-slice-aggregate-trips
-slice-aggregate-trips c = trips-counted (c .before .before .before .decode .ensures)
-
-start-refusal-requires : tie.Need-start-refusal-requires
-start-refusal-requires c κs = parts-decoded (c .before .before .before .before .decode .ensures)
+start-in-requires : tie.Need-start-in-requires
+start-in-requires c κs = room-short _ (omega arith) refl refl
 
 same-length : tie.Need-same-length
 same-length c = search needs
 
 returns : tie.Need-returns
-returns c =
-    let number = c .before .start-refusal .ensures in
-    (number, sym (start-kept _ _ (λ e. c .if1 .taken (number ∙ e))))
+returns c = c .before .before .before .before .start-in .ensures
 
--- What was decoded, and the call's arguments.
-abbrev read : tie.Else1 → tie.After-decode
-read c = c .before .before .before .before .before .before
+slice-aggregate-start-in-3 : tie.Need-slice-aggregate-start-in-3
+slice-aggregate-start-in-3 c = search needs
 
-abbrev given : tie.Else1 → tie.Start
-given c = read c .before .before .before .before .before .before
+slice-aggregate-start-in-4 : tie.Need-slice-aggregate-start-in-4
+slice-aggregate-start-in-4 c = search needs
 
-accepted : (c : tie.Else1) → startNumber (now (given c .args .file)) (now (given c .args .table)) ≡ 0
-accepted c = sym (c .before .start-refusal .ensures) ∙ c .if1 .left
-
-put-powers-requires : tie.Need-put-powers-requires
-put-powers-requires c κs = length-replicate {A = ℕ} 769 0
-
-link-chains-requires : tie.Need-link-chains-requires
-link-chains-requires c κs =
-    let else = c .before .before in
-    chainable (start-ready _ _ (parts-decoded (read else .decode .ensures)) (accepted else))
-
-start-table-requires : tie.Need-start-table-requires
-start-table-requires c κs =
-    let chained = c .before .before .before .before .before .before .before in
-    let else = chained .before .before .before in
-    let parts = parts-decoded (read else .decode .ensures) in (
-      (start-ready _ _ parts (accepted else), record { chains-are = chained .link-chains .ensures; powers-are = chained .before .put-powers .ensures }),
-      (start-holds _ _ parts (accepted else), (zeros-lent _ refl refl refl refl, refl)),
-    )
+start-in-requires-2 : tie.Need-start-in-requires-2
+start-in-requires-2 c κs = room-most _ refl refl
 
 same-length-2 : tie.Need-same-length-2
 same-length-2 c = search needs
 
 returns-2 : tie.Need-returns-2
-returns-2 c =
-    let else = c .before .before .before .before .before .before .before .before .before .before .before .before .before in
-    (sym (accepted else), start-leaves _ _ (parts-decoded (read else .decode .ensures)) _ (accepted else) (c .before .before .start-table .ensures .0))
+returns-2 c = c .before .before .before .before .start-in2 .ensures
 
 pub start-spec : {M : Type 1} → statement M
 start-spec =
     tie.close
     (tie.spec
-    decode-requires
-    array-share-prefix-rows
-    slice-aggregate-links
-    array-share-prefix-places
-    slice-aggregate-destinations
-    mul-entries
-    array-share-prefix-entries
-    slice-aggregate-trips
-    start-refusal-requires
+    slice-aggregate-start-in
+    slice-aggregate-start-in-2
+    start-in-requires
     same-length
     returns
-    put-powers-requires
-    link-chains-requires
-    start-table-requires
+    slice-aggregate-start-in-3
+    slice-aggregate-start-in-4
+    start-in-requires-2
     same-length-2
     returns-2)

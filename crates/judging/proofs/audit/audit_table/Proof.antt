@@ -6,66 +6,62 @@ use lib.ListN.{length, length-replicate}
 use borrow.Author.Needs.{needs}
 use Rattle.travel.specs.Laws.Padded.{zeros-clear}
 use Rattle.judging.specs.Laws.Study.{links-fit, chainable, searchable}
-use Rattle.judging.specs.Laws.Judged.{share-fits, holds, totals-within, cost-is, least-fits, defined-gap}
+use Rattle.judging.specs.Laws.Judged.{share-fits, totals-within, cost-is, least-fits, defined-gap}
 use Rattle.judging.proofs.audit.audit_table.Statement.{statement}
 use Rattle.judging.proofs.audit.audit_table.Tie as tie
 
--- The places at which totals, times, the chain, least times and the times spent are there, each with the one before.
-abbrev of-totals : tie.After-totals → tie.Start
-of-totals c = c .before .before .before .before .before .before
+-- The places at which the powers, times, the chain, least times and the times spent are there, each with the one before.
+abbrev of-powers : tie.After-put-powers → tie.Start
+of-powers c = c .before .before .before .before .before
 
-abbrev of-times : tie.After-times2 → tie.After-totals
-of-times c = c .before .before .before .before
+abbrev of-times : tie.After-times2 → tie.After-put-powers
+of-times c = c .before .before .before
 
 abbrev of-least : tie.After-least-times → tie.After-into-chain
 of-least c = c .before .before .before
 
 abbrev of-spent : tie.After-product → tie.After-least-times
-of-spent c = c .before .before .before
+of-spent c = c .before .before
 
 put-powers-requires : tie.Need-put-powers-requires
 put-powers-requires c κs = length-replicate {A = ℕ} 769 0
 
-totals-requires : tie.Need-totals-requires
-totals-requires c κs = let given = c .before .before .before .before .before .pre in
-    (given .ready .few-destinations, given .ready .few-links, holds given)
-
 times-requires : tie.Need-times-requires
-times-requires c κs = let at = c .before .before .before in
-    let start = of-totals at in
-    let given = start .pre in (
-      (links-fit (given .ready), share-fits given, totals-within given (at .totals .ensures .0)),
-      (at .before .put-powers .ensures, zeros-clear (length (start .args .links .now))),
+times-requires c κs = let at = c .before .before in
+    let start = of-powers at in
+    let given = start .pre .0 in (
+      (links-fit (given .ready), share-fits given, totals-within given (of-powers at .pre .1)),
+      (at .put-powers .ensures, zeros-clear (length (start .args .links .now))),
     )
 
 into-chain-requires : tie.Need-into-chain-requires
-into-chain-requires c κs = chainable (of-totals (of-times c) .pre .ready)
+into-chain-requires c κs = chainable (of-powers (of-times c) .pre .0 .ready)
 
 least-times-requires : tie.Need-least-times-requires
 least-times-requires c κs = let chained = c .before .before in
     let timed = chained .before in
-    let ready = of-totals (of-times timed) .pre .ready in
+    let ready = of-powers (of-times timed) .pre .0 .ready in
     ((searchable ready (timed .times2 .ensures .1), chained .into-chain .ensures), ready .trips-long)
 
 product-requires : tie.Need-product-requires
-product-requires c κs = let timed = of-least (c .before .before) .before in
+product-requires c κs = let timed = of-least (c .before) .before in
     let at = of-times timed in
-    let given = of-totals at .pre in
-    (given .ready .few-links, timed .times2 .ensures .1 .times-fit, totals-within given (at .totals .ensures .0))
+    let given = of-powers at .pre .0 in
+    (given .ready .few-links, timed .times2 .ensures .1 .times-fit, totals-within given (of-powers at .pre .1))
 
 -- W × the least times are at most the times spent.
 least :
     (c : tie.After-product) →
-    of-totals (of-times (of-least (of-spent c) .before)) .args .share * of-spent c .least-times .result ≤ c .product .result
+    of-powers (of-times (of-least (of-spent c) .before)) .args .share * of-spent c .least-times .result ≤ c .product .result
 least c =
     let found = of-spent c in
     let timed = of-least found .before in
     let at = of-times timed in
-    let given = of-totals at .pre in
-    let most = least-fits given (at .totals .ensures .0) (timed .times2 .ensures .0) (timed .times2 .ensures .1) in
+    let given = of-powers at .pre .0 in
+    let most = least-fits given (of-powers at .pre .1) (timed .times2 .ensures .0) (timed .times2 .ensures .1) in
     let e = found .least-times .ensures in
     let f = c .product .ensures in
-    omega (arith, ap (λ x. of-totals at .args .share * x) e)
+    omega (arith, ap (λ x. of-powers at .args .share * x) e)
 
 mul-gap : tie.Need-mul-gap
 mul-gap c = omega (arith, least c)
@@ -74,24 +70,24 @@ sub-gap : tie.Need-sub-gap
 sub-gap c = least c
 
 cost-requires : tie.Need-cost-requires
-cost-requires c κs = let at = of-times (of-least (of-spent (c .before .before)) .before) in
-    let given = of-totals at .pre in (
-      (links-fit (given .ready), share-fits given, totals-within given (at .totals .ensures .0)),
-      at .before .put-powers .ensures,
+cost-requires c κs = let at = of-times (of-least (of-spent (c .before)) .before) in
+    let given = of-powers at .pre .0 in (
+      (links-fit (given .ready), share-fits given, totals-within given (of-powers at .pre .1)),
+      at .put-powers .ensures,
     )
 
 returns : tie.Need-returns
-returns c = let spent = c .before .before .before in
+returns c = let spent = c .before .before in
     let found = of-spent spent in
     let timed = of-least found .before in
     let at = of-times timed in
-    let given = of-totals at .pre in
-    let share = of-totals at .args .share in
+    let given = of-powers at .pre .0 in
+    let share = of-powers at .args .share in
     record {
       gap-is =
           ap₂ (λ a b. a - share * b) (spent .product .ensures) (found .least-times .ensures)
-          ∙ defined-gap given (at .totals .ensures .0) (timed .times2 .ensures .0) (timed .times2 .ensures .1);
-      cost-is = c .cost .ensures ∙ cost-is given (at .totals .ensures .0);
+          ∙ defined-gap given (of-powers at .pre .1) (timed .times2 .ensures .0) (timed .times2 .ensures .1);
+      cost-is = c .cost .ensures ∙ cost-is given (of-powers at .pre .1);
     }
 
 pub audit-table-spec : {M : Type 1} → statement M
@@ -99,7 +95,6 @@ audit-table-spec =
     tie.close
     (tie.spec
     put-powers-requires
-    totals-requires
     times-requires
     into-chain-requires
     least-times-requires

@@ -1,23 +1,23 @@
 -- `pass_table` meets its contract: the table is judged by what is computed of it, and moved by the chosen j.
 use Prim.Native.Nat.{ℕ}
 use mathlib.Core.Path.{refl, _∙_, ap}
-use lib.ListN.{length, length-replicate}
+use mathlib.Core.List.{[]}
+use lib.ListN.{length, getD, length-replicate}
 use borrow.Author.Needs.{needs}
 use Rattle.theory.specs.Laws.Cases.{true-false}
 use Rattle.calls.specs.Calls.{shareAfter, tableAfter}
+use Rattle.judging.specs.Study.{studyOf}
+use Rattle.judging.specs.Judged.{TotalsOf}
 use Rattle.judging.specs.Laws.Study.{links-fit, chainable}
-use Rattle.judging.specs.Laws.Judged.{zeros-lent, share-fits, holds, totals-within, cost-is, totals-are, gap-is, gap-fits, move-fits, movable, move-is, moves-is}
+use Rattle.judging.specs.Laws.Judged.{zeros-lent, share-fits, totals-within, cost-is, totals-are, gap-is, gap-fits, move-fits, movable, move-is, moves-is}
 use Rattle.judging.proofs.pass.pass_table.Statement.{statement}
 use Rattle.judging.proofs.pass.pass_table.Tie as tie
 
--- The places at which chains, powers and reciprocals, totals, what judging computes, the gap, the cost and j are there, each with the one before.
-abbrev of-totals : tie.After-write-totals → tie.After-put-reciprocals
-of-totals c = c .before .before .before
+-- The places at which powers and reciprocals, what judging computes, the gap, the cost and j are there, each with the one before.
+abbrev start : tie.After-put-reciprocals → tie.Start
+start c = c .before .before .before .before .before .before .before .before
 
-abbrev start : tie.After-write-totals → tie.Start
-start c = of-totals c .before .before .before .before .before .before .before .before
-
-abbrev of-judge : tie.After-judge → tie.After-write-totals
+abbrev of-judge : tie.After-judge → tie.After-put-reciprocals
 of-judge c = c .before .before .before .before .before .before .before
 
 abbrev of-gap : tie.After-gap-of → tie.After-judge
@@ -29,42 +29,44 @@ of-cost c = c .before .before .before
 abbrev of-chosen : tie.After-chosen → tie.After-cost
 of-chosen c = c .before .before .before
 
+-- The totals that are lent.
+totals-were :
+    (c : tie.Start) →
+    let x = c .args in TotalsOf (studyOf (x .nodes) (x .links .now) (x .destinations .now) (x .trips .now)) (x .table .now) (x .flows .now)
+totals-were c = ap (λ rows. getD rows 0 []) (c .pre .1)
+
 link-chains-requires : tie.Need-link-chains-requires
-link-chains-requires c κs = chainable (c .before .before .before .pre .ready)
+link-chains-requires c κs = chainable (c .before .before .before .pre .0 .ready)
 
 put-powers-requires : tie.Need-put-powers-requires
 put-powers-requires c κs = length-replicate {A = ℕ} 769 0
 
 put-reciprocals-requires : tie.Need-put-reciprocals-requires
 put-reciprocals-requires c κs =
-    (links-fit (c .before .before .before .before .before .before .before .pre .ready), c .before .put-powers .ensures)
-
-index-1-write-totals : tie.Need-index-1-write-totals
-index-1-write-totals c = search needs
-
-write-totals-requires : tie.Need-write-totals-requires
-write-totals-requires c κs =
-    let given = c .before .before .before .before .before .before .before .before .before .before .pre in
-    (given .ready .few-destinations, given .ready .few-links, holds given, refl)
+    (links-fit (c .before .before .before .before .before .before .before .pre .0 .ready), c .before .put-powers .ensures)
 
 judge-requires : tie.Need-judge-requires
 judge-requires c κs = let at = c .before .before .before .before .before .before in
-    let given = start at .pre in (
+    let begin = start at in
+    let (given, lent) = begin .pre in (
       (
         given .ready,
         share-fits given,
-        record { chains-are = of-totals at .before .before .before .before .link-chains .ensures; powers-are = of-totals at .put-reciprocals .ensures .powers },
+        record { chains-are = at .before .before .before .before .link-chains .ensures; powers-are = at .put-reciprocals .ensures .powers },
       ),
       (
         λ e. true-false e refl,
-        (zeros-lent (length (start at .args .links .now)) refl refl refl refl, totals-within given (at .write-totals .ensures .0)),
+        (
+          zeros-lent (length (begin .args .links .now)) refl refl (ap length lent) (ap (λ rows. getD rows 1 []) lent),
+          totals-within given (totals-were begin),
+        ),
       ),
     )
 
 gap-of-requires : tie.Need-gap-of-requires
 gap-of-requires c κs = let judged = c .before .before in
-    let at = of-judge judged in
-    gap-fits (start at .pre) (judged .judge .ensures) (at .write-totals .ensures .0)
+    let begin = start (of-judge judged) in
+    gap-fits (begin .pre .0) (judged .judge .ensures) (totals-were begin)
 
 index-1-cost : tie.Need-index-1-cost
 index-1-cost c = search needs
@@ -72,22 +74,22 @@ index-1-cost c = search needs
 cost-requires : tie.Need-cost-requires
 cost-requires c κs = let judged = of-gap (c .before .before) in
     let at = of-judge judged in
-    let given = start at .pre in
-    ((links-fit (given .ready), share-fits given, totals-within given (totals-are given (judged .judge .ensures) (at .write-totals .ensures .0))), of-totals at .put-reciprocals .ensures .powers)
+    let given = start at .pre .0 in
+    ((links-fit (given .ready), share-fits given, totals-within given (totals-are given (judged .judge .ensures) (totals-were (start at)))), at .put-reciprocals .ensures .powers)
 
 chosen-requires : tie.Need-chosen-requires
 chosen-requires c κs = let judged = of-gap (of-cost (c .before .before)) in
     let at = of-judge judged in
-    (move-fits (start at .pre) (judged .judge .ensures) (at .write-totals .ensures .0), of-totals at .put-reciprocals .ensures)
+    (move-fits (start at .pre .0) (judged .judge .ensures) (totals-were (start at)), at .put-reciprocals .ensures)
 
 can-move-requires : tie.Need-can-move-requires
-can-move-requires c κs = start (of-judge (of-gap (of-cost (of-chosen c)))) .pre .share-most
+can-move-requires c κs = start (of-judge (of-gap (of-cost (of-chosen c)))) .pre .0 .share-most
 
 move-table-requires : tie.Need-move-table-requires
 move-table-requires c κs = let chose = c .before .before .before .before in
     let judged = of-gap (of-cost (of-chosen chose)) in
-    let at = of-judge judged in
-    movable (start at .pre) (judged .judge .ensures) (at .write-totals .ensures .0) (chose .chosen .ensures)
+    let begin = start (of-judge judged) in
+    movable (begin .pre .0) (judged .judge .ensures) (totals-were begin) (chose .chosen .ensures)
 
 same-length : tie.Need-same-length
 same-length c = search needs
@@ -99,11 +101,10 @@ returns c = let moved = c .before .before in
     let priced = of-chosen chose in
     let gapped = of-cost priced in
     let judged = of-gap gapped in
-    let at = of-judge judged in
-    let begin = start at in
-    let judgeable = begin .pre in
+    let begin = start (of-judge judged) in
+    let judgeable = begin .pre .0 in
     let known = judged .judge .ensures in
-    let sums = at .write-totals .ensures .0 in
+    let sums = totals-were begin in
     let next = move-is judgeable known sums (chose .chosen .ensures) in
     record {
       moved-is = can .can-move .ensures ∙ moves-is judgeable known sums (chose .chosen .ensures);
@@ -120,8 +121,6 @@ pass-table-spec =
     link-chains-requires
     put-powers-requires
     put-reciprocals-requires
-    index-1-write-totals
-    write-totals-requires
     judge-requires
     gap-of-requires
     index-1-cost

@@ -4,9 +4,8 @@ use denote.Ref.{now}
 use mathlib.Core.Path.{_≡_, sym, _∙_}
 use Rattle.study.specs.Laws.{accepted, nodes-field, links-field, destinations-field}
 use Rattle.study.specs.Questions.{refusal}
-use Rattle.questions.specs.Laws.Questions.{entries-fit}
 use Rattle.network.specs.Decoded.{Counts}
-use Rattle.network.specs.Laws.Decoding.{counts, links-there, destinations-there, trips-there, decoded, decoded-refused}
+use Rattle.network.specs.Laws.Decoding.{holds-own, counts, room-links, room-entries, links-there, destinations-there, trips-there, decoded, decoded-refused}
 use Rattle.network.proofs.decoding.decode.Statement.{statement}
 use Rattle.network.proofs.decoding.decode.Tie as tie
 
@@ -14,10 +13,10 @@ refusal-requires : tie.Need-refusal-requires
 refusal-requires c κs = search needs
 
 returns : tie.Need-returns
-returns c = decoded-refused _ _ (c .before .refusal .ensures) (c .if1 .taken) (c .before .before .before .pre)
+returns c = decoded-refused _ _ (c .before .refusal .ensures) (c .if1 .taken) (c .before .before .before .before .pre .0) (c .before .before .before .before .pre .1)
 
 -- The file is accepted where the code goes on.
-opened : (c : tie.Else1) → refusal (now (c .before .before .before .args .file)) ≡ 0
+opened : (c : tie.Else1) → refusal (now (c .before .before .before .before .args .file)) ≡ 0
 opened c = sym (c .before .refusal .ensures) ∙ c .if1 .left
 
 node-field-requires : tie.Need-node-field-requires
@@ -31,7 +30,7 @@ destination-field-requires c κs = accepted _ (opened (c .before .before)) .leng
 
 -- From where the counts are known back to the entry.
 abbrev start : tie.After-destination-field → tie.Start
-start c = c .before .before .before .before .before .before
+start c = c .before .before .before .before .before .before .before
 
 -- The counts of the file.
 counted : (c : tie.After-destination-field) → Counts (now (start c .args .file)) (c .before .before .node-field .result) (c .before .link-field .result) (c .destination-field .result)
@@ -56,32 +55,40 @@ decode-links-requires : tie.Need-decode-links-requires
 decode-links-requires c κs =
     let parted = c .before in
     let after = parted .before .before .before .before in
-    (counted after .links-most, links-there (counted after) (parted .before .before .before .accepted-section .ensures), start after .pre .0)
+    (room-links (counted after) (start after .pre .0), links-there (counted after) (parted .before .before .before .accepted-section .ensures))
 
 decode-closed-requires : tie.Need-decode-closed-requires
 decode-closed-requires c κs =
-    let parted = c .before .before .before in
-    (counted (parted .before .before .before .before) .links-most, c .before .decode-links .ensures)
+    let held = c .before .before .decode-links .ensures in
+    let after = c .before .before .before .before .before .before .before .before in
+    (rw (held .long) (room-links (counted after) (start after .pre .0)), holds-own _ held)
 
 decode-destinations-requires : tie.Need-decode-destinations-requires
 decode-destinations-requires c κs =
-    let parted = c .before .before .before .before .before in
+    let parted = c .before .before .before .before .before .before .before in
     let after = parted .before .before .before .before in
     (counted after .destinations-most, destinations-there (counted after) (parted .before .before .accepted-section2 .ensures), start after .pre .1)
 
 decode-trips-requires : tie.Need-decode-trips-requires
 decode-trips-requires c κs =
-    let parted = c .before .before .before .before .before .before .before in
+    let parted = c .before .before .before .before .before .before .before .before .before in
     let after = parted .before .before .before .before in
-    (entries-fit (counted after .nodes-most) (counted after .destinations-most), trips-there (counted after) (parted .before .accepted-section3 .ensures), start after .pre .2)
+    (room-entries (counted after) (start after .pre .0), trips-there (counted after) (parted .before .accepted-section3 .ensures))
+
+same-length : tie.Need-same-length
+same-length c = search needs
+
+same-length-2 : tie.Need-same-length-2
+same-length-2 c = search needs
 
 returns-2 : tie.Need-returns-2
 returns-2 c =
-    let parted = c .before .before .before .before .before .before .before .before in
+    let parted = c .before .before .before .before .before .before .before .before .before .before .before .before in
     let after = parted .before .before .before .before in
-    decoded _ _ (after .before .before .before .before .refusal .ensures) (counted after) (parted .before .before .before .accepted-section .ensures)
-    (parted .before .before .accepted-section2 .ensures) (parted .before .accepted-section3 .ensures) (parted .accepted-section4 .ensures) (c .before .before .before .before .decode-closed .ensures)
-    (c .before .before .decode-destinations .ensures) (c .decode-trips .ensures)
+    let rows = rw (c .before .before .before .before .before .before .before .before .before .before .decode-links .ensures .long) at (c .before .before .before .before .before .before .before .decode-closed .ensures) in
+    decoded _ _ (start after .pre .0) (after .before .before .before .before .refusal .ensures) (counted after) (parted .before .before .before .accepted-section .ensures)
+    (parted .before .before .accepted-section2 .ensures) (parted .before .accepted-section3 .ensures) (parted .accepted-section4 .ensures) rows
+    (c .before .before .before .before .decode-destinations .ensures) (c .before .before .decode-trips .ensures)
 
 pub decode-spec : {M : Type 1} → statement M
 decode-spec =
@@ -100,4 +107,6 @@ decode-spec =
     decode-closed-requires
     decode-destinations-requires
     decode-trips-requires
+    same-length
+    same-length-2
     returns-2)

@@ -2,6 +2,7 @@
 -- bytes of their heads. The measure is what is left of the links.
 use borrow.Author.Needs.{needs}
 use mathlib.Core.Path.{_≡_}
+use lib.ListN.{length}
 use native.Mathlib.Omega.{arith}
 use Prim.Native.Nat.{_≤_, _-_}
 use Rattle.network.specs.Decoded.{ClosedBelow}
@@ -10,31 +11,31 @@ use Rattle.network.proofs.decoding.decode_closed.Statement.{statement}
 use Rattle.network.proofs.decoding.decode_closed.Tie as tie
 
 abbrev Inv-loop : tie.InvT-loop
-Inv-loop bytes closed m links₀ l₀ links l = (l ≤ m) × ClosedBelow bytes closed m l links
+Inv-loop bytes closed m links₀ l₀ links l = (l ≤ m) × ClosedBelow (length links₀) bytes closed m l links
 
 abbrev μ-loop : tie.MeasureT-loop
 μ-loop bytes closed m links₀ l₀ links l = m - l
 
 returns : tie.Need-returns Inv-loop μ-loop
-returns c = closed-none _ _ _ (c .if1 .taken) (c .before .before .before .pre .1)
+returns c = closed-none _ _ _ _ (c .if1 .taken) (c .before .before .before .pre .1)
 
 loop-holds : tie.Need-loop-holds Inv-loop μ-loop
-loop-holds c = let start = c .before .before .before in (search needs, closed-begins _ _ _ (start .pre .0) (start .pre .1))
+loop-holds c = let start = c .before .before .before in (search needs, closed-begins _ _ _ _ (start .pre .1))
 
 mul-with-closed : tie.Need-mul-with-closed Inv-loop μ-loop
 mul-with-closed c = search needs
 
-element-copy-out-with-closed : tie.Need-element-copy-out-with-closed Inv-loop μ-loop
-element-copy-out-with-closed c = omega (arith, c .before .before .before .before .before .pre .0)
+slice-copy-out-with-closed : tie.Need-slice-copy-out-with-closed Inv-loop μ-loop
+slice-copy-out-with-closed c = omega (arith, c .before .before .before .before .before .pre .0)
 
 with-closed-requires : tie.Need-with-closed-requires Inv-loop μ-loop
 with-closed-requires c κs = search needs
 
-mul-t14 : tie.Need-mul-t14 Inv-loop μ-loop
-mul-t14 c = search needs
+mul-t13 : tie.Need-mul-t13 Inv-loop μ-loop
+mul-t13 c = search needs
 
-element-set-from-links : tie.Need-element-set-from-links Inv-loop μ-loop
-element-set-from-links c = omega (arith, c .before .before .before .before .before .before .before .pre .0)
+slice-set-from-links : tie.Need-slice-set-from-links Inv-loop μ-loop
+slice-set-from-links c = omega (arith, c .before .before .before .before .before .before .before .pre .0)
 
 add-l : tie.Need-add-l Inv-loop μ-loop
 add-l c = search needs
@@ -45,7 +46,10 @@ loop-less c = search needs
 loop-again : tie.Need-loop-again Inv-loop μ-loop
 loop-again c =
     let turn = c .before .before .before .loop in
-    (search needs, closed-more _ _ _ (c .before .before .before .before .before .before .before .pre .0) (omega arith) (turn .inv .1) (c .with-closed .ensures))
+    (search needs, closed-more _ _ _ _ (c .before .before .before .before .before .before .before .pre .0) (omega arith) (turn .inv .1) (c .with-closed .ensures))
+
+same-length : tie.Need-same-length Inv-loop μ-loop
+same-length c = search needs
 
 returns-2 : tie.Need-returns-2 Inv-loop μ-loop
 returns-2 c =
@@ -61,11 +65,12 @@ decode-closed-spec =
     returns
     loop-holds
     mul-with-closed
-    element-copy-out-with-closed
+    slice-copy-out-with-closed
     with-closed-requires
-    mul-t14
-    element-set-from-links
+    mul-t13
+    slice-set-from-links
     add-l
     loop-less
     loop-again
+    same-length
     returns-2)

@@ -2,7 +2,8 @@
 use borrow.Author.Needs.{needs}
 use denote.Ref.{now}
 use mathlib.Core.List.{[]}
-use mathlib.Core.Path.{_≡_}
+use mathlib.Core.Path.{_≡_, refl}
+use lib.ListN.{length}
 use native.Mathlib.Omega.{arith}
 use Prim.Native.Nat.{_≤_, _-_}
 use Rattle.study.specs.Fields.{HasLink, closedByte}
@@ -14,14 +15,14 @@ use Rattle.network.proofs.decoding.decode_links.Statement.{statement}
 use Rattle.network.proofs.decoding.decode_links.Tie as tie
 
 abbrev Inv-loop : tie.InvT-loop
-Inv-loop bytes m links₀ l₀ links l = (l ≤ m) × Holds 512 (linkRowsIn bytes [] l) links
+Inv-loop bytes m links₀ l₀ links l = (l ≤ m) × Holds (length links₀) (linkRowsIn bytes [] l) links
 
 abbrev μ-loop : tie.MeasureT-loop
 μ-loop bytes m links₀ l₀ links l = m - l
 
 loop-holds : tie.Need-loop-holds Inv-loop μ-loop
 unfolding linkRowsIn tabulate
-loop-holds c = (search needs, holds-none 512 (c .before .pre .2))
+loop-holds c = (search needs, holds-none _ refl)
 
 -- The bytes of link l are there.
 at-link : (c : tie.In-loop Inv-loop μ-loop) → HasLink (now (c .before .before .before .args .bytes)) (c .before .loop .l)
@@ -46,8 +47,8 @@ capacity-requires c κs = at-link (c .before .before .before .before)
 mul-t12 : tie.Need-mul-t12 Inv-loop μ-loop
 mul-t12 c = search needs
 
-element-set-from-links : tie.Need-element-set-from-links Inv-loop μ-loop
-element-set-from-links c = search needs
+slice-set-from-links : tie.Need-slice-set-from-links Inv-loop μ-loop
+slice-set-from-links c = search needs
 
 add-l : tie.Need-add-l Inv-loop μ-loop
 add-l c = search needs
@@ -60,7 +61,10 @@ unfolding linkRowsIn linkRow closedByte
 loop-again c =
     let bytes = now (c .before .before .before .before .before .before .before .before .args .bytes) in
     let loop = c .before .before .before .before .before .before .loop in
-    (search needs, holds-next 512 (linkRow bytes []) (loop .l) (omega arith) (loop .inv .1) (cc))
+    (search needs, holds-next _ (linkRow bytes []) (loop .l) (omega arith) (loop .inv .1) (cc))
+
+same-length : tie.Need-same-length Inv-loop μ-loop
+same-length c = search needs
 
 returns : tie.Need-returns Inv-loop μ-loop
 returns c =
@@ -80,8 +84,9 @@ decode-links-spec =
     rise-requires
     capacity-requires
     mul-t12
-    element-set-from-links
+    slice-set-from-links
     add-l
     loop-less
     loop-again
+    same-length
     returns)

@@ -1,114 +1,52 @@
--- `pages::page` meets its contract: it prints a table that its questions accept.
-use native.Mathlib.Omega.{arith}
-use mathlib.Core.Path.{_≡_, refl, sym, _∙_}
+-- `pages::page` meets its contract: there is room for the file in the places that it lends.
 use borrow.Author.Needs.{needs}
-use denote.Ref.{now}
-use Rattle.calls.specs.Calls.{pageNumber}
-use Rattle.calls.specs.Laws.Calls.{page-kept}
-use Rattle.network.specs.Laws.Decoding.{links-within, destinations-within, trips-within, links-counted, destinations-counted, trips-counted}
-use Rattle.assignment.specs.Laws.Parts.{parts-decoded}
-use Rattle.pages.specs.Laws.{page-audited, page-numbered, page-room, page-printable, page-leaves}
+use mathlib.Core.Path.{refl}
+use native.Mathlib.Omega.{arith}
+use Rattle.network.specs.Laws.Decoding.{room-most, room-short}
 use Rattle.pages.proofs.printing.page.Statement.{statement}
 use Rattle.pages.proofs.printing.page.Tie as tie
 
-decode-requires : tie.Need-decode-requires
-decode-requires c κs = search needs
+slice-aggregate-page-in : tie.Need-slice-aggregate-page-in
+slice-aggregate-page-in c = search needs
 
-array-share-prefix-rows : tie.Need-array-share-prefix-rows
-array-share-prefix-rows c = links-within (c .decode .ensures)
+slice-aggregate-page-in-2 : tie.Need-slice-aggregate-page-in-2
+slice-aggregate-page-in-2 c = search needs
 
-slice-aggregate-links : tie.Need-slice-aggregate-links
-slice-aggregate-links c = links-counted (c .before .decode .ensures)
-
-array-share-prefix-places : tie.Need-array-share-prefix-places
-array-share-prefix-places c = destinations-within (c .before .decode .ensures)
-
-slice-aggregate-destinations : tie.Need-slice-aggregate-destinations
-slice-aggregate-destinations c = destinations-counted (c .before .before .decode .ensures)
-
-mul-entries : tie.Need-mul-entries
-mul-entries c = omega (arith, trips-within (c .before .before .decode .ensures), c .before .before .decode .ensures .entries-long)
-
-array-share-prefix-entries : tie.Need-array-share-prefix-entries
-array-share-prefix-entries c = trips-within (c .before .before .decode .ensures)
-
-slice-aggregate-trips : tie.Need-slice-aggregate-trips
-slice-aggregate-trips c = trips-counted (c .before .before .before .decode .ensures)
-
-totals-refusal-requires : tie.Need-totals-refusal-requires
-totals-refusal-requires c κs = (parts-decoded (c .before .before .before .before .decode .ensures), refl)
-
-mul-page-refusal : tie.Need-mul-page-refusal
-mul-page-refusal c =
-    let d = c .before .before .before .before .before .decode .ensures in
-    omega (arith, links-counted d, links-within d)
-
-page-refusal-requires : tie.Need-page-refusal-requires
-page-refusal-requires c κs = search needs
-
--- What was decoded, the call's arguments, and its number.
-abbrev read : tie.After-page-refusal → tie.After-decode
-read c = c .before .before .before .before .before .before
-
-abbrev given : tie.After-page-refusal → tie.Start
-given c = read c .before .before .before .before .before .before .before
-
-number :
-    (c : tie.After-page-refusal) →
-    c .page-refusal .result ≡ pageNumber (now (given c .args .file)) (now (given c .args .table)) (given c .args .share) (now (given c .args .page))
-number c = page-numbered (parts-decoded (read c .decode .ensures)) _ _ _ (c .before .totals-refusal .ensures .0) (c .page-refusal .ensures)
-
-returns : tie.Need-returns
-returns c =
-    let refused = c .before in
-    (number refused, sym (page-kept _ _ _ _ (λ e. c .if1 .taken (number refused ∙ e))))
-
-accepted :
-    (c : tie.Else1) →
-    pageNumber (now (given (c .before) .args .file)) (now (given (c .before) .args .table)) (given (c .before) .args .share) (now (given (c .before) .args .page)) ≡ 0
-accepted c = sym (number (c .before)) ∙ c .if1 .left
-
-put-powers-requires : tie.Need-put-powers-requires
-put-powers-requires c κs = refl
-
-put-lines-requires : tie.Need-put-lines-requires
-put-lines-requires c κs =
-    let asked = c .before .before .before .before .before in
-    let parts = parts-decoded (read (asked .before) .decode .ensures) in
-    let audited = asked .before .before .totals-refusal .ensures in (
-      page-printable parts _ _ _ (accepted asked) (audited .1 (page-audited _ _ _ _ (audited .0) (accepted asked))),
-      c .before .before .before .put-powers .ensures,
-      page-room parts _ _ _ (accepted asked),
-    )
+page-in-requires : tie.Need-page-in-requires
+page-in-requires c κs = room-short _ (omega arith) refl refl
 
 same-length : tie.Need-same-length
 same-length c = search needs
 
+returns : tie.Need-returns
+returns c = c .before .before .before .before .page-in .ensures
+
+slice-aggregate-page-in-3 : tie.Need-slice-aggregate-page-in-3
+slice-aggregate-page-in-3 c = search needs
+
+slice-aggregate-page-in-4 : tie.Need-slice-aggregate-page-in-4
+slice-aggregate-page-in-4 c = search needs
+
+page-in-requires-2 : tie.Need-page-in-requires-2
+page-in-requires-2 c κs = room-most _ refl refl
+
+same-length-2 : tie.Need-same-length-2
+same-length-2 c = search needs
+
 returns-2 : tie.Need-returns-2
-returns-2 c =
-    let put = c .before .before in
-    let asked = put .before .before .before .before .before .before in
-    let parts = parts-decoded (read (asked .before) .decode .ensures) in
-    let audited = asked .before .before .totals-refusal .ensures in
-    (sym (accepted asked), page-leaves parts _ _ _ (accepted asked) (audited .1 (page-audited _ _ _ _ (audited .0) (accepted asked))) (put .put-lines .ensures))
+returns-2 c = c .before .before .before .before .page-in2 .ensures
 
 pub page-spec : {M : Type 1} → statement M
 page-spec =
     tie.close
     (tie.spec
-    decode-requires
-    array-share-prefix-rows
-    slice-aggregate-links
-    array-share-prefix-places
-    slice-aggregate-destinations
-    mul-entries
-    array-share-prefix-entries
-    slice-aggregate-trips
-    totals-refusal-requires
-    mul-page-refusal
-    page-refusal-requires
-    returns
-    put-powers-requires
-    put-lines-requires
+    slice-aggregate-page-in
+    slice-aggregate-page-in-2
+    page-in-requires
     same-length
+    returns
+    slice-aggregate-page-in-3
+    slice-aggregate-page-in-4
+    page-in-requires-2
+    same-length-2
     returns-2)

@@ -45,6 +45,9 @@ loop-again c =
     let more = sum-suc i (λ e. getD (now (c .before .before .before .before .before .args .trips)) e 0) in
     (search needs, omega arith, omega arith)
 
+cast-result : tie.Need-cast-result Inv-loop μ-loop
+cast-result c = omega arith
+
 returns : tie.Need-returns Inv-loop μ-loop
 returns c =
     let start = c .before .before .before in
@@ -65,4 +68,5 @@ total-trips-spec =
     add-i
     loop-less
     loop-again
+    cast-result
     returns)

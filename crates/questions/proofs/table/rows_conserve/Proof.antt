@@ -1,4 +1,5 @@
--- `rows_conserve` meets its contract. The invariant: the rows before `k` balance. The measure is what is left of the rows.
+-- `rows_conserve` meets its contract. The invariant: the rows before `k` balance, and the sums are 0 past the nodes. The measure is what is
+-- left of the rows.
 use Prim.Native.Nat.{_+_, _*_, _-_, _≤_}
 use mathlib.Core.Path.{_≡_, sym, _∙_}
 use mathlib.Core.Bool.{true}
@@ -7,18 +8,23 @@ use borrow.Author.Needs.{needs}
 use borrow.Author.Tests.{not-true, not-false}
 use lib.ListN.{length}
 use Rattle.questions.specs.Laws.Rows.{rowsBefore, rows-none, rows-pass, rows-fail, rows-all}
+use Rattle.travel.specs.Ranges.{ClearPast}
+use Rattle.travel.specs.Laws.Padded.{zeros-past}
 use Rattle.theory.specs.Laws.Parts.{row-within, row-most, length-part}
 use Rattle.questions.proofs.table.rows_conserve.Statement.{statement}
 use Rattle.questions.proofs.table.rows_conserve.Tie as tie
 
 abbrev Inv-loop : tie.InvT-loop
-Inv-loop nodes links destinations trips table share m k₀ k = (k ≤ length destinations) × (rowsBefore nodes links destinations trips share table k ≡ true)
+Inv-loop nodes links destinations trips table share m out₀ into₀ k₀ out into k =
+    (k ≤ length destinations)
+    × (rowsBefore nodes links destinations trips share table k ≡ true)
+    × (ClearPast 128 nodes out × ClearPast 128 nodes into)
 
 abbrev μ-loop : tie.MeasureT-loop
-μ-loop nodes links destinations trips table share m k₀ k = length destinations - k
+μ-loop nodes links destinations trips table share m out₀ into₀ k₀ out into k = length destinations - k
 
 loop-holds : tie.Need-loop-holds Inv-loop μ-loop
-loop-holds c = (search needs, rows-none _ _ _ _ _ _)
+loop-holds c = (search needs, rows-none _ _ _ _ _ _, (zeros-past 128 _, zeros-past 128 _))
 
 -- The part of the trips and the row of a turn are within the whole, and few.
 within :
@@ -84,26 +90,29 @@ part-row-balances-end-2 : tie.Need-part-row-balances-end-2 Inv-loop μ-loop
 part-row-balances-end-2 c = omega (arith, within (c .before .before .before))
 
 row-balances-requires : tie.Need-row-balances-requires Inv-loop μ-loop
-row-balances-requires c κs = let turn = c .before .before .before .before in
+row-balances-requires c κs = let turn = c .before .before .before .before .before .before in
     let x = turn .before .before .before .before .before .args in
     let given = turn .before .before .before .before .before .pre .0 in
     let k = turn .before .loop .k in (
-      record {
-        few-nodes = given .few-nodes;
-        few-links = given .few-links;
-        tail-node = given .tail-node;
-        head-node = given .head-node;
-        trips-long = length-part (x .trips .now) (k * x .nodes) (x .nodes) (within turn .0);
-        row-long = length-part (x .table .now) (k * length (x .links .now)) (length (x .links .now)) (within turn .2);
-      },
-      search needs,
+      (
+        record {
+          few-nodes = given .few-nodes;
+          few-links = given .few-links;
+          tail-node = given .tail-node;
+          head-node = given .head-node;
+          trips-long = length-part (x .trips .now) (k * x .nodes) (x .nodes) (within turn .0);
+          row-long = length-part (x .table .now) (k * length (x .links .now)) (length (x .links .now)) (within turn .2);
+        },
+        search needs,
+      ),
+      turn .before .loop .inv .2,
     )
 
 returns : tie.Need-returns Inv-loop μ-loop
-returns c = let turn = c .before .before .before .before .before .before in
+returns c = let turn = c .before .before .before .before .before .before .before .before in
     sym
-    (rows-fail _ _ _ _ _ _ (turn .before .loop .k) _ (c .before .before .before .before .node .ensures) (turn .loop-test .taken)
-    (sym (c .before .row-balances .ensures) ∙ not-true _ (c .if1 .taken)))
+    (rows-fail _ _ _ _ _ _ (turn .before .loop .k) _ (c .before .before .before .before .before .before .node .ensures) (turn .loop-test .taken)
+    (sym (c .before .row-balances .ensures .0) ∙ not-true _ (c .if1 .taken)))
 
 add-k : tie.Need-add-k Inv-loop μ-loop
 add-k c = search needs
@@ -112,10 +121,11 @@ loop-less : tie.Need-loop-less Inv-loop μ-loop
 loop-less c = search needs
 
 loop-again : tie.Need-loop-again Inv-loop μ-loop
-loop-again c = let turn = c .before .before .before .before .before .before in (
+loop-again c = let turn = c .before .before .before .before .before .before .before .before in (
   search needs,
-  rows-pass _ _ _ _ _ _ (turn .before .loop .k) _ (c .before .before .before .before .node .ensures) (turn .before .loop .inv .1)
-      (sym (c .before .row-balances .ensures) ∙ not-false _ (c .if1 .left)),
+  rows-pass _ _ _ _ _ _ (turn .before .loop .k) _ (c .before .before .before .before .before .before .node .ensures) (turn .before .loop .inv .1)
+      (sym (c .before .row-balances .ensures .0) ∙ not-false _ (c .if1 .left)),
+  c .before .row-balances .ensures .1,
 )
 
 returns-2 : tie.Need-returns-2 Inv-loop μ-loop

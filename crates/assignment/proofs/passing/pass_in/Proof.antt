@@ -1,0 +1,127 @@
+-- `assignment::pass_in` meets its contract: it judges and moves a table that its questions accept, and leaves any other.
+use native.Mathlib.Omega.{arith}
+use mathlib.Core.Path.{_≡_, refl, sym, _∙_, ap}
+use mathlib.Core.List.{[], _∷_}
+use lib.ListN.{replicate}
+use borrow.Author.Needs.{needs}
+use denote.Ref.{now}
+use Rattle.calls.specs.Calls.{tableNumber}
+use Rattle.calls.specs.Laws.Calls.{pass-kept}
+use Rattle.network.specs.Laws.Decoding.{trips-few, links-counted, destinations-counted, trips-counted}
+use Rattle.assignment.specs.Laws.Parts.{parts-decoded}
+use Rattle.assignment.specs.Laws.Answers.{pass-refusal, table-ready, pass-answers, pass-leaves}
+use Rattle.assignment.proofs.passing.pass_in.Statement.{statement}
+use Rattle.assignment.proofs.passing.pass_in.Tie as tie
+
+decode-requires : tie.Need-decode-requires
+decode-requires c κs = search needs
+
+slice-reshare-prefix-links : tie.Need-slice-reshare-prefix-links
+slice-reshare-prefix-links c = c .before .before .before .decode .ensures .links-within
+
+slice-aggregate-links : tie.Need-slice-aggregate-links
+slice-aggregate-links c = links-counted (c .before .before .before .before .decode .ensures)
+
+array-share-prefix-places : tie.Need-array-share-prefix-places
+array-share-prefix-places c = c .before .before .before .before .decode .ensures .destinations-within
+
+slice-aggregate-destinations : tie.Need-slice-aggregate-destinations
+slice-aggregate-destinations c = destinations-counted (c .before .before .before .before .before .decode .ensures)
+
+mul-trips : tie.Need-mul-trips
+mul-trips c = omega (arith, trips-few (c .before .before .before .before .before .decode .ensures))
+
+slice-reshare-prefix-trips : tie.Need-slice-reshare-prefix-trips
+slice-reshare-prefix-trips c = c .before .before .before .before .before .decode .ensures .trips-within
+
+slice-aggregate-trips : tie.Need-slice-aggregate-trips
+slice-aggregate-trips c = trips-counted (c .before .before .before .before .before .before .decode .ensures)
+
+index-1-totals-refusal : tie.Need-index-1-totals-refusal
+index-1-totals-refusal c = search needs
+
+totals-refusal-requires : tie.Need-totals-refusal-requires
+totals-refusal-requires c κs = (parts-decoded (c .before .before .before .before .before .before .before .before .decode .ensures), refl)
+
+refused-pass-requires : tie.Need-refused-pass-requires
+refused-pass-requires c κs = search needs
+
+same-length : tie.Need-same-length
+same-length c = search needs
+
+same-length-2 : tie.Need-same-length-2
+same-length-2 c = search needs
+
+same-length-3 : tie.Need-same-length-3
+same-length-3 c = search needs
+
+returns : tie.Need-returns
+returns c =
+    let number = c .before .before .totals-refusal .ensures .0 in (
+      c .refused-pass .ensures ∙ pass-refusal _ _ _ _ number (c .before .if1 .taken),
+      sym (pass-kept _ _ _ (λ e. c .before .if1 .taken (number ∙ e))),
+    )
+
+-- What was decoded, and the call's arguments.
+abbrev read : tie.Else1 → tie.After-decode
+read c = c .before .before .before .before .before .before .before .before .before .before
+
+abbrev given : tie.Else1 → tie.Start
+given c = read c .before .before .before .before .before .before .before
+
+accepted : (c : tie.Else1) → tableNumber (now (given c .args .file)) (now (given c .args .table)) (given c .args .share) ≡ 0
+accepted c = sym (c .before .totals-refusal .ensures .0) ∙ c .if1 .left
+
+pass-table-requires : tie.Need-pass-table-requires
+pass-table-requires c κs =
+    let else = c .before .before in (
+      table-ready _ _ (parts-decoded (read else .decode .ensures)) _ (accepted else),
+      ap (λ totals. totals ∷ replicate 512 0 ∷ []) (else .before .totals-refusal .ensures .1 (else .if1 .left)),
+    )
+
+outcome-of-requires : tie.Need-outcome-of-requires
+outcome-of-requires c κs = search needs
+
+same-length-4 : tie.Need-same-length-4
+same-length-4 c = search needs
+
+same-length-5 : tie.Need-same-length-5
+same-length-5 c = search needs
+
+same-length-6 : tie.Need-same-length-6
+same-length-6 c = search needs
+
+returns-2 : tie.Need-returns-2
+returns-2 c =
+    let passed = c .before .before .before .pass-table in
+    let else = c .before .before .before .before .before .before in
+    let parts = parts-decoded (read else .decode .ensures) in (
+      rw (c .outcome-of .ensures) (pass-answers _ _ parts _ (accepted else) _ _ (passed .ensures)),
+      pass-leaves _ _ parts _ (accepted else) _ _ (passed .ensures),
+    )
+
+pub pass-in-spec : {M : Type 1} → statement M
+pass-in-spec =
+    tie.close
+    (tie.spec
+    decode-requires
+    slice-reshare-prefix-links
+    slice-aggregate-links
+    array-share-prefix-places
+    slice-aggregate-destinations
+    mul-trips
+    slice-reshare-prefix-trips
+    slice-aggregate-trips
+    index-1-totals-refusal
+    totals-refusal-requires
+    refused-pass-requires
+    same-length
+    same-length-2
+    same-length-3
+    returns
+    pass-table-requires
+    outcome-of-requires
+    same-length-4
+    same-length-5
+    same-length-6
+    returns-2)
