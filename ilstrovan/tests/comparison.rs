@@ -137,6 +137,43 @@ fn random_calls_on_large_studies_with_closed_nodes() {
     assert!(pair.pages[20] > 50, "{:?}", pair.pages);
 }
 
+/// Files of about 2,048 bytes, up to which the calls lend fewer places for their
+/// rows: as many links or trips as there is room for, in either version.
+#[test]
+fn random_calls_on_files_of_about_2048_bytes() {
+    let mut dice = Dice::new(2_030);
+    let mut pair = Pair::default();
+    while pair.calls < 8_000 {
+        let study = about_2048_bytes(&mut dice);
+        let mut file = study.file();
+        if file.len() <= 2_049 {
+            file.resize(dice.between(2_047, 2_049) as usize, dice.roll() as u8);
+            round_of(&mut pair, &mut dice, &study, &file, 40);
+        }
+    }
+    assert!(pair.accepted > pair.calls / 2, "{} accepted", pair.accepted);
+    assert!(pair.pages[0] > 300, "{:?}", pair.pages);
+}
+
+/// A study of many links and few trips, or of many trips and fewer links, whose
+/// file often has about 2,048 bytes.
+fn about_2048_bytes(dice: &mut Dice) -> Versioned {
+    let sizes = [((2, 4), (195, 201), 1), ((20, 30), (30, 80), 30)];
+    let (nodes, links, destinations) = dice.pick(&sizes);
+    let plan = Plan {
+        nodes,
+        links,
+        destinations,
+        ..Plan::small(dice)
+    };
+    let draft = plan.draft(dice);
+    if dice.once_in(2) {
+        return draft.into();
+    }
+    let tenths = dice.pick(&[0, 0, 1]);
+    closing(dice, draft, tenths)
+}
+
 /// With all nodes open, version 2 answers what version 1 does.
 #[test]
 fn open_nodes_make_no_difference() {
@@ -233,15 +270,20 @@ fn large_closed(dice: &mut Dice) -> Versioned {
     plan.with_zones(dice, wide * high, zones, links)
 }
 
-/// Calls of every kind with one study, its runs within a budget.
+/// Calls of every kind with one study, its file whole or damaged.
 fn round(pair: &mut Pair, dice: &mut Dice, study: &Versioned, budget: u64) {
     let file = file_of(dice, study);
+    round_of(pair, dice, study, &file, budget);
+}
+
+/// Calls of every kind with a file of a study, its runs within a budget.
+fn round_of(pair: &mut Pair, dice: &mut Dice, study: &Versioned, file: &[u8], budget: u64) {
     let length = table_length(dice, study);
     let garbage: Vec<u32> = (0..length).map(|_| dice.any_u32()).collect();
 
-    pair.call(Kind::Check, &file, Lent::Nothing, Numbers::default());
+    pair.call(Kind::Check, file, Lent::Nothing, Numbers::default());
     let room = output(dice, study);
-    pair.call(Kind::Pack, &file, Lent::Output(room), Numbers::default());
+    pair.call(Kind::Pack, file, Lent::Output(room), Numbers::default());
     let run = Numbers {
         budget: match dice.below(12) {
             0 => dice.pick(&[0, 1_024, 1_025, u32::MAX]),
@@ -251,24 +293,24 @@ fn round(pair: &mut Pair, dice: &mut Dice, study: &Versioned, budget: u64) {
         excess: dice.pick(&[0, 0, 1, 5, 80, 2_000, 65_535]),
         share: 0,
     };
-    let reply = pair.call(Kind::Run, &file, Lent::Table(garbage.clone()), run);
+    let reply = pair.call(Kind::Run, file, Lent::Table(garbage.clone()), run);
     if let Reply::Run(answer) = reply {
         let lent = Lent::Page(None, paper(dice, study));
-        pair.call(Kind::Page, &file, lent, Numbers::share(answer.share));
+        pair.call(Kind::Page, file, lent, Numbers::share(answer.share));
     }
 
-    pair.call(Kind::Start, &file, Lent::Table(garbage), Numbers::default());
-    follow(pair, dice, study, &file, 1);
+    pair.call(Kind::Start, file, Lent::Table(garbage), Numbers::default());
+    follow(pair, dice, study, file, 1);
 
     let share = dice.pick(&[1, 2, 3, 10, 64, 100, 512, 960, 1_000, 1_023, 1_024]);
     let mut table = any_table(dice, study, share);
     table.resize(length, 7);
     let given = Numbers::share(share);
-    pair.call(Kind::Audit, &file, Lent::Table(table.clone()), given);
+    pair.call(Kind::Audit, file, Lent::Table(table.clone()), given);
     let lent = Lent::Page(Some(table.clone()), paper(dice, study));
-    pair.call(Kind::Page, &file, lent, given);
-    pair.call(Kind::Pass, &file, Lent::Table(table), given);
-    follow(pair, dice, study, &file, share);
+    pair.call(Kind::Page, file, lent, given);
+    pair.call(Kind::Pass, file, Lent::Table(table), given);
+    follow(pair, dice, study, file, share);
 }
 
 /// A table that conserves, half of them as if all nodes were open; one in three

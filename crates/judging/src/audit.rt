@@ -6,7 +6,8 @@ ghost use Rattle.judging.specs.Study.{studyOf, Judgeable};
 ghost use Rattle.judging.specs.Judged.{Audited};
 use crate::Sums;
 
-// Audit: the gap and cost of a table with these totals. The gap is taken by its definition, from the least times.
+// Audit: the gap and cost of a table with these totals, which say all that is needed of it. The gap is taken by its definition, from the least
+// times.
 pub fn audit_table(
     nodes: usize,
     links: &[[u16; 6]],

@@ -133,7 +133,8 @@ pub fn no_trips_within(nodes: usize, destinations: &[u16], trips: &[u16]) -> boo
     true
 }
 
-// T of document 01: the sum of the trips of all nodes to all destinations. It has 32 bits, of which the compiler adds more at once than of 64.
+// T of document 01: the sum of the trips of all nodes to all destinations. It is added up in 32 bits: the compiler
+// adds more of these at once than of 64.
 pub fn total_trips(trips: &[u16]) -> u64
     requires { ⌜ length (now trips) ≤ 4096 ⌝ }
     ensures { λ r. ⌜ r ≡ sum (length (now (trips .entry))) (λ i. getD (now (trips .entry)) i 0) ⌝ }
