@@ -6,12 +6,10 @@ use mathlib.Core.List.{List}
 use lib.ListN.{length}
 use lib.Dec.{eqb}
 use borrow.Author.Tests.{ne-eqb, le-leb, lt-leb}
-use Rattle.study.specs.Questions.{Question, firstNo, refusal}
-use Rattle.study.specs.Sections.{nodes, closedPart}
-use Rattle.study.specs.Laws.{after-opening}
+use Rattle.study.specs.Questions.{firstNo}
 use Rattle.theory.specs.Moves.{tableSize}
-use Rattle.calls.specs.Study.{linkRows, destinationNodes, tripEntries, networkOf}
-use Rattle.calls.specs.Questions.{studyQuestions, shareQuestions, checkQuestions, tableHolds, budgetFits}
+use Rattle.calls.specs.Study.{networkOf}
+use Rattle.calls.specs.Questions.{shareQuestions, tableHolds, budgetFits}
 use Rattle.calls.specs.Calls.{checkNumber, startNumber, runNumber, tableNumber}
 use Rattle.calls.specs.Laws.Questions.{start-number, run-number, table-number}
 
@@ -23,17 +21,6 @@ when-zero : (a b number : ℕ) → number ≡ 0 → cond (eqb number 0) a b ≡ 
 when-zero a b number e = rw e
 
 module _ (file : List ℕ) where
-  abbrev asked : List Question
-  asked = studyQuestions (nodes file) (linkRows file) (destinationNodes file) (closedPart file) (tripEntries file)
-
-  pub check-opening : (refusal file ≡ 0 → ⊥) → checkNumber file ≡ refusal file
-  unfolding checkNumber checkQuestions
-  check-opening p = after-opening file asked ∙ when-not (firstNo asked) (refusal file) (refusal file) p
-
-  pub check-study : refusal file ≡ 0 → checkNumber file ≡ firstNo asked
-  unfolding checkNumber checkQuestions
-  check-study e = after-opening file asked ∙ when-zero (firstNo asked) (refusal file) (refusal file) e
-
   module _ (table : List ℕ) where
     -- Start: as check, and then question 12.
     pub start-checked : (checkNumber file ≡ 0 → ⊥) → startNumber file table ≡ checkNumber file

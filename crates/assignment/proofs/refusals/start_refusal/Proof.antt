@@ -6,8 +6,9 @@ use mathlib.Core.Path.{_≡_, sym, _∙_, ap}
 use denote.Ref.{now}
 use Rattle.study.specs.Questions.{firstNo}
 use Rattle.calls.specs.Calls.{checkNumber}
+use Rattle.network.specs.Laws.Checking.{check-refused, check-opened}
 use Rattle.assignment.specs.Laws.Parts.{parts-sized, parts-closed, asked-is, size-is}
-use Rattle.assignment.specs.Laws.Numbers.{check-opening, check-study, start-checked, start-short, start-long}
+use Rattle.assignment.specs.Laws.Numbers.{start-checked, start-short, start-long}
 use Rattle.assignment.proofs.refusals.start_refusal.Statement.{statement}
 use Rattle.assignment.proofs.refusals.start_refusal.Tie as tie
 
@@ -18,7 +19,7 @@ given c = c .before .before .before .before .before
 returns : tie.Need-returns
 returns c =
     let parts = c .before .before .before .before .before .pre in
-    let number = parts .opening-is ∙ sym (check-opening _ (λ e. c .if1 .taken (parts .opening-is ∙ e))) in
+    let number = parts .opening-is ∙ sym (check-refused _ (λ e. c .if1 .taken (parts .opening-is ∙ e))) in
     number ∙ sym (start-checked _ _ (λ e. c .if1 .taken (number ∙ e)))
 
 accepted-section-requires : tie.Need-accepted-section-requires
@@ -33,7 +34,7 @@ asked c =
     let parts = given (c .before .before) .pre in
     c .study-refusal .ensures
     ∙ ap firstNo (asked-is parts (c .before .accepted-section .ensures))
-    ∙ sym (check-study _ (sym (parts .opening-is) ∙ c .before .before .if1 .left))
+    ∙ sym (check-opened _ (sym (parts .opening-is) ∙ c .before .before .if1 .left))
 
 returns-2 : tie.Need-returns-2
 returns-2 c = asked (c .before) ∙ sym (start-checked _ _ (λ e. c .if2 .taken (asked (c .before) ∙ e)))
