@@ -21,6 +21,7 @@ use Rattle.theory.specs.Routes.{routing, IsPath, leastOf, fromHead, round, roun
 use Rattle.theory.specs.Cost.{staircase, linkCost, cost, leastTimes, spentTimes, gap}
 use Rattle.theory.specs.Moves.{Shared, started, movedTimes, qualifies, chosen, added, doubled, move, afterMoves, reaches, stops, judged, lastJudged}
 use Rattle.theory.specs.Study.{mayUse, network}
+use Rattle.theory.specs.Marks.{bit, marked, onlyNode, nodesBelow, union, lowest, unvisited, lowestUnvisited}
 use Rattle.calls.specs.Study.{linkRow, linkRows, destinationNodes, tripEntries, networkOf}
 use Rattle.calls.specs.Questions.{endsFit, timesFit, destinationsFit, closedFit, noTripsWithin, totalFits, hasPath, tripsReach, tableHolds, budgetFits, shareFits}
 use Rattle.calls.specs.Questions.{packedSize, outputHolds, studyQuestions, shareQuestions, checkQuestions, packQuestions, startQuestions, runQuestions, tableQuestions, pageHolds, pageQuestions}
@@ -141,6 +142,18 @@ townLines =
 unfoldable pub fullLine : List ℕ
 fullLine = 32 ∷ 32 ∷ 48 ∷ 32 ∷ 32 ∷ 32 ∷ 48 ∷ 32 ∷ 32 ∷ 32 ∷ 49 ∷ 32 ∷ 54 ∷ 53 ∷ 53 ∷ 51 ∷ 53 ∷ 46 ∷ 48 ∷ 48 ∷ 32 ∷ 52 ∷ 50 ∷ 49 ∷ 48 ∷ 52 ∷ 46 ∷ 51 ∷ 49 ∷ 10 ∷ []
 
+-- The set of some nodes, and the node that is found where some are reached and some visited.
+abbrev pub setOf : List ℕ → List ℕ
+setOf [] = 0 ∷ 0 ∷ []
+setOf (j ∷ rest) = union (onlyNode j) (setOf rest)
+
+abbrev pub found : List ℕ → List ℕ → ℕ
+found reached visited = lowestUnvisited (setOf reached) (setOf visited)
+
+-- The first and the last node of either word.
+abbrev pub wordEnds : List ℕ
+wordEnds = 0 ∷ 63 ∷ 64 ∷ 127 ∷ []
+
 unfoldable pub cases : List Case
 unfolding case
 cases =
@@ -194,6 +207,13 @@ cases =
     -- Pack keeps the version and wants its whole packed size.
     ∷ case (packOutput (zoneTown 0 1) (replicate 95 7)) (zoneTown 0 1 ++ (7 ∷ []))
     ∷ case (packNumber (zoneTown 0 1) (replicate 93 7) ∷ packNumber (zoneTown 0 1) (replicate 94 7) ∷ []) (17 ∷ 0 ∷ [])
+    -- A.3: each of them as the only node that is reached; none where none is.
+    ∷ case (found (0 ∷ []) [] ∷ found (63 ∷ []) [] ∷ found (64 ∷ []) [] ∷ found (127 ∷ []) [] ∷ found [] [] ∷ []) (0 ∷ 63 ∷ 64 ∷ 127 ∷ 128 ∷ [])
+    -- All four reached, and visited one after the other; visited, but not reached.
+    ∷ case (found wordEnds [] ∷ found wordEnds (0 ∷ []) ∷ found wordEnds (63 ∷ 0 ∷ []) ∷ found wordEnds (0 ∷ 63 ∷ 64 ∷ []) ∷ found wordEnds wordEnds ∷ []) (0 ∷ 63 ∷ 64 ∷ 127 ∷ 128 ∷ [])
+    ∷ case (found (64 ∷ []) (0 ∷ 63 ∷ 127 ∷ []) ∷ found (127 ∷ []) (63 ∷ 64 ∷ []) ∷ found [] wordEnds ∷ []) (64 ∷ 127 ∷ 128 ∷ [])
+    -- All of 128 nodes reached, and all but the last visited.
+    ∷ case (lowestUnvisited (nodesBelow 128) (nodesBelow 127) ∷ lowestUnvisited (nodesBelow 128) (nodesBelow 128) ∷ []) (127 ∷ 128 ∷ [])
     ∷ []
 
 -- One lemma, by computation: the test holds of every case; and what the theorems ask of a study, a table, a share and a budget can be
@@ -222,9 +242,11 @@ pub record Computed : Type 0 where
   pub zone-way : IsPath (routing (networkOf (zoneTown 0 1)) (5 ∷ 5 ∷ 10 ∷ 10 ∷ []) 0) 0 (2 ∷ 3 ∷ [])
   pub zone-avoided : tableNumber (zoneTown 0 1) (0 ∷ 1 ∷ 2 ∷ 2 ∷ []) 1 ≡ 0
   pub full-time : timeAt (networkOf fullTown) 1 (total (networkOf fullTown) (65535 ∷ [])) 0 ≡ 4210431
+  pub next-node : found wordEnds (0 ∷ 63 ∷ []) ≡ 64
+  pub next-none : found wordEnds wordEnds ≡ 128
 
 pub computed : Computed
-unfolding cases case town strandedTown fullTown zoneTown zoneServed zoneOnly townLines fullLine digitsWithin decimal hundredths aligned u16 u32 versions formOf version nodeField linkField destinationField hasSection offset size closedField lengthFits versionKnown countsFit sectionsApart sectionsInOrder sizesFit opening refusal nodes links destinations closedCount part tail head freeTime rise capacity destination trips closedByte sum all first largest tabulate rows totalTrips linkTotal sumAt balances conserves permits totalsFit step stepTime times leastOf fromHead round rounds distances fitsNext nextLinks walk loadingRow loading staircase linkCost cost leastTimes spentTimes gap started movedTimes qualifies chosen added doubled move afterMoves reaches stops judged lastJudged linkRow linkRows destinationNodes tripEntries mayUse network networkOf endsFit timesFit destinationsFit closedFit noTripsWithin totalFits hasPath tripsReach tableHolds budgetFits shareFits packedSize outputHolds studyQuestions shareQuestions checkQuestions packQuestions startQuestions runQuestions tableQuestions bytes16 bytes32 packedHeader packed packNumber packOutput overwritten checkNumber startNumber startTable tableNumber auditAnswer passAnswer passTable runNumber endingAt runAnswer runTable pageHolds pageQuestions pageLine lineOf pageOf pageNumber pageSlice
+unfolding cases case town strandedTown fullTown zoneTown zoneServed zoneOnly townLines fullLine digitsWithin decimal hundredths aligned u16 u32 versions formOf version nodeField linkField destinationField hasSection offset size closedField lengthFits versionKnown countsFit sectionsApart sectionsInOrder sizesFit opening refusal nodes links destinations closedCount part tail head freeTime rise capacity destination trips closedByte sum all first largest tabulate rows totalTrips linkTotal sumAt balances conserves permits totalsFit step stepTime times leastOf fromHead round rounds distances fitsNext nextLinks walk loadingRow loading staircase linkCost cost leastTimes spentTimes gap started movedTimes qualifies chosen added doubled move afterMoves reaches stops judged lastJudged linkRow linkRows destinationNodes tripEntries mayUse network networkOf endsFit timesFit destinationsFit closedFit noTripsWithin totalFits hasPath tripsReach tableHolds budgetFits shareFits packedSize outputHolds studyQuestions shareQuestions checkQuestions packQuestions startQuestions runQuestions tableQuestions bytes16 bytes32 packedHeader packed packNumber packOutput overwritten checkNumber startNumber startTable tableNumber auditAnswer passAnswer passTable runNumber endingAt runAnswer runTable pageHolds pageQuestions pageLine lineOf pageOf pageNumber pageSlice bit marked onlyNode nodesBelow union lowest unvisited lowestUnvisited
 computed =
     record {
       every-case-holds = refl;
@@ -250,4 +272,6 @@ computed =
       zone-way = (omega arith, refl, refl, (omega arith, refl, refl, refl));
       zone-avoided = refl;
       full-time = refl;
+      next-node = refl;
+      next-none = refl;
     }

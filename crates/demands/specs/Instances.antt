@@ -1,15 +1,19 @@
--- The hypotheses of the demands and of the requests' theorems can be met: the town of two roads and the town with a zone meet each of them.
-use Prim.Native.Nat.{ℕ, _*_}
+-- The hypotheses of the demands and of the requests' theorems can be met: the town of two roads, the town with a zone and some marked nodes meet each of
+-- them.
+use Prim.Native.Nat.{ℕ, _*_, _<_}
 use native.Mathlib.Omega.{arith}
 use mathlib.Core.Path.{_≡_}
+use mathlib.Core.Bool.{false}
 use mathlib.Core.List.{[], _∷_}
-use lib.ListN.{take, replicate}
+use lib.ListN.{getD, take, replicate}
 use Rattle.study.specs.Header.{version}
 use Rattle.study.specs.Sections.{links}
 use Rattle.theory.specs.Flows.{entry, Carries}
+use Rattle.theory.specs.Marks.{bit, marked, unvisited}
+use Rattle.theory.specs.Laws.Finite.{Lowest}
 use Rattle.calls.specs.Study.{networkOf}
 use Rattle.calls.specs.Sequence.{Call, afterStart, afterCalls}
-use Rattle.calls.specs.Cases.{town, zoneTown, computed}
+use Rattle.calls.specs.Cases.{town, zoneTown, setOf, wordEnds, computed}
 use Rattle.calls.specs.Page.{pageOf}
 use Rattle.calls.specs.Questions.{packedSize}
 use Rattle.calls.specs.Calls.{packOutput, pageSlice}
@@ -20,7 +24,7 @@ use Rattle.demands.specs.Demands.{Certified, demand-3}
 use Rattle.demands.specs.Results.{Fresh}
 use Rattle.demands.specs.Pages.{OfLine}
 use Rattle.demands.specs.Zones.{Closed, Avoids}
-use Rattle.demands.specs.Requests.{request-A1, request-A2}
+use Rattle.demands.specs.Requests.{request-A1, request-A2, request-A3}
 
 -- A study that passes questions 1 to 11.
 pub town-described : Described town
@@ -64,3 +68,14 @@ zone-table =
 -- A version 2 file that pack does not refuse.
 pub zone-packed : version (take (packedSize (zoneTown 0 1)) (packOutput (zoneTown 0 1) (replicate 94 7))) ≡ version (zoneTown 0 1)
 zone-packed = request-A2 .pack (zoneTown 0 1) (replicate 94 7) (computed .zone-pack)
+
+-- Of four nodes reached, two visited: the next is found; and all four visited: none is.
+pub next-found : Lowest 128 (unvisited (setOf wordEnds) (setOf (0 ∷ 63 ∷ []))) 64
+next-found = request-A3 .found (setOf wordEnds) (setOf (0 ∷ 63 ∷ [])) 64 .0 (computed .next-node, omega arith)
+
+pub none-left : (j : ℕ) → j < 128 → unvisited (setOf wordEnds) (setOf wordEnds) j ≡ false
+none-left = request-A3 .none (setOf wordEnds) (setOf wordEnds) .0 (computed .next-none)
+
+-- A node of the second word.
+pub second-word : marked (setOf wordEnds) 64 ≡ bit (getD (setOf wordEnds) 1 0) 0
+second-word = request-A3 .word (setOf wordEnds) 64 (omega arith)

@@ -10,4 +10,5 @@ pub mod Packing
 pub mod Unreachable
 pub mod Pages
 pub mod Zones
+pub mod NextNodes
 pub mod Instances

@@ -1,8 +1,8 @@
 -- The theorems that document 02's requests ask for, beside the demands and in the vocabulary of the same definitions. Each proof is a
 -- citation. The demands themselves speak of all calls and all versions, and stand in `Demands`.
-use Prim.Native.Nat.{ℕ, _*_, _+_, _<_}
+use Prim.Native.Nat.{ℕ, _*_, _+_, _/_, _%_, _<_}
 use mathlib.Core.Path.{_≡_}
-use mathlib.Core.Bool.{true}
+use mathlib.Core.Bool.{true, false}
 use mathlib.Core.List.{List}
 use mathlib.Core.Logic.{_↔_}
 use lib.ListN.{length, getD, take}
@@ -11,6 +11,8 @@ use Rattle.study.specs.Sections.{links}
 use Rattle.text.specs.Decimal.{decimal, hundredths}
 use Rattle.theory.specs.Flows.{entry}
 use Rattle.theory.specs.Routes.{routing, IsPath}
+use Rattle.theory.specs.Marks.{bit, marked, unvisited, lowestUnvisited}
+use Rattle.theory.specs.Laws.Finite.{Lowest}
 use Rattle.calls.specs.Study.{networkOf}
 use Rattle.calls.specs.Questions.{packedSize}
 use Rattle.calls.specs.Page.{lineOf, pageOf}
@@ -18,6 +20,7 @@ use Rattle.calls.specs.Calls.{packNumber, packOutput, tableNumber, pageNumber, 
 use Rattle.calls.specs.Laws.Page.{LineRange, LineFits}
 use Rattle.demands.specs.Results.{Fresh}
 use Rattle.demands.specs.Zones.{Closed, Avoids, OnlyClosed, permitted-exactly, version-1-open, path-avoids, flow-avoids, pack-version, only-closed}
+use Rattle.demands.specs.NextNodes.{word-of, found-exactly, none-exactly}
 use Rattle.demands.specs.Pages.{Plain, Pointed, OfLine, Largest, decimal-plain, hundredths-pointed, full-road, numbers-range, numbers-fit, line-length, line-place, page-length, page-fresh}
 
 -- A.1, volumes on paper. Whatever table the audit accepts, every number fits its columns (3, 3, 3, 8 and 8), so each line has exactly 30
@@ -75,3 +78,13 @@ request-A2 =
       pack = pack-version;
       only-closed = only-closed;
     }
+
+-- A.3, reached nodes, a word at a time. Marks stand sixty-four nodes to a word. The node found is the lowest-numbered one that is reached and
+-- unvisited, and none is found exactly when there is none. The contract of the reach search stays as it was: question 11's answer.
+pub record RequestA3 : Type 0 where
+  pub word : (marks : List ℕ) (j : ℕ) → j < 128 → marked marks j ≡ bit (getD marks (j / 64) 0) (j % 64)
+  pub found : (reached visited : List ℕ) (j : ℕ) → ((lowestUnvisited reached visited ≡ j) × (j < 128)) ↔ Lowest 128 (unvisited reached visited) j
+  pub none : (reached visited : List ℕ) → (lowestUnvisited reached visited ≡ 128) ↔ ((j : ℕ) → j < 128 → unvisited reached visited j ≡ false)
+
+pub request-A3 : RequestA3
+request-A3 = record { word = word-of; found = found-exactly; none = none-exactly }

@@ -1,7 +1,6 @@
 -- The laws of the definitions above.
 -- Questions of a study:
 pub mod Questions
-pub mod Bits
 pub mod Reach
 -- of a table:
 pub mod Rows

@@ -1,14 +1,22 @@
-// Question 11: the search for the nodes that have a path to each destination, all destinations at once. Only this file knows how marks are
-// kept: bit k of a node's word is its mark for destination k.
-ghost use Prim.Native.Nat.{_<_, _≤_};
+// Question 11: for each destination a search for the nodes with a path to it. It goes over rows: for each node the set of the nodes with a
+// link into it, built once from the links.
+ghost use Prim.Native.Nat.{ℕ, _<_, _≤_};
 ghost use mathlib.Core.Bool.{true};
 ghost use mathlib.Core.List.{[]};
 ghost use mathlib.Core.Path.{_≡_};
 ghost use lib.ListN.{length};
+ghost use Rattle.theory.specs.Marks.{marked};
 ghost use Rattle.theory.specs.Study.{network};
 ghost use Rattle.calls.specs.Questions.{endsFit, destinationsFit, tripsReach};
 ghost use Rattle.questions.specs.Sized.{Sized};
-ghost use Rattle.questions.specs.Reach.{Whole, Marks, Started, Stranded, Found, allMarked, AllOpen, handedOn, LinkSwept, Swept};
+ghost use Rattle.questions.specs.Reach.{AllOpen, allMarked, row, rowPlace, Room, NoMarks, Marks, Tails, tailsInto, Closure, Rows, wholeRow, allReached, nextNode, Filled, Reached};
+use crate::marks::NO_NODE;
+use crate::marks::both;
+use crate::marks::is_marked;
+use crate::marks::lowest_unvisited;
+use crate::marks::nodes_below;
+use crate::marks::only_node;
+use crate::marks::shared;
 use crate::numbers::node;
 use theory::CLOSED;
 use theory::HEAD;
@@ -28,11 +36,51 @@ pub fn trips_reach(
     requires { ⌜ destinationsFit (network nodes [] (now destinations) []) ≡ true ⌝ }
     ensures { λ r. ⌜ r ≡ tripsReach (network nodes (now (links .entry)) (now (destinations .entry)) (now (trips .entry))) ⌝ }
 {
-    let marks = reached(nodes, links, destinations, all_open);
+    let count = row_count(nodes, all_open);
+    if 64 < count {
+        let mut rows = [[0u64, 0]; 256];
+        return trips_reach_in(nodes, links, destinations, trips, all_open, &mut rows);
+    }
+    if 16 < count {
+        let mut rows = [[0u64, 0]; 64];
+        return trips_reach_in(nodes, links, destinations, trips, all_open, &mut rows);
+    }
+    let mut rows = [[0u64, 0]; 16];
+    trips_reach_in(nodes, links, destinations, trips, all_open, &mut rows)
+}
+
+// How many rows a search needs: one for each node and, where a head may be closed, another.
+fn row_count(nodes: usize, all_open: bool) -> usize
+    requires { ⌜ nodes ≤ 128 ⌝ }
+    ensures { λ r. ⌜ Room nodes «all_open» r × (r ≤ 256) ⌝ }
+{
+    if all_open { nodes } else { nodes + nodes }
+}
+
+// The same, in rows that are lent.
+fn trips_reach_in(
+    nodes: usize,
+    links: &[[u16; 6]],
+    destinations: &[u16],
+    trips: &[u16],
+    all_open: bool,
+    rows: &mut [[u64; 2]],
+) -> bool
+    requires { ⌜ Sized nodes (now links) (now destinations) (now trips) × («all_open» ≡ true → AllOpen (now links)) ⌝ }
+    requires { ⌜ endsFit (network nodes (now links) [] []) ≡ true ⌝ }
+    requires { ⌜ destinationsFit (network nodes [] (now destinations) []) ≡ true ⌝ }
+    requires { ⌜ Room nodes «all_open» (length (now rows)) × NoMarks (now rows) ⌝ }
+    ensures { λ r. ⌜ r ≡ tripsReach (network nodes (now (links .entry)) (now (destinations .entry)) (now (trips .entry))) ⌝ }
+{
+    mark_tails(nodes, links, all_open, rows);
+    let mut whole = [0u64; 2];
     let mut k = 0;
     while k < destinations.len() {
+        let s = node(destinations[k]);
+        let tails = tails_into(nodes, s, all_open, rows);
+        let reached = reach(nodes, s, tails, &mut whole, rows);
         let first = k * nodes;
-        if !trips_marked(k, &trips[first..first + nodes], &marks) {
+        if !trips_marked(reached, &trips[first..first + nodes]) {
             return false;
         }
         k += 1;
@@ -40,138 +88,160 @@ pub fn trips_reach(
     true
 }
 
-// Which of the nodes have a path to each of the destinations.
-fn reached(nodes: usize, links: &[[u16; 6]], destinations: &[u16], all_open: bool) -> [u32; 128]
-    requires { ⌜ (nodes ≤ 128) × (length (now links) ≤ 512) × (length (now destinations) ≤ 32) × («all_open» ≡ true → AllOpen (now links)) ⌝ }
-    requires { ⌜ endsFit (network nodes (now links) [] []) ≡ true ⌝ }
-    requires { ⌜ destinationsFit (network nodes [] (now destinations) []) ≡ true ⌝ }
-    ensures { λ r. ⌜ Found nodes (now (links .entry)) (now (destinations .entry)) r ⌝ }
+// Marks each link's tail in the row of its head, or in the other row of a head that is closed.
+fn mark_tails(nodes: usize, links: &[[u16; 6]], all_open: bool, rows: &mut [[u64; 2]])
+    requires { ⌜ (nodes ≤ 128) × (endsFit (network nodes (now links) [] []) ≡ true) × («all_open» ≡ true → AllOpen (now links)) ⌝ }
+    requires { ⌜ Room nodes «all_open» (length (now rows)) × NoMarks (now rows) ⌝ }
+    ensures { λ r. ⌜ (length (now (rows .exit)) ≡ length (now (rows .entry))) × Tails nodes (now (links .entry)) (length (now (links .entry))) (now (rows .exit)) ⌝ }
 {
-    let mut own = [0u32; 128];
-    if !all_open {
-        mark_destinations(nodes, destinations, &mut own);
-    }
-    let mut marks = [0u32; 128];
-    mark_destinations(nodes, destinations, &mut marks);
-    loop {
-        if sweep_up(nodes, links, all_open, &own, &mut marks) == 0 {
-            return marks;
-        }
-        if sweep_down(nodes, links, all_open, &own, &mut marks) == 0 {
-            return marks;
-        }
-    }
-}
-
-// Each destination marks its own node.
-fn mark_destinations(nodes: usize, destinations: &[u16], marks: &mut [u32; 128])
-    requires { ⌜ (nodes ≤ 128) × (length (now destinations) ≤ 32) ⌝ }
-    requires { ⌜ destinationsFit (network nodes [] (now destinations) []) ≡ true ⌝ }
-    requires { ⌜ Started (now destinations) 0 (now marks) ⌝ }
-    ensures { λ r. ⌜ Started (now (destinations .entry)) (length (now (destinations .entry))) (now (marks .exit)) ⌝ }
-{
-    let mut k = 0;
-    while k < destinations.len() {
-        mark(k, node(destinations[k]), marks);
-        k += 1;
-    }
-}
-
-// Marks node j for destination k.
-fn mark(k: usize, j: usize, marks: &mut [u32; 128])
-    requires { ⌜ (k < 32) × (j < 128) × Whole (now marks) ⌝ }
-    ensures { λ r. ⌜ Marks k j (now (marks .entry)) (now (marks .exit)) ⌝ }
-{
-    marks[j] = marks[j] | 1 << k;
-}
-
-// One sweep over the links from the first to the last: a link's tail gets the marks that the link hands on. `own` has the marks that the
-// destinations gave their own nodes. How many times a node got new marks.
-fn sweep_up(
-    nodes: usize,
-    links: &[[u16; 6]],
-    all_open: bool,
-    own: &[u32; 128],
-    marks: &mut [u32; 128],
-) -> usize
-    requires { ⌜ (nodes ≤ 128) × (endsFit (network nodes (now links) [] []) ≡ true) × Whole (now marks) × («all_open» ≡ true → AllOpen (now links)) ⌝ }
-    ensures { λ r. ⌜ Swept nodes (now (links .entry)) (now (own .entry)) (now (marks .entry)) 0 (length (now (links .entry))) (now (marks .exit)) r ⌝ }
-{
-    let mut count = 0;
     let mut l = 0;
     while l < links.len() {
-        let word = handed(node(links[l][HEAD]), links[l][CLOSED], all_open, own, marks);
-        count += mark_tail(node(links[l][TAIL]), word, marks);
+        let i = row_place(nodes, node(links[l][HEAD]), links[l][CLOSED], all_open);
+        mark(i, node(links[l][TAIL]), rows);
         l += 1;
     }
-    count
 }
 
-// The same from the last link to the first.
-fn sweep_down(
-    nodes: usize,
-    links: &[[u16; 6]],
-    all_open: bool,
-    own: &[u32; 128],
-    marks: &mut [u32; 128],
-) -> usize
-    requires { ⌜ (nodes ≤ 128) × (endsFit (network nodes (now links) [] []) ≡ true) × Whole (now marks) × («all_open» ≡ true → AllOpen (now links)) ⌝ }
-    ensures { λ r. ⌜ Swept nodes (now (links .entry)) (now (own .entry)) (now (marks .entry)) 0 (length (now (links .entry))) (now (marks .exit)) r ⌝ }
-{
-    let mut count = 0;
-    let mut l = links.len();
-    while 0 < l {
-        l -= 1;
-        let word = handed(node(links[l][HEAD]), links[l][CLOSED], all_open, own, marks);
-        count += mark_tail(node(links[l][TAIL]), word, marks);
-    }
-    count
-}
-
-// The marks that a link hands on to its tail: those of its head, and where the head is closed only that of the destination that the head
-// itself is (A.2).
-fn handed(head: usize, closed: u16, all_open: bool, own: &[u32; 128], marks: &[u32; 128]) -> u32
-    requires { ⌜ (head < 128) × («all_open» ≡ true → closed ≡ 1 → ⊥) ⌝ }
-    ensures { λ r. ⌜ r ≡ handedOn head closed (now (own .entry)) (now (marks .entry)) ⌝ }
+// Where the row of a link stands. Where all heads are open, its closed byte is not read.
+fn row_place(nodes: usize, head: usize, closed: u16, all_open: bool) -> usize
+    requires { ⌜ (nodes ≤ 128) × (head < nodes) × («all_open» ≡ true → closed ≡ 1 → ⊥) ⌝ }
+    ensures { λ r. ⌜ r ≡ rowPlace nodes head closed ⌝ }
 {
     if all_open {
-        return marks[head];
+        return head;
     }
-    if closed == 1 { own[head] } else { marks[head] }
+    if closed == 1 { nodes + head } else { head }
 }
 
-// Gives a link's tail the marks of a word. How many nodes got new marks: 0 or 1. No branch before the
-// store.
-fn mark_tail(tail: usize, word: u32, marks: &mut [u32; 128]) -> usize
-    requires { ⌜ (tail < 128) × Whole (now marks) ⌝ }
-    ensures { λ r. ⌜ LinkSwept tail word (now (marks .entry)) (now (marks .exit)) r ⌝ }
+// Marks node j in row i.
+fn mark(i: usize, j: usize, rows: &mut [[u64; 2]])
+    requires { ⌜ (i < length (now rows)) × (j < 128) × ((a : ℕ) → a < length (now rows) → length (row (now rows) a) ≡ 2) ⌝ }
+    ensures { λ r. ⌜ Marks i j (now (rows .entry)) (now (rows .exit)) ⌝ }
 {
-    let had = marks[tail];
-    let both = had | word;
-    marks[tail] = both;
-    if both == had { 0 } else { 1 }
+    rows[i][j / 64] = rows[i][j / 64] | 1 << j % 64;
 }
 
-// Whether every node with trips to destination k is marked for it. Counts the others, without an
-// early return: the compiler vectorises this loop.
-fn trips_marked(k: usize, trips: &[u16], marks: &[u32; 128]) -> bool
-    requires { ⌜ (length (now trips) ≤ 128) × (k < 32) ⌝ }
-    ensures { λ r. ⌜ r ≡ allMarked k (now (trips .entry)) (now (marks .entry)) ⌝ }
+// The nodes from which s is reached next: those of its row and, where s may be closed, of its other row.
+fn tails_into(nodes: usize, s: usize, all_open: bool, rows: &[[u64; 2]]) -> [u64; 2]
+    requires { ⌜ (nodes ≤ 128) × (s < nodes) × Room nodes «all_open» (length (now rows)) ⌝ }
+    ensures { λ r. ⌜ r ≡ tailsInto nodes «all_open» (now (rows .entry)) s ⌝ }
 {
-    let mut count: u32 = 0;
-    let mut j = 0;
-    while j < trips.len() {
-        count += stranded(trips[j], marks[j], k);
-        j += 1;
+    if all_open {
+        return rows[s];
     }
-    count == 0
+    both(rows[s], rows[nodes + s])
 }
 
-// 1 where a node has trips and its word has no mark for destination k, else 0.
-fn stranded(count: u16, word: u32, k: usize) -> u32
-    requires { ⌜ k < 32 ⌝ }
-    ensures { λ r. ⌜ Stranded count word k r ⌝ }
+// The nodes with a path to s: s itself, and all with a walk to a tail of a link into s. On a small network these may be s and the tails.
+fn reach(
+    nodes: usize,
+    s: usize,
+    tails: [u64; 2],
+    whole: &mut [u64; 2],
+    rows: &mut [[u64; 2]],
+) -> [u64; 2]
+    requires { ⌜ (s < nodes) × Rows nodes (now whole) (now rows) × ((j : ℕ) → marked tails j ≡ true → j < nodes) ⌝ }
+    ensures { λ r. ⌜ Reached nodes s tails (now (rows .entry)) (now (whole .exit)) (now (rows .exit)) r ⌝ }
 {
-    let path = word >> k & 1;
-    if count == 0 { 0 } else { 1 - path }
+    let first = both(only_node(s), tails);
+    if all_reached(nodes, first) {
+        return first;
+    }
+    let mut reached = only_node(s);
+    loop {
+        let tail = lowest_unvisited(tails, reached);
+        if tail == NO_NODE {
+            return reached;
+        }
+        let more = both(reached, fill(nodes, tail, whole, rows));
+        reached = more;
+    }
+}
+
+// The nodes with a walk to j. They are kept in its row, which is then whole.
+fn fill(nodes: usize, j: usize, whole: &mut [u64; 2], rows: &mut [[u64; 2]]) -> [u64; 2]
+    requires { ⌜ (j < nodes) × Rows nodes (now whole) (now rows) ⌝ }
+    ensures { λ r. ⌜ Filled nodes j (now (rows .entry)) (now (whole .exit)) (now (rows .exit)) r ⌝ }
+{
+    if is_marked(*whole, j) {
+        return rows[j];
+    }
+    let found = search(nodes, j, *whole, rows);
+    rows[j] = found;
+    *whole = both(*whole, only_node(j));
+    found
+}
+
+// A search for the nodes with a walk to s. Where it reaches a node whose row is whole it takes that row over at once. The next to be
+// visited is the lowest-numbered node that is reached and unvisited.
+fn search(nodes: usize, s: usize, whole: [u64; 2], rows: &[[u64; 2]]) -> [u64; 2]
+    requires { ⌜ (s < nodes) × Rows nodes whole (now rows) ⌝ }
+    ensures { λ r. ⌜ Closure (now (rows .entry)) s r ⌝ }
+{
+    let start = only_node(s);
+    let first = both(start, rows[s]);
+    let known = whole_row(first, start, whole, rows);
+    let mut reached = both(first, known);
+    let mut visited = both(start, known);
+    let mut next = next_node(nodes, reached, visited);
+    while next != NO_NODE {
+        let row = rows[next];
+        let wider = both(reached, row);
+        let seen = both(visited, only_node(next));
+        let other = whole_row(wider, seen, whole, rows);
+        reached = both(wider, other);
+        visited = both(seen, other);
+        next = next_node(nodes, reached, visited);
+    }
+    reached
+}
+
+// The row of the lowest node that is reached, unvisited and whole, or no node.
+fn whole_row(reached: [u64; 2], visited: [u64; 2], whole: [u64; 2], rows: &[[u64; 2]]) -> [u64; 2]
+    requires { ⌜ ((j : ℕ) → marked reached j ≡ true → j < length (now rows)) ⌝ }
+    ensures { λ r. ⌜ r ≡ wholeRow (now (rows .entry)) whole reached visited ⌝ }
+{
+    let j = lowest_unvisited(shared(reached, whole), visited);
+    if j == NO_NODE {
+        return [0, 0];
+    }
+    rows[j]
+}
+
+// The node that a search visits next: none where all nodes are reached.
+fn next_node(nodes: usize, reached: [u64; 2], visited: [u64; 2]) -> usize
+    requires { ⌜ nodes ≤ 128 ⌝ }
+    ensures { λ r. ⌜ r ≡ nextNode nodes reached visited ⌝ }
+{
+    if all_reached(nodes, reached) {
+        return NO_NODE;
+    }
+    lowest_unvisited(reached, visited)
+}
+
+fn all_reached(nodes: usize, reached: [u64; 2]) -> bool
+    requires { ⌜ nodes ≤ 128 ⌝ }
+    ensures { λ r. ⌜ r ≡ allReached nodes reached ⌝ }
+{
+    lowest_unvisited(nodes_below(nodes), reached) == NO_NODE
+}
+
+// Whether every node with trips is reached. Only the trips of the others are looked at.
+fn trips_marked(reached: [u64; 2], trips: &[u16]) -> bool
+    requires { ⌜ length (now trips) ≤ 128 ⌝ }
+    ensures { λ r. ⌜ r ≡ allMarked (now (trips .entry)) reached ⌝ }
+{
+    let all = nodes_below(trips.len());
+    let mut passed = reached;
+    loop {
+        let j = lowest_unvisited(all, passed);
+        if j == NO_NODE {
+            return true;
+        }
+        if trips[j] != 0 {
+            return false;
+        }
+        let more = both(passed, only_node(j));
+        passed = more;
+    }
 }

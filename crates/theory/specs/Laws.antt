@@ -3,6 +3,7 @@
 pub mod Finite
 pub mod Cases
 pub mod Bits
+pub mod Marks
 pub mod Parts
 pub mod Conserving
 pub mod Potentials

@@ -7,4 +7,5 @@ pub mod Routes
 pub mod Cost
 pub mod Moves
 pub mod Study
+pub mod Marks
 pub mod Laws

@@ -2,7 +2,8 @@
 use Prim.Native.Nat.{ℕ}
 use native.Mathlib.Decide.{ℕ-discrete}
 use mathlib.Core.Path.{_≡_, refl, sym, _∙_}
-use mathlib.Core.Bool.{Bool, true, false, true≢false}
+use mathlib.Core.Bool.{Bool, true, false, _||_, true≢false}
+use mathlib.Core.Logic.{_⊎_, inl, inr}
 use mathlib.Core.Option.{Option, none, some, Option·none-ne-some}
 
 -- A distance is none, or some number.
@@ -14,6 +15,11 @@ on-option (some x) f g = g x refl
 pub on-test : {C : Type 0} (b : Bool) → (b ≡ true → C) → (b ≡ false → C) → C
 on-test true f g = f refl
 on-test false f g = g refl
+
+-- One of two tests holds where their `or` does.
+pub either : (a b : Bool) → (a || b) ≡ true → (a ≡ true) ⊎ (b ≡ true)
+either true b e = inl refl
+either false b e = inr e
 
 -- Two numbers are equal or not.
 pub on-equal : {C : Type 0} (a b : ℕ) → (a ≡ b → C) → ((a ≡ b → ⊥) → C) → C

@@ -1,40 +1,58 @@
--- `questions::reach::mark` meets its contract.
+use Prim.Native.Nat.{_%_}
 use native.Mathlib.Omega.{arith}
-use Rattle.questions.specs.Laws.Bits.{one-shifted}
+use Rattle.theory.specs.Laws.Bits.{one-shifted}
 use Rattle.questions.specs.Laws.Reach.{set-marks}
 use borrow.Author.Needs.{needs}
 use Rattle.questions.proofs.reach.mark.Statement.{statement}
 use Rattle.questions.proofs.reach.mark.Tie as tie
+use Rattle.questions.proofs.reach.mark.Reads as reads
+use Rattle.questions.proofs.reach.mark.Lts as lts
 
-mul-marks : tie.Need-mul-marks
-mul-marks c = search needs
+mul-rows : tie.Need-mul-rows
+mul-rows c = search needs
 
-element-copy-out-marks : tie.Need-element-copy-out-marks
-element-copy-out-marks c = search needs
+mul-rows-2 : tie.Need-mul-rows-2
+mul-rows-2 c = search needs
 
-cast-marks : tie.Need-cast-marks
-cast-marks c = search needs
+index-1-rows : tie.Need-index-1-rows
+index-1-rows c = search needs
 
-shl-marks : tie.Need-shl-marks
-shl-marks c = search needs
+index-2-rows : tie.Need-index-2-rows
+index-2-rows c = search needs
 
-mul-marks-2 : tie.Need-mul-marks-2
-mul-marks-2 c = search needs
+shl-rows : tie.Need-shl-rows
+shl-rows c = search needs
 
-element-write-marks : tie.Need-element-write-marks
-element-write-marks c = search needs
+mul-rows-3 : tie.Need-mul-rows-3
+mul-rows-3 c = search needs
+
+mul-rows-4 : tie.Need-mul-rows-4
+mul-rows-4 c = search needs
+
+index-1-rows-2 : tie.Need-index-1-rows-2
+index-1-rows-2 c = search needs
+
+index-2-rows-2 : tie.Need-index-2-rows-2
+index-2-rows-2 c = search needs
+
+same-length : tie.Need-same-length
+same-length c = search needs
 
 returns : tie.Need-returns
-returns c = rw (one-shifted (c .before .args .k) (omega arith)) (set-marks _ _ _ (c .before .pre .0) (c .before .pre .1) (c .before .pre .2))
+returns c = rw (one-shifted 64 (c .before .args .j % 64) (omega arith)) (set-marks _ _ _ (c .before .pre .2) (c .before .pre .0) (c .before .pre .1))
 
 pub mark-spec : {M : Type 1} → statement M
 mark-spec =
     tie.close
     (tie.spec
-    mul-marks
-    element-copy-out-marks
-    cast-marks
-    shl-marks
-    mul-marks-2
-    element-write-marks
+    mul-rows
+    mul-rows-2
+    index-1-rows
+    index-2-rows
+    shl-rows
+    mul-rows-3
+    mul-rows-4
+    index-1-rows-2
+    index-2-rows-2
+    same-length
     returns)

@@ -1,0 +1,18 @@
+use borrow.Author.Needs.{needs}
+use native.Mathlib.Nat.{lt-of-le-of-lt}
+use lib.Count.{trailing-le}
+use lib.Dec.{lit<}
+use Rattle.theory.specs.Laws.Marks.{trailing-lowest}
+use Rattle.questions.proofs.marks.lowest_bit.Statement.{statement}
+use Rattle.questions.proofs.marks.lowest_bit.Tie as tie
+use Rattle.questions.proofs.marks.lowest_bit.Reads as reads
+use Rattle.questions.proofs.marks.lowest_bit.Lts as lts
+
+cast-result : tie.Need-cast-result
+cast-result c = record { fits = lt-of-le-of-lt (trailing-le 64 _) (lit< tt) }
+
+returns : tie.Need-returns
+returns c = (trailing-lowest _ (c .args .visited) (search needs), trailing-le 64 _)
+
+pub lowest-bit-spec : {M : Type 1} → statement M
+lowest-bit-spec = tie.close (tie.spec cast-result returns)

@@ -1,0 +1,27 @@
+use mathlib.Core.Path.{sym, _∙_}
+use Rattle.questions.specs.Reach.{nextNode}
+use borrow.Author.Needs.{needs}
+use Rattle.questions.proofs.reach.next_node.Statement.{statement}
+use Rattle.questions.proofs.reach.next_node.Tie as tie
+use Rattle.questions.proofs.reach.next_node.Reads as reads
+use Rattle.questions.proofs.reach.next_node.Lts as lts
+use Rattle.questions.proofs.marks.lowest_unvisited.Reads as lowest-unvisited-reads
+use Rattle.questions.proofs.reach.all_reached.Reads as all-reached-reads
+
+all-reached-requires : tie.Need-all-reached-requires
+all-reached-requires c κs = search needs
+
+returns : tie.Need-returns
+unfolding nextNode
+returns c = rw (sym (c .before .all-reached .ensures) ∙ c .if1 .taken)
+
+lowest-unvisited-requires : tie.Need-lowest-unvisited-requires
+lowest-unvisited-requires c κs = search needs
+
+returns-2 : tie.Need-returns-2
+unfolding nextNode
+returns-2 c = rw (sym (c .before .before .all-reached .ensures) ∙ c .before .if1 .left) (c .lowest-unvisited .ensures)
+
+pub next-node-spec : {M : Type 1} → statement M
+next-node-spec =
+    tie.close (tie.spec all-reached-requires returns lowest-unvisited-requires returns-2)
