@@ -1,10 +1,9 @@
-use Rattle.theory.specs.Marks.{union}
+-- `questions::marks::both` meets its contract.
 use mathlib.Core.Path.{refl}
 use borrow.Author.Needs.{needs}
+use Rattle.theory.specs.Marks.{union}
 use Rattle.questions.proofs.marks.both.Statement.{statement}
 use Rattle.questions.proofs.marks.both.Tie as tie
-use Rattle.questions.proofs.marks.both.Reads as reads
-use Rattle.questions.proofs.marks.both.Lts as lts
 
 array-read-t7 : tie.Need-array-read-t7
 array-read-t7 c = search needs

@@ -1,11 +1,10 @@
+-- `questions::marks::is_marked` meets its contract.
 use mathlib.Core.Path.{sym, _∙_}
+use borrow.Author.Needs.{needs}
 use Rattle.theory.specs.Laws.Bits.{read-bit}
 use Rattle.theory.specs.Laws.Marks.{marked-low, marked-high}
-use borrow.Author.Needs.{needs}
 use Rattle.questions.proofs.marks.is_marked.Statement.{statement}
 use Rattle.questions.proofs.marks.is_marked.Tie as tie
-use Rattle.questions.proofs.marks.is_marked.Reads as reads
-use Rattle.questions.proofs.marks.is_marked.Lts as lts
 
 array-read-result : tie.Need-array-read-result
 array-read-result c = search needs

@@ -1,12 +1,11 @@
-use borrow.Author.Needs.{needs}
-use native.Mathlib.Nat.{lt-of-le-of-lt}
+-- `questions::marks::lowest_bit` meets its contract.
 use lib.Count.{trailing-le}
 use lib.Dec.{lit<}
+use native.Mathlib.Nat.{lt-of-le-of-lt}
+use borrow.Author.Needs.{needs}
 use Rattle.theory.specs.Laws.Marks.{trailing-lowest}
 use Rattle.questions.proofs.marks.lowest_bit.Statement.{statement}
 use Rattle.questions.proofs.marks.lowest_bit.Tie as tie
-use Rattle.questions.proofs.marks.lowest_bit.Reads as reads
-use Rattle.questions.proofs.marks.lowest_bit.Lts as lts
 
 cast-result : tie.Need-cast-result
 cast-result c = record { fits = lt-of-le-of-lt (trailing-le 64 _) (lit< tt) }

@@ -1,10 +1,8 @@
-use Rattle.theory.specs.Laws.Marks.{lowest-low, lowest-high}
+-- `questions::marks::lowest_unvisited` meets its contract.
 use borrow.Author.Needs.{needs}
+use Rattle.theory.specs.Laws.Marks.{lowest-low, lowest-high}
 use Rattle.questions.proofs.marks.lowest_unvisited.Statement.{statement}
 use Rattle.questions.proofs.marks.lowest_unvisited.Tie as tie
-use Rattle.questions.proofs.marks.lowest_unvisited.Reads as reads
-use Rattle.questions.proofs.marks.lowest_unvisited.Lts as lts
-use Rattle.questions.proofs.marks.lowest_bit.Reads as lowest-bit-reads
 
 array-read-lowest-bit : tie.Need-array-read-lowest-bit
 array-read-lowest-bit c = search needs

@@ -1,11 +1,9 @@
+-- `questions::marks::nodes_below` meets its contract.
+use borrow.Author.Needs.{needs}
 use borrow.Author.Tests.{lt-ltb, le-ltb}
 use Rattle.theory.specs.Marks.{nodesBelow}
-use borrow.Author.Needs.{needs}
 use Rattle.questions.proofs.marks.nodes_below.Statement.{statement}
 use Rattle.questions.proofs.marks.nodes_below.Tie as tie
-use Rattle.questions.proofs.marks.nodes_below.Reads as reads
-use Rattle.questions.proofs.marks.nodes_below.Lts as lts
-use Rattle.questions.proofs.marks.ones.Reads as ones-reads
 
 ones-requires : tie.Need-ones-requires
 ones-requires c κs = search needs

@@ -1,12 +1,11 @@
-use native.Mathlib.Omega.{arith}
-use mathlib.Core.Path.{_≡_}
+-- `questions::marks::ones` meets its contract.
 use lib.Pow.{pow-pos}
-use Rattle.theory.specs.Laws.Bits.{one-shifted}
+use mathlib.Core.Path.{_≡_}
+use native.Mathlib.Omega.{arith}
 use borrow.Author.Needs.{needs}
+use Rattle.theory.specs.Laws.Bits.{one-shifted}
 use Rattle.questions.proofs.marks.ones.Statement.{statement}
 use Rattle.questions.proofs.marks.ones.Tie as tie
-use Rattle.questions.proofs.marks.ones.Reads as reads
-use Rattle.questions.proofs.marks.ones.Lts as lts
 
 shl-result : tie.Need-shl-result
 shl-result c = search needs

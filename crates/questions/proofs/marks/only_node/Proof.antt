@@ -1,13 +1,12 @@
+-- `questions::marks::only_node` meets its contract.
 use Prim.Native.Nat.{_-_}
 use native.Mathlib.Omega.{arith}
-use borrow.Author.Tests.{lt-ltb, le-ltb}
-use Rattle.theory.specs.Marks.{onlyNode}
-use Rattle.theory.specs.Laws.Bits.{one-shifted}
 use borrow.Author.Needs.{needs}
+use borrow.Author.Tests.{lt-ltb, le-ltb}
+use Rattle.theory.specs.Laws.Bits.{one-shifted}
+use Rattle.theory.specs.Marks.{onlyNode}
 use Rattle.questions.proofs.marks.only_node.Statement.{statement}
 use Rattle.questions.proofs.marks.only_node.Tie as tie
-use Rattle.questions.proofs.marks.only_node.Reads as reads
-use Rattle.questions.proofs.marks.only_node.Lts as lts
 
 shl-t5 : tie.Need-shl-t5
 shl-t5 c = search needs

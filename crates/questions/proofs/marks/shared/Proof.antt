@@ -1,10 +1,9 @@
+-- `questions::marks::shared` meets its contract.
 use mathlib.Core.Path.{refl}
-use Rattle.theory.specs.Marks.{common}
 use borrow.Author.Needs.{needs}
+use Rattle.theory.specs.Marks.{common}
 use Rattle.questions.proofs.marks.shared.Statement.{statement}
 use Rattle.questions.proofs.marks.shared.Tie as tie
-use Rattle.questions.proofs.marks.shared.Reads as reads
-use Rattle.questions.proofs.marks.shared.Lts as lts
 
 array-read-t7 : tie.Need-array-read-t7
 array-read-t7 c = search needs

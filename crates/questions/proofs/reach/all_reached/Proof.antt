@@ -1,11 +1,8 @@
-use Rattle.questions.specs.Reach.{allReached}
+-- `questions::reach::all_reached` meets its contract.
 use borrow.Author.Needs.{needs}
+use Rattle.questions.specs.Reach.{allReached}
 use Rattle.questions.proofs.reach.all_reached.Statement.{statement}
 use Rattle.questions.proofs.reach.all_reached.Tie as tie
-use Rattle.questions.proofs.reach.all_reached.Reads as reads
-use Rattle.questions.proofs.reach.all_reached.Lts as lts
-use Rattle.questions.proofs.marks.lowest_unvisited.Reads as lowest-unvisited-reads
-use Rattle.questions.proofs.marks.nodes_below.Reads as nodes-below-reads
 
 nodes-below-requires : tie.Need-nodes-below-requires
 nodes-below-requires c κs = search needs

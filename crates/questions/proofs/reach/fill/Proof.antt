@@ -1,15 +1,10 @@
+-- `questions::reach::fill` meets its contract.
 use mathlib.Core.Path.{sym, _∙_}
 use native.Mathlib.Omega.{arith}
-use Rattle.questions.specs.Laws.Reach.{filled-before, filled-now}
 use borrow.Author.Needs.{needs}
+use Rattle.questions.specs.Laws.Reach.{filled-before, filled-now}
 use Rattle.questions.proofs.reach.fill.Statement.{statement}
 use Rattle.questions.proofs.reach.fill.Tie as tie
-use Rattle.questions.proofs.reach.fill.Reads as reads
-use Rattle.questions.proofs.reach.fill.Lts as lts
-use Rattle.questions.proofs.marks.both.Reads as both-reads
-use Rattle.questions.proofs.marks.is_marked.Reads as is-marked-reads
-use Rattle.questions.proofs.marks.only_node.Reads as only-node-reads
-use Rattle.questions.proofs.reach.search.Reads as search-reads
 
 is-marked-requires : tie.Need-is-marked-requires
 is-marked-requires c κs = omega (arith, c .before .pre .0, c .before .pre .1 .few)

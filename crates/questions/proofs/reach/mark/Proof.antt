@@ -1,12 +1,11 @@
+-- `questions::reach::mark` meets its contract.
 use Prim.Native.Nat.{_%_}
 use native.Mathlib.Omega.{arith}
+use borrow.Author.Needs.{needs}
 use Rattle.theory.specs.Laws.Bits.{one-shifted}
 use Rattle.questions.specs.Laws.Reach.{set-marks}
-use borrow.Author.Needs.{needs}
 use Rattle.questions.proofs.reach.mark.Statement.{statement}
 use Rattle.questions.proofs.reach.mark.Tie as tie
-use Rattle.questions.proofs.reach.mark.Reads as reads
-use Rattle.questions.proofs.reach.mark.Lts as lts
 
 mul-rows : tie.Need-mul-rows
 mul-rows c = search needs

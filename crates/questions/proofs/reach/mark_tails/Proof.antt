@@ -1,19 +1,15 @@
-use Rattle.questions.specs.Reach.{Tails, rowOf}
-use borrow.Author.Needs.{needs}
-use Prim.Native.Nat.{_-_, _≤_}
-use mathlib.Core.Path.{_≡_, refl, _∙_}
-use lib.ListN.{length}
+-- `questions::reach::mark_tails` meets its contract: the first l links have marked their tails.
 use denote.Ref.{now}
+use Prim.Native.Nat.{_-_, _≤_}
+use lib.ListN.{length}
+use mathlib.Core.Path.{_≡_, refl, _∙_}
 use native.Mathlib.Omega.{arith}
+use borrow.Author.Needs.{needs}
 use Rattle.questions.specs.Laws.Questions.{Ends, ends-below}
 use Rattle.questions.specs.Laws.Reach.{tails-none, tails-more, row-there}
+use Rattle.questions.specs.Reach.{Tails, rowOf}
 use Rattle.questions.proofs.reach.mark_tails.Statement.{statement}
 use Rattle.questions.proofs.reach.mark_tails.Tie as tie
-use Rattle.questions.proofs.reach.mark_tails.Reads as reads
-use Rattle.questions.proofs.reach.mark_tails.Lts as lts
-use Rattle.questions.proofs.numbers.node.Reads as node-reads
-use Rattle.questions.proofs.reach.mark.Reads as mark-reads
-use Rattle.questions.proofs.reach.row_place.Reads as row-place-reads
 
 abbrev Inv-loop : tie.InvT-loop
 Inv-loop nodes links all-open rows₀ l₀ rows l = (l ≤ length links) × (length rows ≡ length rows₀) × Tails nodes links l rows

@@ -1,12 +1,9 @@
+-- `questions::reach::next_node` meets its contract.
 use mathlib.Core.Path.{sym, _∙_}
-use Rattle.questions.specs.Reach.{nextNode}
 use borrow.Author.Needs.{needs}
+use Rattle.questions.specs.Reach.{nextNode}
 use Rattle.questions.proofs.reach.next_node.Statement.{statement}
 use Rattle.questions.proofs.reach.next_node.Tie as tie
-use Rattle.questions.proofs.reach.next_node.Reads as reads
-use Rattle.questions.proofs.reach.next_node.Lts as lts
-use Rattle.questions.proofs.marks.lowest_unvisited.Reads as lowest-unvisited-reads
-use Rattle.questions.proofs.reach.all_reached.Reads as all-reached-reads
 
 all-reached-requires : tie.Need-all-reached-requires
 all-reached-requires c κs = search needs

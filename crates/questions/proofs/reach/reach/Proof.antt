@@ -1,21 +1,15 @@
-use borrow.Author.Needs.{needs}
-use native.Mathlib.Omega.{arith}
+-- `questions::reach::reach` meets its contract: what is reached so far, and the rows that were filled on the way.
+use Prim.Native.Nat.{_<_}
 use mathlib.Core.Bool.{true, false}
 use mathlib.Core.Path.{_≡_, sym, _∙_}
-use Prim.Native.Nat.{_<_}
-use Rattle.theory.specs.Marks.{marked}
+use native.Mathlib.Omega.{arith}
+use borrow.Author.Needs.{needs}
 use Rattle.theory.specs.Laws.Marks.{lacking, lacking-less, next-unvisited, none-unvisited}
-use Rattle.questions.specs.Reach.{Grown, Rows, Reaching}
+use Rattle.theory.specs.Marks.{marked}
 use Rattle.questions.specs.Laws.Reach.{grown-none, grown-next, reached-tails, reaching-first, reaching-next}
+use Rattle.questions.specs.Reach.{Grown, Rows, Reaching}
 use Rattle.questions.proofs.reach.reach.Statement.{statement}
 use Rattle.questions.proofs.reach.reach.Tie as tie
-use Rattle.questions.proofs.reach.reach.Reads as reads
-use Rattle.questions.proofs.reach.reach.Lts as lts
-use Rattle.questions.proofs.marks.both.Reads as both-reads
-use Rattle.questions.proofs.marks.lowest_unvisited.Reads as lowest-unvisited-reads
-use Rattle.questions.proofs.marks.only_node.Reads as only-node-reads
-use Rattle.questions.proofs.reach.all_reached.Reads as all-reached-reads
-use Rattle.questions.proofs.reach.fill.Reads as fill-reads
 
 abbrev Inv-loop : tie.InvT-loop
 Inv-loop nodes s tails whole₀ rows₀ reached₀ whole rows reached = Grown rows₀ rows × Rows nodes whole rows × Reaching rows₀ s tails reached

@@ -1,10 +1,9 @@
+-- `questions::reach::row_count` meets its contract.
 use native.Mathlib.Omega.{arith}
-use Rattle.theory.specs.Laws.Cases.{true-false}
 use borrow.Author.Needs.{needs}
+use Rattle.theory.specs.Laws.Cases.{true-false}
 use Rattle.questions.proofs.reach.row_count.Statement.{statement}
 use Rattle.questions.proofs.reach.row_count.Tie as tie
-use Rattle.questions.proofs.reach.row_count.Reads as reads
-use Rattle.questions.proofs.reach.row_count.Lts as lts
 
 add-result : tie.Need-add-result
 add-result c = search needs

@@ -1,10 +1,9 @@
+-- `questions::reach::row_place` meets its contract.
+use borrow.Author.Needs.{needs}
 use borrow.Author.Tests.{eq-eqb, ne-eqb}
 use Rattle.questions.specs.Reach.{rowPlace}
-use borrow.Author.Needs.{needs}
 use Rattle.questions.proofs.reach.row_place.Statement.{statement}
 use Rattle.questions.proofs.reach.row_place.Tie as tie
-use Rattle.questions.proofs.reach.row_place.Reads as reads
-use Rattle.questions.proofs.reach.row_place.Lts as lts
 
 returns : tie.Need-returns
 unfolding rowPlace

@@ -1,22 +1,17 @@
+-- `questions::reach::search` meets its contract: the nodes reached and visited, and the next.
+use denote.Ref.{now}
+use Prim.Native.Nat.{_<_}
+use mathlib.Core.Bool.{true, false}
+use mathlib.Core.Path.{_≡_}
 use native.Mathlib.Nat.{lt-of-le-of-lt}
 use native.Mathlib.Omega.{arith}
-use mathlib.Core.Bool.{true, false}
-use Prim.Native.Nat.{_<_}
-use denote.Ref.{now}
-use Rattle.theory.specs.Marks.{marked}
-use Rattle.theory.specs.Laws.Marks.{lacking, lacking-most, lacking-less, marked-own}
-use Rattle.questions.specs.Laws.Reach.{next-reached, searching-first, searching-below, searching-visit, searching-whole, searching-last}
 use borrow.Author.Needs.{needs}
-use mathlib.Core.Path.{_≡_}
+use Rattle.theory.specs.Laws.Marks.{lacking, lacking-most, lacking-less, marked-own}
+use Rattle.theory.specs.Marks.{marked}
+use Rattle.questions.specs.Laws.Reach.{next-reached, searching-first, searching-below, searching-visit, searching-whole, searching-last}
 use Rattle.questions.specs.Reach.{Searching, nextNode}
 use Rattle.questions.proofs.reach.search.Statement.{statement}
 use Rattle.questions.proofs.reach.search.Tie as tie
-use Rattle.questions.proofs.reach.search.Reads as reads
-use Rattle.questions.proofs.reach.search.Lts as lts
-use Rattle.questions.proofs.marks.both.Reads as both-reads
-use Rattle.questions.proofs.marks.only_node.Reads as only-node-reads
-use Rattle.questions.proofs.reach.next_node.Reads as next-node-reads
-use Rattle.questions.proofs.reach.whole_row.Reads as whole-row-reads
 
 abbrev Inv-loop : tie.InvT-loop
 Inv-loop nodes s whole rows reached₀ visited₀ next₀ reached visited next = Searching rows s reached visited × (next ≡ nextNode nodes reached visited)

@@ -1,11 +1,9 @@
+-- `questions::reach::tails_into` meets its contract.
 use native.Mathlib.Omega.{arith}
-use Rattle.questions.specs.Reach.{tailsInto}
 use borrow.Author.Needs.{needs}
+use Rattle.questions.specs.Reach.{tailsInto}
 use Rattle.questions.proofs.reach.tails_into.Statement.{statement}
 use Rattle.questions.proofs.reach.tails_into.Tie as tie
-use Rattle.questions.proofs.reach.tails_into.Reads as reads
-use Rattle.questions.proofs.reach.tails_into.Lts as lts
-use Rattle.questions.proofs.marks.both.Reads as both-reads
 
 mul-result : tie.Need-mul-result
 mul-result c = search needs

@@ -1,23 +1,18 @@
-use mathlib.Core.Bool.{true, false}
+-- `questions::reach::trips_marked` meets its contract: the nodes that have passed.
+use denote.Ref.{now}
 use Prim.Native.Nat.{_<_}
 use lib.ListN.{length}
-use denote.Ref.{now}
-use borrow.Author.Tests.{ltb-true}
+use mathlib.Core.Bool.{true, false}
 use mathlib.Core.Path.{_≡_, sym, _∙_}
-use Rattle.theory.specs.Marks.{marked, nodesBelow}
-use Rattle.theory.specs.Laws.Marks.{lacking, lacking-less, marked-own, marked-below, next-unvisited, none-unvisited}
 use native.Mathlib.Omega.{arith}
-use Rattle.questions.specs.Laws.Reach.{passed-first, passed-next, passed-fails, passed-last}
 use borrow.Author.Needs.{needs}
+use borrow.Author.Tests.{ltb-true}
+use Rattle.theory.specs.Laws.Marks.{lacking, lacking-less, marked-own, marked-below, next-unvisited, none-unvisited}
+use Rattle.theory.specs.Marks.{marked, nodesBelow}
+use Rattle.questions.specs.Laws.Reach.{passed-first, passed-next, passed-fails, passed-last}
 use Rattle.questions.specs.Reach.{Passed}
 use Rattle.questions.proofs.reach.trips_marked.Statement.{statement}
 use Rattle.questions.proofs.reach.trips_marked.Tie as tie
-use Rattle.questions.proofs.reach.trips_marked.Reads as reads
-use Rattle.questions.proofs.reach.trips_marked.Lts as lts
-use Rattle.questions.proofs.marks.both.Reads as both-reads
-use Rattle.questions.proofs.marks.lowest_unvisited.Reads as lowest-unvisited-reads
-use Rattle.questions.proofs.marks.nodes_below.Reads as nodes-below-reads
-use Rattle.questions.proofs.marks.only_node.Reads as only-node-reads
 
 abbrev Inv-loop : tie.InvT-loop
 Inv-loop trips all passed₀ passed = Passed trips passed₀ passed

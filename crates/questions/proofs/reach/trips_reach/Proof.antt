@@ -1,11 +1,8 @@
-use Rattle.questions.specs.Laws.Reach.{none-at-first, room-more}
+-- `questions::reach::trips_reach` meets its contract.
 use borrow.Author.Needs.{needs}
+use Rattle.questions.specs.Laws.Reach.{none-at-first, room-more}
 use Rattle.questions.proofs.reach.trips_reach.Statement.{statement}
 use Rattle.questions.proofs.reach.trips_reach.Tie as tie
-use Rattle.questions.proofs.reach.trips_reach.Reads as reads
-use Rattle.questions.proofs.reach.trips_reach.Lts as lts
-use Rattle.questions.proofs.reach.row_count.Reads as row-count-reads
-use Rattle.questions.proofs.reach.trips_reach_in.Reads as trips-reach-in-reads
 
 row-count-requires : tie.Need-row-count-requires
 row-count-requires c κs = search needs

@@ -1,25 +1,19 @@
-use mathlib.Core.Path.{_≡_, refl, sym, _∙_, ap}
+-- `questions::reach::trips_reach_in` meets its contract: the destinations before k are reached from every node with trips to them, and rows have grown.
+use denote.Ref.{now}
 use Prim.Native.Nat.{_+_, _*_, _<_, _≤_, _-_}
 use lib.ListN.{getD, length}
-use Rattle.theory.specs.Marks.{marked}
-use Rattle.questions.specs.Laws.Reach.{rows-first, tails-below, grown-none, grown-next, search-answer, reachTest, reach-all, trips-there, trips-count, marks-answer}
-use borrow.Author.Needs.{needs}
-use native.Mathlib.Omega.{arith}
-use denote.Ref.{now}
 use mathlib.Core.Bool.{true}
+use mathlib.Core.Path.{_≡_, refl, sym, _∙_, ap}
+use native.Mathlib.Omega.{arith}
+use borrow.Author.Needs.{needs}
 use Rattle.study.proofs.Flags.{was-yes, was-no}
 use Rattle.theory.specs.Finite.{all}
+use Rattle.theory.specs.Marks.{marked}
 use Rattle.questions.specs.Laws.Questions.{Ends, ends-below, destination-below, all-more, all-failed, all-held}
+use Rattle.questions.specs.Laws.Reach.{rows-first, tails-below, grown-none, grown-next, search-answer, reachTest, reach-all, trips-there, trips-count, marks-answer}
 use Rattle.questions.specs.Reach.{Rows, Grown}
 use Rattle.questions.proofs.reach.trips_reach_in.Statement.{statement}
 use Rattle.questions.proofs.reach.trips_reach_in.Tie as tie
-use Rattle.questions.proofs.reach.trips_reach_in.Reads as reads
-use Rattle.questions.proofs.reach.trips_reach_in.Lts as lts
-use Rattle.questions.proofs.numbers.node.Reads as node-reads
-use Rattle.questions.proofs.reach.mark_tails.Reads as mark-tails-reads
-use Rattle.questions.proofs.reach.reach.Reads as reach-reads
-use Rattle.questions.proofs.reach.tails_into.Reads as tails-into-reads
-use Rattle.questions.proofs.reach.trips_marked.Reads as trips-marked-reads
 
 abbrev Inv-loop : tie.InvT-loop
 Inv-loop nodes links destinations trips all-open rows₀ whole₀ k₀ rows whole k =

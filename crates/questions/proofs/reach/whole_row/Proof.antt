@@ -1,18 +1,15 @@
-use native.Mathlib.Omega.{arith}
+-- `questions::reach::whole_row` meets its contract.
+use Prim.Native.Nat.{_<_}
 use mathlib.Core.Bool.{true, false}
 use mathlib.Core.Path.{_≡_, sym, _∙_}
-use Prim.Native.Nat.{_<_}
-use borrow.Author.Tests.{eq-eqb, ne-eqb}
-use Rattle.theory.specs.Marks.{marked, common, lowestUnvisited}
-use Rattle.theory.specs.Laws.Marks.{common-both, next-unvisited}
-use Rattle.questions.specs.Reach.{wholeRow, rowAt}
+use native.Mathlib.Omega.{arith}
 use borrow.Author.Needs.{needs}
+use borrow.Author.Tests.{eq-eqb, ne-eqb}
+use Rattle.theory.specs.Laws.Marks.{common-both, next-unvisited}
+use Rattle.theory.specs.Marks.{marked, common, lowestUnvisited}
+use Rattle.questions.specs.Reach.{wholeRow, rowAt}
 use Rattle.questions.proofs.reach.whole_row.Statement.{statement}
 use Rattle.questions.proofs.reach.whole_row.Tie as tie
-use Rattle.questions.proofs.reach.whole_row.Reads as reads
-use Rattle.questions.proofs.reach.whole_row.Lts as lts
-use Rattle.questions.proofs.marks.lowest_unvisited.Reads as lowest-unvisited-reads
-use Rattle.questions.proofs.marks.shared.Reads as shared-reads
 
 shared-requires : tie.Need-shared-requires
 shared-requires c κs = search needs
