@@ -51,7 +51,9 @@
  *
  * Times are hundredths of a minute. Gap and cost are as document 01 has them:
  * for a table of share W the gap is W times the total time above least times,
- * and the cost 64 times W times the area under the link times.
+ * and the cost 64 times W times the area under the link times. A link is over
+ * where its total flow is at least four times its capacity: it has then run
+ * onto the level part of its curve.
  */
 #ifndef ILSTROVAN_H
 #define ILSTROVAN_H
@@ -146,26 +148,28 @@ uint8_t ilstrovan_start(const uint8_t *file, size_t file_length,
                         uint32_t *table, size_t table_length);
 
 /* Judges `table` and moves it towards least times. Writes the outcome
-   (ilstrovan_outcome), the gap and the cost of the judged table, and the share
-   of the table as it is now. Refusals as start, then 14 to 16, then 20. */
+   (ilstrovan_outcome), the gap and the cost of the judged table, the share of
+   the table as it is now, and how many links of the judged table are over.
+   Refusals as start, then 14 to 16, then 20. */
 uint8_t ilstrovan_pass(const uint8_t *file, size_t file_length,
                        uint32_t *table, size_t table_length,
-                       uint32_t share, uint64_t answer[4]);
+                       uint32_t share, uint64_t answer[5]);
 
 /* Starts, then judges and moves until the gap is at most excess times share
    times trips, there is no move, or the budget is used up. `table` then holds
    the last judged table, whatever it held before. Writes the ending
-   (ilstrovan_ending), how many tables were judged, and the share, the gap and
-   the cost of the last. Refusals as start, then 13. */
+   (ilstrovan_ending), how many tables were judged, and the share, the gap, the
+   cost and how many links are over of the last. Refusals as start, then 13. */
 uint8_t ilstrovan_run(const uint8_t *file, size_t file_length,
                       uint32_t *table, size_t table_length,
-                      uint32_t budget, uint16_t excess, uint64_t answer[5]);
+                      uint32_t budget, uint16_t excess, uint64_t answer[6]);
 
-/* Writes the gap and the cost of `table`, whoever made it, and changes nothing
-   else. Refusals as start, then 14 to 16, then 20. */
+/* Writes the gap and the cost of `table`, whoever made it, and how many of its
+   links are over, and changes nothing else. Refusals as start, then 14 to 16,
+   then 20. */
 uint8_t ilstrovan_audit(const uint8_t *file, size_t file_length,
                         const uint32_t *table, size_t table_length,
-                        uint32_t share, uint64_t answer[2]);
+                        uint32_t share, uint64_t answer[3]);
 
 /* Writes the page of `table`, whoever made it: 30 bytes for each link, in link
    order, such as "  0   0   1     1.77     0.15" and a line feed. Columns 1 to

@@ -28,7 +28,7 @@ macro_rules! declare_calls {
                 table_length: usize,
             ) -> u8;
 
-            /// Pass: outcome, gap, cost, share.
+            /// Pass: outcome, gap, cost, share, over.
             #[link_name = concat!($prefix, "_pass")]
             pub fn ilstrovan_pass(
                 file: *const u8,
@@ -36,10 +36,10 @@ macro_rules! declare_calls {
                 table: *mut u32,
                 table_length: usize,
                 share: u32,
-                answer: *mut [u64; 4],
+                answer: *mut [u64; 5],
             ) -> u8;
 
-            /// Run: ending, tables judged, share, gap, cost.
+            /// Run: ending, tables judged, share, gap, cost, over.
             #[link_name = concat!($prefix, "_run")]
             pub fn ilstrovan_run(
                 file: *const u8,
@@ -48,10 +48,10 @@ macro_rules! declare_calls {
                 table_length: usize,
                 budget: u32,
                 excess: u16,
-                answer: *mut [u64; 5],
+                answer: *mut [u64; 6],
             ) -> u8;
 
-            /// Audit: gap, cost.
+            /// Audit: gap, cost, over.
             #[link_name = concat!($prefix, "_audit")]
             pub fn ilstrovan_audit(
                 file: *const u8,
@@ -59,7 +59,7 @@ macro_rules! declare_calls {
                 table: *const u32,
                 table_length: usize,
                 share: u32,
-                answer: *mut [u64; 2],
+                answer: *mut [u64; 3],
             ) -> u8;
 
             /// Page.

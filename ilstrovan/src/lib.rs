@@ -20,6 +20,7 @@
 //! let run = ilstrovan::run(&file, &mut table, 10, 0)?;
 //! assert_eq!(run.ending, ilstrovan::Ending::Reached);
 //! assert_eq!((run.judged, run.share, run.gap, run.cost), (5, 9, 0, 13_104));
+//! assert_eq!(run.over, 0); // no link carries four times its capacity
 //! assert_eq!(table, [16, 2]);
 //!
 //! // The page of that table: link, tail, head, volume and minutes.
@@ -82,6 +83,9 @@ pub struct Pass {
     pub cost: u64,
     /// Share of the table as it is now.
     pub share: u32,
+    /// Links of the judged table that are past their curves: their total is at
+    /// least four times their capacity.
+    pub over: u32,
 }
 
 /// The answer of a run.
@@ -97,6 +101,8 @@ pub struct Run {
     pub gap: u64,
     /// Cost of the last judged table.
     pub cost: u64,
+    /// Links of the last judged table that are past their curves.
+    pub over: u32,
 }
 
 /// The answer of an audit.
@@ -106,6 +112,8 @@ pub struct Audit {
     pub gap: u64,
     /// Cost of the table.
     pub cost: u64,
+    /// Links of the table that are past their curves.
+    pub over: u32,
 }
 
 /// Is the file an acceptable study? Refusals 1 to 8, then 19, then 9 to 11.
@@ -138,8 +146,8 @@ pub fn start(file: &[u8], table: &mut [u32]) -> Result<(), Refusal> {
 /// Judges a table of this share and moves it towards least times. Refusals as
 /// [`start`], then 14 to 16, then 20.
 pub fn pass(file: &[u8], table: &mut [u32], share: u32) -> Result<Pass, Refusal> {
-    let mut answer = [0; 4];
-    // SAFETY: as in `pack`, and `answer` is an array of four numbers.
+    let mut answer = [0; 5];
+    // SAFETY: as in `pack`, and `answer` is an array of five numbers.
     let number = unsafe {
         sys::ilstrovan_pass(
             file.as_ptr(),
@@ -151,7 +159,7 @@ pub fn pass(file: &[u8], table: &mut [u32], share: u32) -> Result<Pass, Refusal>
         )
     };
     Refusal::of(number)?;
-    let [outcome, gap, cost, share] = answer;
+    let [outcome, gap, cost, share, over] = answer;
     Ok(Pass {
         outcome: match outcome {
             1 => Outcome::Moved,
@@ -160,6 +168,7 @@ pub fn pass(file: &[u8], table: &mut [u32], share: u32) -> Result<Pass, Refusal>
         gap,
         cost,
         share: share as u32,
+        over: over as u32,
     })
 }
 
@@ -167,8 +176,8 @@ pub fn pass(file: &[u8], table: &mut [u32], share: u32) -> Result<Pass, Refusal>
 /// move, or the budget is used up. Leaves the last judged table. Refusals as
 /// [`start`], then 13.
 pub fn run(file: &[u8], table: &mut [u32], budget: u32, excess: u16) -> Result<Run, Refusal> {
-    let mut answer = [0; 5];
-    // SAFETY: as in `pack`, and `answer` is an array of five numbers.
+    let mut answer = [0; 6];
+    // SAFETY: as in `pack`, and `answer` is an array of six numbers.
     let number = unsafe {
         sys::ilstrovan_run(
             file.as_ptr(),
@@ -181,7 +190,7 @@ pub fn run(file: &[u8], table: &mut [u32], budget: u32, excess: u16) -> Result<R
         )
     };
     Refusal::of(number)?;
-    let [ending, judged, share, gap, cost] = answer;
+    let [ending, judged, share, gap, cost, over] = answer;
     Ok(Run {
         ending: match ending {
             1 => Ending::Reached,
@@ -192,14 +201,16 @@ pub fn run(file: &[u8], table: &mut [u32], budget: u32, excess: u16) -> Result<R
         share: share as u32,
         gap,
         cost,
+        over: over as u32,
     })
 }
 
-/// The gap and cost of a table of this share, whoever made it. Refusals as
-/// [`start`], then 14 to 16, then 20.
+/// The gap and cost of a table of this share, whoever made it, and how many of
+/// its links are past their curves. Refusals as [`start`], then 14 to 16, then
+/// 20.
 pub fn audit(file: &[u8], table: &[u32], share: u32) -> Result<Audit, Refusal> {
-    let mut answer = [0; 2];
-    // SAFETY: as in `pack`, and `answer` is an array of two numbers.
+    let mut answer = [0; 3];
+    // SAFETY: as in `pack`, and `answer` is an array of three numbers.
     let number = unsafe {
         sys::ilstrovan_audit(
             file.as_ptr(),
@@ -211,8 +222,12 @@ pub fn audit(file: &[u8], table: &[u32], share: u32) -> Result<Audit, Refusal> {
         )
     };
     Refusal::of(number)?;
-    let [gap, cost] = answer;
-    Ok(Audit { gap, cost })
+    let [gap, cost, over] = answer;
+    Ok(Audit {
+        gap,
+        cost,
+        over: over as u32,
+    })
 }
 
 /// Writes the page of a table of this share, whoever made it, to the start of

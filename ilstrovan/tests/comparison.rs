@@ -17,6 +17,8 @@ struct Pair {
     proved: Player,
     calls: u64,
     accepted: u64,
+    /// Answers that count links past their curves.
+    over: u64,
     /// Pages by the number answered.
     pages: [u64; 21],
 }
@@ -32,6 +34,7 @@ impl Pair {
         assert!(same, "what call {number}, a {kind:?}, left differs");
         self.calls += 1;
         self.accepted += u64::from(reply.refusal() == 0);
+        self.over += u64::from(reply.over() > 0);
         if let Reply::Page(number) = reply {
             self.pages[usize::from(number)] += 1;
         }
@@ -75,6 +78,7 @@ fn recorded_calls() {
         pair.play(&call);
     }
     assert!(pair.calls > 5_000, "{} calls", pair.calls);
+    assert!(pair.over > 500, "{} with links over", pair.over);
     assert!(pair.pages[0] > 150, "{:?}", pair.pages);
 }
 
@@ -88,6 +92,7 @@ fn random_calls_on_small_studies() {
         round(&mut pair, &mut dice, &study, 1_024);
     }
     assert!(pair.accepted > pair.calls / 3, "{} accepted", pair.accepted);
+    assert!(pair.over > pair.calls / 50, "{} with links over", pair.over);
     // A page puts every question but those of a run and of a pack.
     assert!(pair.pages[0] > 10_000, "{:?}", pair.pages);
     let never = (0..=20).filter(|&number| pair.pages[number] == 0);
@@ -104,6 +109,7 @@ fn random_calls_on_small_studies_with_closed_nodes() {
         round(&mut pair, &mut dice, &study, 1_024);
     }
     assert!(pair.accepted > pair.calls / 3, "{} accepted", pair.accepted);
+    assert!(pair.over > pair.calls / 50, "{} with links over", pair.over);
     assert!(pair.pages[0] > 10_000, "{:?}", pair.pages);
     assert!(pair.pages[20] > 1_000, "{:?}", pair.pages);
     let never = (0..=20).filter(|&number| pair.pages[number] == 0);
@@ -120,6 +126,7 @@ fn random_calls_on_large_studies() {
         round(&mut pair, &mut dice, &study, 40);
     }
     assert!(pair.accepted > pair.calls / 3, "{} accepted", pair.accepted);
+    assert!(pair.over > pair.calls / 50, "{} with links over", pair.over);
     assert!(pair.pages[0] > 300, "{:?}", pair.pages);
 }
 
@@ -133,6 +140,7 @@ fn random_calls_on_large_studies_with_closed_nodes() {
         round(&mut pair, &mut dice, &study, 40);
     }
     assert!(pair.accepted > pair.calls / 3, "{} accepted", pair.accepted);
+    assert!(pair.over > pair.calls / 50, "{} with links over", pair.over);
     assert!(pair.pages[0] > 300, "{:?}", pair.pages);
     assert!(pair.pages[20] > 50, "{:?}", pair.pages);
 }

@@ -50,7 +50,7 @@ fn table_words(table: &[u32]) -> String {
 }
 
 fn audit_words(a: AuditAnswer) -> String {
-    format!("audit {} {} {}", a.refusal, a.gap, a.cost)
+    format!("audit {} {} {} {}", a.refusal, a.gap, a.cost, a.over)
 }
 
 fn pass_words(a: PassAnswer) -> String {
@@ -60,8 +60,9 @@ fn pass_words(a: PassAnswer) -> String {
         gap,
         cost,
         share,
+        over,
     } = a;
-    format!("pass {refusal} {outcome} {gap} {cost} {share}")
+    format!("pass {refusal} {outcome} {gap} {cost} {share} {over}")
 }
 
 fn run_words(a: RunAnswer) -> String {
@@ -72,8 +73,9 @@ fn run_words(a: RunAnswer) -> String {
         share,
         gap,
         cost,
+        over,
     } = a;
-    format!("run {refusal} {ending} {judged} {share} {gap} {cost}")
+    format!("run {refusal} {ending} {judged} {share} {gap} {cost} {over}")
 }
 
 /// What the program is to print of the town of two roads, by the second
@@ -121,6 +123,17 @@ fn expected() -> String {
         line(format!("{shown}, around it 238 238 238 238"));
     }
     line(table_words(&table));
+
+    let mut busy = file;
+    busy[54] = 8;
+    let mut table = [8, 0, 9];
+    let audited = second::audit(&busy, &table, 1);
+    assert_eq!(audited.over, 1);
+    line(audit_words(audited));
+    line(pass_words(second::pass(&busy, &mut table, 1)));
+    line(table_words(&table));
+    line(run_words(second::run(&busy, &mut table, 1, 0)));
+    line(table_words(&table));
     lines
 }
 
@@ -134,20 +147,20 @@ fn expected_of_the_zone() -> String {
     lines.extend([
         "start 0",
         "table 0 1 2 2 9",
-        "audit 0 0 2880",
+        "audit 0 0 2880 0",
         "start 0",
         "table 2 3 0 0 9",
-        "audit 0 20 2048",
+        "audit 0 20 2048 0",
         // Through the closed zone.
-        "audit 20 0 0",
-        "pass 20 0 0 0 0",
+        "audit 20 0 0 0",
+        "pass 20 0 0 0 0 0",
         "page 20",
         "page 20",
         "table 2 3 0 0 9",
         "blank 120",
         // A part of a trip lost in the zone.
-        "audit 16 0 0",
-        "pass 16 0 0 0 0",
+        "audit 16 0 0 0",
+        "pass 16 0 0 0 0 0",
         "page 16",
         "page 16",
         "table 2 2 0 0 9",

@@ -1,5 +1,5 @@
-//! The safe functions on the town of two roads, document 01's cases, and on
-//! towns with a zone, those of request A.2.
+//! The safe functions on the town of two roads, document 01's cases and those of
+//! request A.4, and on towns with a zone, those of request A.2.
 
 mod zone;
 
@@ -23,8 +23,8 @@ fn accepted_calls() {
     let mut table = [7; 3];
     assert_eq!(start(&file, &mut table), Ok(()));
     assert_eq!(table, [2, 0, 7]);
-    let Audit { gap, cost } = audit(&file, &table, 1).expect("accepted");
-    assert_eq!(gap, 10);
+    let Audit { gap, cost, over } = audit(&file, &table, 1).expect("accepted");
+    assert_eq!((gap, over), (10, 0));
 
     let moved = pass(&file, &mut table, 1).expect("accepted");
     assert_eq!((moved.outcome, moved.gap), (Outcome::Moved, gap));
@@ -36,6 +36,7 @@ fn accepted_calls() {
     let best = Audit {
         gap: 0,
         cost: 13_104,
+        over: 0,
     };
     assert_eq!(audit(&file, &table, 9), Ok(best));
 
@@ -49,6 +50,7 @@ fn accepted_calls() {
         share: 9,
         gap: 0,
         cost: 13_104,
+        over: 0,
     };
     assert_eq!(run(&file, &mut table, 10, 0), Ok(reached));
     assert_eq!(table, [16, 2, 7]);
@@ -75,6 +77,28 @@ fn finest() {
     assert_eq!(ended.ending, Ending::Finest);
     assert_eq!((ended.gap, ended.cost), (last.gap, last.cost));
     assert_eq!((ended.share, ended_with), (last.share, table));
+}
+
+/// A road at four times its capacity is over, a part of a trip below it is not;
+/// a pass and a run answer the count of the table that they judged (A.4).
+#[test]
+fn links_past_their_curves() {
+    let mut draft = Draft::town();
+    draft.links = vec![[0, 1, 10, 10, 2], [0, 1, 15, 0, 9]];
+    draft.trips = vec![vec![8, 0]];
+    let file = draft.file();
+    let over = |table: &[u32], share| audit(&file, table, share).expect("accepted").over;
+    assert_eq!((over(&[8, 0], 1), over(&[511, 1], 64)), (1, 0));
+
+    let mut table = [8, 0];
+    let moved = pass(&file, &mut table, 1).expect("accepted");
+    assert_eq!((moved.outcome, moved.over), (Outcome::Moved, 1));
+    assert_eq!((moved.share, table), (4, [8, 24]));
+    assert_eq!(over(&table, 4), 0);
+
+    let ended = run(&file, &mut table, 1, 0).expect("accepted");
+    assert_eq!((ended.ending, ended.over), (Ending::Spent, 1));
+    assert_eq!(table, [8, 0]);
 }
 
 #[test]
@@ -111,7 +135,8 @@ fn a_zone_open_and_closed() {
         let mut table = [7; 5];
         assert_eq!(start(&file, &mut table), Ok(()));
         assert_eq!(table, flows);
-        assert_eq!(audit(&file, &table, 1), Ok(Audit { gap, cost }));
+        let over = 0;
+        assert_eq!(audit(&file, &table, 1), Ok(Audit { gap, cost, over }));
 
         let length = study.packed_length();
         let mut output = [0xEE; 96];

@@ -28,6 +28,9 @@ static const uint8_t zone[94] = {
 /* Where the zone's closed byte and the destination's own trips stand. */
 enum { ZONE_CLOSED = 91, ZONE_OWN_TRIPS = 86 };
 
+/* Where the town's trips from node 0 stand. */
+enum { TOWN_TRIPS = 54 };
+
 /* The page of flows 16 and 2 at share 9. */
 static const char lines[] =
     "  0   0   1     1.77     0.15\n"
@@ -68,21 +71,21 @@ static void show_page(const uint8_t *page)
 /* Start, and an audit of its table. */
 static void start_and_audit(const uint8_t *file, uint32_t *table)
 {
-    uint64_t audited[2];
+    uint64_t audited[3];
     show("start", ilstrovan_start(file, sizeof zone, table, 5), NULL, 0);
     show_numbers(table, 5);
-    show("audit", ilstrovan_audit(file, sizeof zone, table, 4, 1, audited), audited, 2);
+    show("audit", ilstrovan_audit(file, sizeof zone, table, 4, 1, audited), audited, 3);
 }
 
 /* A table that no call accepts, and what is left of it and of a page. */
 static void refuse(const uint8_t *file, uint32_t *table)
 {
     uint8_t page[120];
-    uint64_t passed[4] = {1, 2, 3, 4}, audited[2] = {5, 6};
+    uint64_t passed[5] = {1, 2, 3, 4, 5}, audited[3] = {6, 7, 8};
     unsigned blank = 0;
     memset(page, 0xEE, sizeof page);
-    show("audit", ilstrovan_audit(file, sizeof zone, table, 4, 1, audited), audited, 2);
-    show("pass", ilstrovan_pass(file, sizeof zone, table, 4, 1, passed), passed, 4);
+    show("audit", ilstrovan_audit(file, sizeof zone, table, 4, 1, audited), audited, 3);
+    show("pass", ilstrovan_pass(file, sizeof zone, table, 4, 1, passed), passed, 5);
     show("page", ilstrovan_page(file, sizeof zone, table, 4, 1, page, sizeof page), NULL, 0);
     show("page", ilstrovan_page(file, sizeof zone, table, 4, 1, page, 119), NULL, 0);
     for (size_t i = 0; i < sizeof page; i++)
@@ -96,7 +99,7 @@ static void town_with_a_zone(void)
     uint8_t other[sizeof zone], output[96];
     uint32_t table[5] = {9, 9, 9, 9, 9};
     uint32_t through[5] = {2, 3, 0, 0, 9}, lost[5] = {2, 2, 0, 0, 9};
-    uint64_t ended[5];
+    uint64_t ended[6];
 
     show("check", ilstrovan_check(zone, sizeof zone), NULL, 0);
     for (size_t length = 31; length <= 41; length++)
@@ -108,7 +111,7 @@ static void town_with_a_zone(void)
     start_and_audit(other, table);
     refuse(zone, through);
     refuse(zone, lost);
-    show("run", ilstrovan_run(zone, sizeof zone, table, 5, 10, 0, ended), ended, 5);
+    show("run", ilstrovan_run(zone, sizeof zone, table, 5, 10, 0, ended), ended, 6);
     show_numbers(table, 5);
 
     /* A closed byte of 2, which is asked about before trips to itself. */
@@ -136,11 +139,28 @@ static void town_with_a_zone(void)
            (unsigned)output[94], (unsigned)output[95]);
 }
 
+/* Eight trips on a road of capacity 2, four times as many as it has room for:
+   the road is over, also in what the pass answers of the table before its move. */
+static void busy_town(void)
+{
+    uint8_t busy[sizeof town];
+    uint32_t table[3] = {8, 0, 9};
+    uint64_t passed[5], ended[6], audited[3];
+
+    memcpy(busy, town, sizeof town);
+    busy[TOWN_TRIPS] = 8;
+    show("audit", ilstrovan_audit(busy, sizeof busy, table, 3, 1, audited), audited, 3);
+    show("pass", ilstrovan_pass(busy, sizeof busy, table, 3, 1, passed), passed, 5);
+    show_table(table);
+    show("run", ilstrovan_run(busy, sizeof busy, table, 3, 1, 0, ended), ended, 6);
+    show_table(table);
+}
+
 int main(void)
 {
     uint8_t output[60], page[64];
     uint32_t table[3] = {7, 8, 9};
-    uint64_t passed[4], ended[5], audited[2];
+    uint64_t passed[5], ended[6], audited[3];
 
     show("check", ilstrovan_check(town, sizeof town), NULL, 0);
     show("check", ilstrovan_check(town, 57), NULL, 0);
@@ -154,21 +174,21 @@ int main(void)
     show("start", ilstrovan_start(town, sizeof town, table, 1), NULL, 0);
     show("start", ilstrovan_start(town, sizeof town, table, 3), NULL, 0);
     show_table(table);
-    show("audit", ilstrovan_audit(town, sizeof town, table, 3, 1, audited), audited, 2);
-    show("audit", ilstrovan_audit(town, sizeof town, table, 3, 2, audited), audited, 2);
+    show("audit", ilstrovan_audit(town, sizeof town, table, 3, 1, audited), audited, 3);
+    show("audit", ilstrovan_audit(town, sizeof town, table, 3, 2, audited), audited, 3);
 
-    show("run", ilstrovan_run(town, sizeof town, table, 3, 10, 0, ended), ended, 5);
+    show("run", ilstrovan_run(town, sizeof town, table, 3, 10, 0, ended), ended, 6);
     show_table(table);
-    show("run", ilstrovan_run(town, sizeof town, table, 3, 0, 65535, ended), ended, 5);
+    show("run", ilstrovan_run(town, sizeof town, table, 3, 0, 65535, ended), ended, 6);
     show_table(table);
-    show("run", ilstrovan_run(town, sizeof town, table, 3, 3, 0, ended), ended, 5);
+    show("run", ilstrovan_run(town, sizeof town, table, 3, 3, 0, ended), ended, 6);
     show_table(table);
 
     table[0] = 16;
     table[1] = 0;
-    show("pass", ilstrovan_pass(town, sizeof town, table, 3, 8, passed), passed, 4);
+    show("pass", ilstrovan_pass(town, sizeof town, table, 3, 8, passed), passed, 5);
     show_table(table);
-    show("pass", ilstrovan_pass(town, sizeof town, table, 3, 1025, passed), passed, 4);
+    show("pass", ilstrovan_pass(town, sizeof town, table, 3, 1025, passed), passed, 5);
     show_table(table);
 
     memset(page, 0xEE, sizeof page);
@@ -178,6 +198,7 @@ int main(void)
     show_page(page);
     show_table(table);
 
+    busy_town();
     town_with_a_zone();
     return 0;
 }

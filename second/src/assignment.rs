@@ -190,14 +190,16 @@ impl<'a> Assignment<'a> {
         gap as u64
     }
 
-    /// The table's cost.
-    pub fn cost(&self) -> u64 {
+    /// The table's cost, and how many of its links are over: on step 256.
+    pub fn cost_and_over(&self) -> (u64, u32) {
         let roads = &self.study.roads[..self.study.links];
-        roads
-            .iter()
-            .zip(&self.totals)
-            .map(|(road, &total)| road.area(total, self.share))
-            .sum()
+        let (mut cost, mut links_over) = (0, 0);
+        for (road, &total) in roads.iter().zip(&self.totals) {
+            let (area, over) = road.area(total, self.share);
+            cost += area;
+            links_over += u32::from(over);
+        }
+        (cost, links_over)
     }
 
     /// The move a pass makes from this table, if it makes one.

@@ -36,6 +36,8 @@ pub struct PassAnswer {
     pub cost: u64,
     /// Share after the pass.
     pub share: u32,
+    /// Links of the judged table on step 256.
+    pub over: u32,
 }
 
 /// What a run answers.
@@ -53,6 +55,8 @@ pub struct RunAnswer {
     pub gap: u64,
     /// Cost of the last judged table.
     pub cost: u64,
+    /// Links of the last judged table on step 256.
+    pub over: u32,
 }
 
 /// What an audit answers.
@@ -64,6 +68,8 @@ pub struct AuditAnswer {
     pub gap: u64,
     /// Cost of the table.
     pub cost: u64,
+    /// Links of the table on step 256.
+    pub over: u32,
 }
 
 /// The number that answers a call with nothing else to tell.
@@ -136,7 +142,7 @@ fn try_pass(file: &[u8], table: &mut [u32], share: u32) -> Result<PassAnswer, Qu
     assignment.find_times();
     assignment.find_loading();
     let gap = assignment.gap_from_loading();
-    let cost = assignment.cost();
+    let (cost, over) = assignment.cost_and_over();
     let chosen = assignment.choose_move();
     if let Some(chosen) = chosen {
         assignment.make_move(chosen, table);
@@ -147,6 +153,7 @@ fn try_pass(file: &[u8], table: &mut [u32], share: u32) -> Result<PassAnswer, Qu
         gap,
         cost,
         share: assignment.share(),
+        over,
     })
 }
 
@@ -213,17 +220,20 @@ fn try_run(
             assignment.find_loading();
         }
     };
+    let (cost, over) = assignment.cost_and_over();
     Ok(RunAnswer {
         refusal: 0,
         ending,
         judged,
         share: assignment.share(),
         gap,
-        cost: assignment.cost(),
+        cost,
+        over,
     })
 }
 
-/// The gap and cost of a lent table. Questions 1 to 12, then 14 to 16 and 20.
+/// The gap and cost of a lent table and how many of its links are over.
+/// Questions 1 to 12, then 14 to 16 and 20.
 pub fn audit(file: &[u8], table: &[u32], share: u32) -> AuditAnswer {
     try_audit(file, table, share).unwrap_or_else(|question| AuditAnswer {
         refusal: question.number(),
@@ -239,10 +249,12 @@ fn try_audit(file: &[u8], table: &[u32], share: u32) -> Result<AuditAnswer, Ques
 
     let mut assignment = Assignment::new(&study, &adjacency, share, totals);
     assignment.find_times();
+    let (cost, over) = assignment.cost_and_over();
     Ok(AuditAnswer {
         refusal: 0,
         gap: assignment.gap_from_distances(),
-        cost: assignment.cost(),
+        cost,
+        over,
     })
 }
 

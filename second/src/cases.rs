@@ -3,8 +3,9 @@
 //! The list covers the town of two roads, every question's boundary by every
 //! call that puts it, small studies of all kinds with tables of all kinds
 //! (made by passes, wandering, with cycles, damaged), and studies at every
-//! limit; after all these, pages of the same kinds of tables; and after these,
-//! studies of version 2 with closed nodes.
+//! limit; after all these, pages of the same kinds of tables; after these,
+//! studies of version 2 with closed nodes; and after these, links past the
+//! curve.
 //!
 //! New calls go to the end of the list, so that a recording made before is the
 //! beginning of the next one.
@@ -14,6 +15,7 @@ use crate::draft::{Dice, Draft, DraftLink, Plan, grid};
 use crate::stream::{Call, Kind, Lent, Player, Reply, Second};
 
 mod headers;
+mod past_the_curve;
 mod zoned_networks;
 mod zones;
 
@@ -63,6 +65,17 @@ pub fn all() -> Vec<Call> {
     zoned_networks::random_studies(&mut list);
     zoned_networks::sums_beyond_32_bits(&mut list);
     zoned_networks::full_limits(&mut list);
+
+    past_the_curve::town(&mut list);
+    past_the_curve::edges(&mut list);
+    past_the_curve::no_rise(&mut list);
+    past_the_curve::destinations(&mut list);
+    past_the_curve::versions(&mut list);
+    past_the_curve::moves(&mut list);
+    past_the_curve::runs(&mut list);
+    past_the_curve::all_links(&mut list);
+    past_the_curve::refusals(&mut list);
+    past_the_curve::networks(&mut list);
     list.calls
 }
 

@@ -1,9 +1,9 @@
 //! Equilibrium assignment of trips to a road network.
 //!
-//! The second implementation of document 01, the scope, and of requests A.1
-//! and A.2 of document 02, the page and the closed nodes. Its answers are
-//! compared with the first implementation's, call by call, and its speed is
-//! the yardstick for the first one's.
+//! The second implementation of document 01, the scope, and of requests A.1,
+//! A.2 and A.4 of document 02, the page, the closed nodes and the links past
+//! the curve. Its answers are compared with the first implementation's, call by
+//! call, and its speed is the yardstick for the first one's.
 //!
 //! The layers, from the bottom up:
 //!
@@ -14,7 +14,7 @@
 //! | [`network`]     | the decoded study (questions 6 to 11 and 19)            |
 //! | `reach`         | who has a path (question 11)                            |
 //! | `adjacency`     | the links at each node                                  |
-//! | [`staircase`]   | a link's time and the area under its staircase          |
+//! | [`staircase`]   | a link's time and area, and whether it is over           |
 //! | [`tables`]      | lent flow tables (questions 12, 15, 16 and 20)          |
 //! | [`least_times`] | distances and next links to one destination             |
 //! | [`loading`]     | sending trips along next links                          |

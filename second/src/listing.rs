@@ -56,6 +56,7 @@ fn list(input: &[u8]) -> Result<String, u8> {
     writeln!(text, "share {}", answer.share).unwrap();
     writeln!(text, "gap {}", answer.gap).unwrap();
     writeln!(text, "cost {}", answer.cost).unwrap();
+    writeln!(text, "over {}", answer.over).unwrap();
 
     let study = Study::read(file).map_err(Question::number)?;
     for link in 0..study.links {

@@ -1,4 +1,5 @@
-//! A link's time and the area under its staircase.
+//! A link's time, the area under its staircase, and whether it has run onto
+//! the level part.
 
 use crate::questions::LARGEST_TOTAL;
 
@@ -62,12 +63,13 @@ impl Road {
         self.time_on(self.step(flow, share))
     }
 
-    /// Area under the staircase from 0 to 64·S.
+    /// Area under the staircase from 0 to 64·S, and whether step 256 was
+    /// reached.
     ///
     /// `flow` is at most `share` × 65,535 and `share` at most 1,024, as
     /// questions 14 and 15 make sure: the staircase runs no further than 2³²,
     /// its height is below 2²³, and 512 such areas still fit 64 bits.
-    pub fn area(self, flow: u32, share: u32) -> u64 {
+    pub fn area(self, flow: u32, share: u32) -> (u64, bool) {
         debug_assert!(flow <= share * LARGEST_TOTAL);
         let reach = u64::from(flow) * u64::from(STEPS_AT_CAPACITY);
         let tread = u64::from(self.capacity) * u64::from(share);
@@ -79,7 +81,8 @@ impl Road {
             .map(|&power| (rise * u64::from(power)) >> RISE_SHIFT)
             .sum();
         let heights = u64::from(self.free) * whole + risen;
-        heights * tread + u64::from(self.time_on(whole as u32)) * (reach - whole * tread)
+        let last = u64::from(self.time_on(whole as u32)) * (reach - whole * tread);
+        (heights * tread + last, whole == u64::from(LAST_STEP))
     }
 }
 
@@ -231,7 +234,8 @@ mod tests {
                         left -= here;
                     }
                     area += left * u64::from(road.time_on(256));
-                    assert_eq!(road.area(flow, share), area);
+                    let over = 64 * u64::from(flow) >= 256 * tread;
+                    assert_eq!(road.area(flow, share), (area, over));
                 }
             }
         }

@@ -32,17 +32,18 @@
 //! check <refusal> <digest>
 //! pack <refusal> <digest>
 //! start <refusal> <digest>
-//! pass <refusal> <outcome> <gap> <cost> <share> <digest>
-//! run <refusal> <ending> <judged> <share> <gap> <cost> <digest>
-//! audit <refusal> <gap> <cost> <digest>
+//! pass <refusal> <outcome> <gap> <cost> <share> <over> <digest>
+//! run <refusal> <ending> <judged> <share> <gap> <cost> <over> <digest>
+//! audit <refusal> <gap> <cost> <over> <digest>
 //! page <refusal> <digest>
 //! ```
 //!
 //! Outcome: 0 refused, 1 moved, 2 finest. Ending: 0 refused, 1 reached,
-//! 2 finest, 3 spent. The digest is the 64-bit FNV-1a digest of all that was
-//! lent, as the call leaves it, in 16 hexadecimal digits: the output's bytes
-//! of a pack, the table's numbers as little-endian bytes of a start, pass,
-//! run or audit (all of them, also those after the first p·m), the page
+//! 2 finest, 3 spent. Over: how many links of the judged table are on step
+//! 256, and 0 in a refusal. The digest is the 64-bit FNV-1a digest of all that
+//! was lent, as the call leaves it, in 16 hexadecimal digits: the output's
+//! bytes of a pack, the table's numbers as little-endian bytes of a start,
+//! pass, run or audit (all of them, also those after the first p·m), the page
 //! slice's bytes of a page (all of them, also those after the first 30m, but
 //! not its table, which it cannot change), no bytes at all of a check.
 
@@ -332,6 +333,16 @@ impl Reply {
         }
     }
 
+    /// Links of the judged table on step 256; 0 where the call judges none.
+    pub fn over(&self) -> u32 {
+        match self {
+            Reply::Pass(answer) => answer.over,
+            Reply::Run(answer) => answer.over,
+            Reply::Audit(answer) => answer.over,
+            _ => 0,
+        }
+    }
+
     /// The line of answers, without its end.
     pub fn line(&self, digest: u64) -> String {
         match self {
@@ -344,7 +355,8 @@ impl Reply {
                 gap,
                 cost,
                 share,
-            }) => format!("pass {refusal} {outcome} {gap} {cost} {share} {digest:016x}"),
+                over,
+            }) => format!("pass {refusal} {outcome} {gap} {cost} {share} {over} {digest:016x}"),
             Reply::Run(RunAnswer {
                 refusal,
                 ending,
@@ -352,10 +364,16 @@ impl Reply {
                 share,
                 gap,
                 cost,
-            }) => format!("run {refusal} {ending} {judged} {share} {gap} {cost} {digest:016x}"),
-            Reply::Audit(AuditAnswer { refusal, gap, cost }) => {
-                format!("audit {refusal} {gap} {cost} {digest:016x}")
+                over,
+            }) => {
+                format!("run {refusal} {ending} {judged} {share} {gap} {cost} {over} {digest:016x}")
             }
+            Reply::Audit(AuditAnswer {
+                refusal,
+                gap,
+                cost,
+                over,
+            }) => format!("audit {refusal} {gap} {cost} {over} {digest:016x}"),
             Reply::Page(refusal) => format!("page {refusal} {digest:016x}"),
         }
     }

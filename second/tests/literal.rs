@@ -19,6 +19,8 @@ struct Pair {
     numbers: [usize; 21],
     /// Pages not refused.
     pages: usize,
+    /// Answers that count links on step 256.
+    over: usize,
 }
 
 impl Pair {
@@ -34,6 +36,7 @@ impl Pair {
         self.made += 1;
         self.numbers[usize::from(fast.refusal())] += 1;
         self.pages += usize::from(fast == Reply::Page(0));
+        self.over += usize::from(fast.over() > 0);
         fast
     }
 
@@ -168,6 +171,7 @@ fn small_studies() {
     assert!(pair.made > 100_000);
     assert!(pair.numbers[0] > 50_000);
     assert!(pair.pages > 15_000, "{}", pair.pages);
+    assert!(pair.over > 10_000, "{}", pair.over);
 }
 
 /// A small study of version 2: with some nodes closed or all destinations or
@@ -212,6 +216,7 @@ fn small_studies_with_closed_nodes() {
     assert!(pair.numbers[0] > 80_000, "{:?}", pair.numbers);
     assert!(pair.numbers[20] > 4_000, "{:?}", pair.numbers);
     assert!(pair.pages > 15_000, "{}", pair.pages);
+    assert!(pair.over > 10_000, "{}", pair.over);
 }
 
 /// Small studies with closed nodes, and trips that may have no path.
@@ -468,7 +473,7 @@ fn recorded_calls() {
     for call in cases::all() {
         pair.play(&call);
     }
-    assert!(pair.made >= 2_400 && pair.pages >= 190);
+    assert!(pair.made >= 2_400 && pair.pages >= 190 && pair.over >= 500);
 }
 
 /// Networks of a larger size, with many destinations, in version 1 and with

@@ -85,7 +85,7 @@ fn nodes_without_paths() {
     };
     assert_eq!(answer.refusal, 0);
     assert_eq!(answer.gap, plain.gap + 2 * 5 * u64::from(road.time(5, 1)));
-    assert_eq!(answer.cost, plain.cost + 2 * road.area(5, 1));
+    assert_eq!(answer.cost, plain.cost + 2 * road.area(5, 1).0);
     // Flow that goes there and stays does not conserve.
     let mut lost = table;
     lost[3] += 1;
@@ -212,8 +212,11 @@ fn the_most_trips() {
         for budget in [1, 7, 1_024] {
             let answer = run(&file, &mut table, budget, 0);
             assert_eq!(answer.refusal, 0);
-            assert_eq!(audit(&file, &table, answer.share).gap, answer.gap);
-            assert_eq!(audit(&file, &table, answer.share).cost, answer.cost);
+            let audited = audit(&file, &table, answer.share);
+            assert_eq!(
+                (audited.gap, audited.cost, audited.over),
+                (answer.gap, answer.cost, answer.over)
+            );
         }
     }
 }
@@ -240,9 +243,11 @@ fn the_fullest_table() {
     assert_eq!((answer.refusal, answer.gap), (0, gap));
     assert_eq!(answer.cost, 512 * area);
     assert!(answer.cost > i64::MAX as u64);
+    assert_eq!(answer.over, 512);
 
     let judged = pass(&file, &mut table, 1_024);
     assert_eq!((judged.gap, judged.cost), (answer.gap, answer.cost));
+    assert_eq!(judged.over, 512);
     assert_eq!((judged.outcome, judged.share), (FINEST, 1_024));
     assert_eq!(table, vec![full; 512]);
 
@@ -348,8 +353,8 @@ fn studies_at_the_limits() {
         assert_eq!(table[length], 7);
         let audited = audit(&file, &table, answer.share);
         assert_eq!(
-            (audited.refusal, audited.gap, audited.cost),
-            (0, answer.gap, answer.cost)
+            (audited.refusal, audited.gap, audited.cost, audited.over),
+            (0, answer.gap, answer.cost, answer.over)
         );
     }
     // One more of each.
@@ -617,8 +622,8 @@ fn closed_nodes_at_the_limits() {
         assert_eq!((answer.refusal, table[length]), (0, 7));
         let audited = audit(&file, &table, answer.share);
         assert_eq!(
-            (audited.refusal, audited.gap, audited.cost),
-            (0, answer.gap, answer.cost)
+            (audited.refusal, audited.gap, audited.cost, audited.over),
+            (0, answer.gap, answer.cost, answer.over)
         );
     }
 }
@@ -655,7 +660,10 @@ fn a_run_is_a_start_and_passes() {
         }
         assert_eq!((share, &other), (answer.share, &table));
         let last = pass(&file, &mut other, share);
-        assert_eq!((last.gap, last.cost), (answer.gap, answer.cost));
+        assert_eq!(
+            (last.gap, last.cost, last.over),
+            (answer.gap, answer.cost, answer.over)
+        );
         let reached = last.gap <= u64::from(excess) * u64::from(share) * draft.total();
         assert_eq!(reached, answer.ending == REACHED);
         if !reached {

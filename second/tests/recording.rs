@@ -3,10 +3,11 @@
 use std::collections::HashSet;
 
 use second::network::Study;
+use second::staircase::LAST_STEP;
 use second::stream::{
     Call, Kind, Lent, Player, Reply, Second, answers, digest, read_calls, write_calls,
 };
-use second::{MOVED, cases};
+use second::{AuditAnswer, MOVED, PassAnswer, RunAnswer, cases};
 
 #[test]
 fn the_list_is_long_and_the_stream_short() {
@@ -21,8 +22,27 @@ const WITHOUT_PAGES: usize = 4_013;
 /// Calls before the first ones that were made for version 2.
 const WITHOUT_CLOSED_NODES: usize = 4_509;
 
+/// Calls before the first ones that were made for links past the curve.
+const WITHOUT_OVER: usize = 5_131;
+
+/// The lines of answers without the count of links past the curve, which stands
+/// before the digest.
+fn without_over(lines: &str) -> String {
+    let mut before = String::new();
+    for line in lines.lines() {
+        let mut words: Vec<&str> = line.split(' ').collect();
+        if ["pass", "run", "audit"].contains(&words[0]) {
+            words.remove(words.len() - 2);
+        }
+        before += &words.join(" ");
+        before.push('\n');
+    }
+    before
+}
+
 /// The list is the same every time and everywhere, and begins with what it was
-/// before there were pages, and before there were closed nodes.
+/// before there were pages, before there were closed nodes and before links
+/// past the curve were counted. Nothing but the count has come to the answers.
 #[test]
 fn the_list_stays_the_same() {
     let calls = cases::all();
@@ -35,13 +55,16 @@ fn the_list_stays_the_same() {
             0x6153_11DF_0DB6_1548,
             0xE73C_6274_6DAF_CC73,
         ),
-        (calls.len(), 0x4CF5_E60D_F0D2_0DCD, 0xFD51_74B0_5329_7677),
+        (WITHOUT_OVER, 0x4CF5_E60D_F0D2_0DCD, 0xFD51_74B0_5329_7677),
     ] {
         let calls = &calls[..count];
-        let answered = answers(&Second, calls);
+        let answered = without_over(&answers(&Second, calls));
         assert_eq!(digest(write_calls(calls)), stream, "{count}");
         assert_eq!(digest(answered.into_bytes()), lines, "{count}");
     }
+    assert_eq!(digest(write_calls(&calls)), 0x9C24_B7FE_D2AD_FC0D);
+    let lines = answers(&Second, &calls);
+    assert_eq!(digest(lines.into_bytes()), 0x2A2C_235E_E9EB_6722);
 }
 
 /// A file of version 1 that calls itself version 2 was refused 2 before there
@@ -62,7 +85,8 @@ fn answers_that_changed_with_version_2() {
     assert_eq!(changed, [264, 265, 266, 267, 268, 269, 4_111]);
 
     let mut before = String::new();
-    for (place, line) in answers(&Second, calls).lines().enumerate() {
+    let lines = without_over(&answers(&Second, calls));
+    for (place, line) in lines.lines().enumerate() {
         before += &match changed.contains(&place) {
             true => line.replacen(" 4 ", " 2 ", 1),
             false => line.to_string(),
@@ -188,8 +212,43 @@ fn the_lines() {
     let mut lines = text.lines();
     assert_eq!(lines.next(), Some("check 0 cbf29ce484222325"));
     assert_eq!(lines.next(), Some("pack 17 cbf29ce484222325"));
-    // P6 further on.
-    assert!(text.contains("audit 0 10 "));
+    // P6 further on, with no link past the curve.
+    assert!(text.contains("audit 0 10 1488 0 "));
+}
+
+/// The count of links past the curve stands before the digest.
+#[test]
+fn lines_with_a_count() {
+    let pass = PassAnswer {
+        refusal: 1,
+        outcome: 2,
+        gap: 3,
+        cost: 4,
+        share: 5,
+        over: 6,
+    };
+    let run = RunAnswer {
+        refusal: 1,
+        ending: 2,
+        judged: 3,
+        share: 4,
+        gap: 5,
+        cost: 6,
+        over: 7,
+    };
+    let audit = AuditAnswer {
+        refusal: 1,
+        gap: 2,
+        cost: 3,
+        over: 4,
+    };
+    for (reply, line) in [
+        (Reply::Pass(pass), "pass 1 2 3 4 5 6 00000000000000ff"),
+        (Reply::Run(run), "run 1 2 3 4 5 6 7 00000000000000ff"),
+        (Reply::Audit(audit), "audit 1 2 3 4 00000000000000ff"),
+    ] {
+        assert_eq!(reply.line(255), line);
+    }
 }
 
 /// Every refusal by every call that can give it, every outcome, every ending.
@@ -269,4 +328,107 @@ fn the_list_has_closed_nodes() {
         "{endings:?}"
     );
     assert!(longest > 50, "{longest}");
+}
+
+/// A call that was made for links past the curve, the table before it, its
+/// answer, and what it leaves.
+struct Judged {
+    call: Call,
+    before: Vec<u32>,
+    reply: Reply,
+    after: Player,
+}
+
+/// All those calls, made without the calls before them.
+fn made_for_over() -> Vec<Judged> {
+    let mut player = Player::default();
+    let mut made = Vec::new();
+    for call in cases::all().split_off(WITHOUT_OVER) {
+        let before = match &call.lent {
+            Lent::Table(table) => table.clone(),
+            _ => player.table.clone(),
+        };
+        let reply = player.play(&Second, &call);
+        made.push(Judged {
+            call,
+            before,
+            reply,
+            after: player.clone(),
+        });
+    }
+    made
+}
+
+/// Those calls are answered alike with the calls before them and without.
+#[test]
+fn calls_for_over_stand_alone() {
+    let calls = cases::all();
+    let first = &calls[WITHOUT_OVER];
+    assert!(first.file.is_some() && matches!(first.lent, Lent::Table(_)));
+    let all = answers(&Second, &calls);
+    assert!(all.ends_with(&answers(&Second, &calls[WITHOUT_OVER..])));
+}
+
+/// Links past the curve in every outcome and with every ending, up to all of
+/// them, and none in a refusal.
+#[test]
+fn the_list_has_links_past_the_curve() {
+    let (mut outcomes, mut endings, mut audits, mut largest) = ([0; 3], [0; 4], 0, 0);
+    for Judged { reply, .. } in made_for_over() {
+        largest = largest.max(reply.over());
+        let counts = usize::from(reply.over() > 0);
+        match reply {
+            Reply::Pass(answer) => outcomes[usize::from(answer.outcome)] += counts,
+            Reply::Run(answer) => endings[usize::from(answer.ending)] += counts,
+            _ => audits += counts,
+        }
+        assert!(counts == 0 || reply.refusal() == 0);
+    }
+    assert!(outcomes[1] >= 10 && outcomes[2] >= 2, "{outcomes:?}");
+    assert!(endings[1..].iter().all(|&count| count >= 2), "{endings:?}");
+    assert!(audits >= 30 && largest == 512, "{audits} {largest}");
+}
+
+/// How many links of a table are on step 256, by its totals.
+fn over(study: &Study, table: &[u32], share: u32) -> u32 {
+    let on_last_step = |link: &usize| {
+        let rows = table[..study.table_length()].chunks_exact(study.links);
+        let total = rows.map(|row| u64::from(row[*link])).sum();
+        study.roads[*link].step(total, u64::from(share)) == LAST_STEP
+    };
+    (0..study.links).filter(on_last_step).count() as u32
+}
+
+/// Passes whose count tells the judged table from the table after the move, be
+/// it with fewer links or with more, and the shares from each other; among them
+/// passes that double.
+#[test]
+fn the_list_has_counts_that_a_pass_changes() {
+    let (mut fewer, mut more, mut mixed, mut doubled) = (0, 0, [0; 2], [0; 2]);
+    for judged in made_for_over() {
+        let Reply::Pass(answer) = judged.reply else {
+            continue;
+        };
+        let Ok(study) = Study::read(&judged.after.file) else {
+            continue;
+        };
+        if answer.refusal != 0 {
+            continue;
+        }
+        let (old, new) = (judged.call.share, answer.share);
+        let (before, after) = (&judged.before, &judged.after.table);
+        assert_eq!(answer.over, over(&study, before, old));
+        fewer += usize::from(over(&study, after, new) < answer.over);
+        more += usize::from(over(&study, after, new) > answer.over);
+        let mixtures = [over(&study, after, old), over(&study, before, new)];
+        let twice = *after == before.iter().map(|flow| 2 * flow).collect::<Vec<_>>();
+        for place in 0..2 {
+            let apart = usize::from(mixtures[place] != answer.over);
+            mixed[place] += apart;
+            doubled[place] += apart * usize::from(twice);
+        }
+    }
+    assert!(fewer >= 5 && more >= 3, "{fewer} {more}");
+    assert!(mixed.iter().all(|&count| count >= 5), "{mixed:?}");
+    assert!(doubled.iter().all(|&count| count >= 2), "{doubled:?}");
 }

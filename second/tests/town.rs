@@ -1,7 +1,7 @@
 //! The cases of the town of two roads, and of a town with a zone in the middle.
 
 use second::draft::Draft;
-use second::staircase::Road;
+use second::staircase::{LAST_STEP, Road};
 use second::{
     AuditAnswer, FINEST, MOVED, PassAnswer, REACHED, RUN_FINEST, RunAnswer, SPENT, audit, check,
     listing, pack, page, page_listing, pass, run, start,
@@ -56,19 +56,101 @@ fn p1_share_1_flow_2() {
     assert_eq!(LINK_0.time(2, 1), 20);
 }
 
+/// How many links of a table are over by its audit, in the town with so many
+/// trips.
+fn over(trips: u16, table: &[u32], share: u32) -> u32 {
+    let file = town_with(|draft| draft.trips[0][0] = trips);
+    let answer = audit(&file, table, share);
+    assert_eq!(answer.refusal, 0);
+    answer.over
+}
+
 #[test]
 fn p2_flow_8() {
     assert_eq!(LINK_0.time(8, 1), 2_570);
+    assert_eq!(LINK_0.step(8, 1), LAST_STEP);
+    assert_eq!(over(8, &[8, 0], 1), 1);
 }
 
 #[test]
 fn p3_flow_9() {
     assert_eq!(LINK_0.time(9, 1), 2_570);
+    assert_eq!(LINK_0.step(9, 1), LAST_STEP);
+    assert_eq!(over(9, &[9, 0], 1), 1);
 }
 
 #[test]
 fn p4_share_64_flow_511() {
     assert_eq!(LINK_0.time(511, 64), 2_530);
+    assert_eq!(LINK_0.step(511, 64), LAST_STEP - 1);
+    assert_eq!(over(8, &[511, 1], 64), 0);
+    assert_eq!(over(8, &[512, 0], 64), 1);
+}
+
+#[test]
+fn the_road_without_a_rise_counts_too() {
+    assert_eq!(over(7, &[7, 0], 1), 0);
+    assert_eq!(over(11, &[7, 4], 1), 1);
+    assert_eq!(over(12, &[8, 4], 1), 2);
+    assert_eq!(over(11, &[8, 3], 1), 1);
+}
+
+/// The count of a pass is of the table that it judges, with its share.
+#[test]
+fn over_before_and_after_a_move() {
+    for (table, share, trips, before, after) in [
+        ([8, 0], 1, 8, 1, ([8, 24], 4, 1)),
+        ([4, 0], 1, 4, 0, ([4, 4], 2, 0)),
+        ([511, 1], 64, 8, 0, ([511, 513], 128, 1)),
+    ] {
+        let file = town_with(|draft| draft.trips[0][0] = trips);
+        let mut moved = table;
+        let answer = pass(&file, &mut moved, share);
+        assert_eq!((answer.outcome, answer.over), (MOVED, before));
+        let audited = audit(&file, &moved, answer.share);
+        assert_eq!((moved, answer.share, audited.over), after);
+    }
+}
+
+/// The count in a refusal is 0, whatever the table holds.
+#[test]
+fn over_in_a_refusal() {
+    let file = town_with(|draft| draft.trips[0][0] = 8);
+    for (table, share, refusal) in [([8, 0], 0, 14), ([9, 0], 1, 15), ([8, 4], 1, 16)] {
+        let mut lent = table;
+        let answer = pass(&file, &mut lent, share);
+        assert_eq!((answer.refusal, answer.over), (refusal, 0));
+        let answer = audit(&file, &table, share);
+        assert_eq!((answer.refusal, answer.over), (refusal, 0));
+    }
+    let answer = run(&file, &mut [8, 0], 0, 0);
+    assert_eq!((answer.refusal, answer.over), (13, 0));
+}
+
+/// Counts of runs with every ending, of the last judged table.
+#[test]
+fn over_at_the_end_of_a_run() {
+    let file = town_with(|draft| {
+        draft.links = vec![[0, 1, 10, 7_777, 3], [0, 1, 11, 5_555, 2]];
+        draft.trips[0] = vec![60, 0];
+    });
+    let mut endings = [false; 4];
+    for (budget, excess) in [(1, 0), (2, 0), (5, 0), (1_024, 0), (1_024, 65_535)] {
+        let mut table = [0; 2];
+        let answer = run(&file, &mut table, budget, excess);
+        let totals = table.map(u64::from);
+        let roads = [(3, totals[0]), (2, totals[1])];
+        let full = |&(capacity, total): &(u64, u64)| {
+            64 * total >= 256 * capacity * u64::from(answer.share)
+        };
+        assert_eq!(
+            answer.over as usize,
+            roads.iter().filter(|road| full(road)).count()
+        );
+        assert!(answer.over > 0);
+        endings[usize::from(answer.ending)] = true;
+    }
+    assert_eq!(endings, [false, true, true, true]);
 }
 
 #[test]
@@ -90,7 +172,8 @@ fn p6_gap_of_the_start() {
         AuditAnswer {
             refusal: 0,
             gap: 10,
-            cost
+            cost,
+            over: 0
         }
     );
 }
@@ -117,7 +200,8 @@ fn p8_share_9() {
         AuditAnswer {
             refusal: 0,
             gap: 0,
-            cost: 13_104
+            cost: 13_104,
+            over: 0
         }
     );
 }
@@ -188,7 +272,8 @@ fn no_trips() {
             judged: 1,
             share: 1,
             gap: 0,
-            cost: 0
+            cost: 0,
+            over: 0
         }
     );
     assert_eq!(table, [0, 0]);
@@ -319,6 +404,7 @@ fn a_run_that_ends_finest() {
     let judged = pass(&file, &mut table, answer.share);
     assert_eq!((judged.outcome, judged.share), (FINEST, answer.share));
     assert_eq!((judged.gap, judged.cost), (answer.gap, answer.cost));
+    assert_eq!(judged.over, answer.over);
     assert_eq!(table, before);
 }
 
@@ -441,8 +527,22 @@ fn listed(input: &[u8]) -> String {
 
 #[test]
 fn the_listing() {
-    let expected = "reached\njudged 5\nshare 9\ngap 0\ncost 13104\nlink 0 16 15\nlink 1 2 15\n";
+    let expected = "reached\njudged 5\nshare 9\ngap 0\ncost 13104\nover 0\n\
+        link 0 16 15\nlink 1 2 15\n";
     assert_eq!(listed(&input(10, 0, &town())), expected);
+}
+
+#[test]
+fn a_listing_with_links_over() {
+    let file = town_with(|draft| draft.trips[0] = vec![8, 0]);
+    let expected = "spent\njudged 1\nshare 1\ngap 20440\ncost 264478\nover 1\n\
+        link 0 8 2570\nlink 1 0 15\n";
+    assert_eq!(listed(&input(1, 0, &file)), expected);
+    // A pass later the first road is on its curve again, and the second road is
+    // over, whose time is 15 on every step.
+    let expected = "spent\njudged 2\nshare 4\ngap 40\ncost 28992\nover 1\n\
+        link 0 8 20\nlink 1 24 15\n";
+    assert_eq!(listed(&input(2, 0, &file)), expected);
 }
 
 #[test]
@@ -564,11 +664,13 @@ fn gap_and_cost_of_both() {
         refusal: 0,
         gap,
         cost: 64 * 25,
+        over: 0,
     };
     let round = |gap| AuditAnswer {
         refusal: 0,
         gap,
         cost: 64 * 35,
+        over: 0,
     };
     let refused = AuditAnswer {
         refusal: 20,
@@ -602,6 +704,7 @@ fn flow_through_the_zone_is_refused() {
         assert_eq!(answer.refusal, number);
         if number != 0 {
             assert_eq!((answer.gap, answer.cost, answer.share), (0, 0, 0));
+            assert_eq!(answer.over, 0);
             assert_eq!(after, table);
         }
         for (length, number) in [(90, number), (89, if number == 0 { 18 } else { number })] {
@@ -625,8 +728,10 @@ fn a_run_round_the_zone() {
     let answer = run(&draft.clone().closing(&[1]).file(), &mut table, 1_024, 0);
     assert_eq!((answer.ending, answer.judged), (REACHED, 1));
     assert_eq!((answer.share, answer.gap, table), (1, 0, [0, 1, 4]));
+    assert_eq!(answer.over, 1);
     let answer = run(&draft.closing(&[]).file(), &mut table, 1_024, 0);
     assert_eq!((answer.ending, table), (REACHED, [4, 5, 0]));
+    assert_eq!(answer.over, 2);
 }
 
 #[test]
@@ -665,7 +770,7 @@ fn packing_version_2() {
 #[test]
 fn listings_of_version_2() {
     let [first, open, closed] = middles();
-    let expected = "reached\njudged 1\nshare 1\ngap 0\ncost 2240\n\
+    let expected = "reached\njudged 1\nshare 1\ngap 0\ncost 2240\nover 0\n\
         link 0 0 5\nlink 1 1 5\nlink 2 2 15\n";
     assert_eq!(listed(&input(10, 0, &closed)), expected);
     assert_eq!(listed(&input(10, 0, &open)), listed(&input(10, 0, &first)));

@@ -21,9 +21,9 @@ endingOf step.Finest = ending.Finest
 endingOf step.Spent = ending.Spent
 endingOf step.Moved = ending.Refused
 
--- The answer of a run by its last turn: the step, how many tables were judged, and the share, gap and cost of the last.
-abbrev pub endedAnswer : Step → ℕ → ℕ → ℕ → ℕ → RunAnswer
-endedAnswer last judged share gap cost =
+-- The answer of a run by its last turn: the step, how many tables were judged, and the share, gap, cost and links over of the last.
+abbrev pub endedAnswer : Step → ℕ → ℕ → ℕ → ℕ → ℕ → RunAnswer
+endedAnswer last judged share gap cost over =
     record {
       refusal = 0;
       ending = endingOf last;
@@ -31,4 +31,5 @@ endedAnswer last judged share gap cost =
       share = share;
       gap = gap;
       cost = cost;
+      over = over;
     }

@@ -14,6 +14,7 @@ pub fn refused_audit(number: u8) -> AuditAnswer
         refusal: number,
         gap: 0,
         cost: 0,
+        over: 0,
     }
 }
 
@@ -26,6 +27,7 @@ pub fn refused_pass(number: u8) -> PassAnswer
         gap: 0,
         cost: 0,
         share: 0,
+        over: 0,
     }
 }
 
@@ -39,5 +41,6 @@ pub fn refused_run(number: u8) -> RunAnswer
         share: 0,
         gap: 0,
         cost: 0,
+        over: 0,
     }
 }

@@ -9,7 +9,7 @@ use network::SHORT;
 use network::SHORT_ENTRIES;
 use network::SHORT_LINKS;
 
-// Audit: the gap and cost of a lent table, whoever made it.
+// Audit: the gap and cost of a lent table, whoever made it, and how many of its links are over.
 pub fn audit(file: &[u8], table: &[u32], share: u32) -> AuditAnswer
     ensures { λ r. ⌜ r ≡ auditAnswer (now (file .entry)) (now (table .entry)) share ⌝ }
 {
@@ -62,5 +62,6 @@ fn audit_in(
         refusal: 0,
         gap: sums.gap,
         cost: sums.cost,
+        over: sums.over,
     }
 }

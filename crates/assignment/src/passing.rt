@@ -70,6 +70,7 @@ fn pass_in(
         gap: passed.gap,
         cost: passed.cost,
         share: passed.share,
+        over: passed.over,
     }
 }
 

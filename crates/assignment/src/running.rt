@@ -136,8 +136,8 @@ fn turns(
         );
         let step = turn.step;
         let Step::Moved = step else {
-            let cost = travel::cost(links, &flows[TOTAL], share, &curves);
-            return ended(step, judged, share, turn.gap, cost);
+            let costs = travel::cost(links, &flows[TOTAL], share, &curves);
+            return ended(step, judged, share, turn.gap, costs.cost, costs.over);
         };
         guess = latest;
         latest = std::num::wrapping_sub_u32(turn.share, share);
@@ -147,8 +147,8 @@ fn turns(
 }
 
 // The answer of a run that ended with a step, by its last judged table.
-fn ended(step: Step, judged: u32, share: u32, gap: u64, cost: u64) -> RunAnswer
-    ensures { λ r. ⌜ r ≡ endedAnswer step judged share gap cost ⌝ }
+fn ended(step: Step, judged: u32, share: u32, gap: u64, cost: u64, over: u32) -> RunAnswer
+    ensures { λ r. ⌜ r ≡ endedAnswer step judged share gap cost over ⌝ }
 {
     let ending = ending_of(step);
     RunAnswer {
@@ -158,6 +158,7 @@ fn ended(step: Step, judged: u32, share: u32, gap: u64, cost: u64) -> RunAnswer
         share,
         gap,
         cost,
+        over,
     }
 }
 

@@ -13,8 +13,14 @@ pub fn start(refusal: u8) {
 
 pub fn audit(share: u32, answer: AuditAnswer) {
     print(
-        b": audit at share #, refusal #, gap #, cost #",
-        &[share as u64, answer.refusal as u64, answer.gap, answer.cost],
+        b": audit at share #, refusal #, gap #, cost #, over #",
+        &[
+            share as u64,
+            answer.refusal as u64,
+            answer.gap,
+            answer.cost,
+            answer.over as u64,
+        ],
     );
 }
 
@@ -26,8 +32,13 @@ pub fn pass(share: u32, answer: PassAnswer) {
     let outcome = answer.outcome;
     name_outcome(outcome);
     print(
-        b", gap #, cost #, share #",
-        &[answer.gap, answer.cost, answer.share as u64],
+        b", gap #, cost #, share #, over #",
+        &[
+            answer.gap,
+            answer.cost,
+            answer.share as u64,
+            answer.over as u64,
+        ],
     );
 }
 
@@ -39,12 +50,13 @@ pub fn run(budget: u32, excess: u16, answer: RunAnswer) {
     let ending = answer.ending;
     name_ending(ending);
     print(
-        b", judged #, share #, gap #, cost #",
+        b", judged #, share #, gap #, cost #, over #",
         &[
             answer.judged as u64,
             answer.share as u64,
             answer.gap,
             answer.cost,
+            answer.over as u64,
         ],
     );
 }

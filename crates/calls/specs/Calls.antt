@@ -8,6 +8,7 @@ use lib.ListN.{length, drop}
 use lib.Dec.{eqb}
 use Rattle.study.specs.Questions.{firstNo}
 use Rattle.theory.specs.Network.{Network}
+use Rattle.theory.specs.Flows.{over}
 use Rattle.theory.specs.Cost.{cost, gap}
 use Rattle.theory.specs.Moves.{Shared, started, move, moves, reaches, judged, lastJudged}
 use Rattle.calls.specs.Study.{networkOf}
@@ -65,13 +66,13 @@ startTable file table =
 unfoldable pub tableNumber : List ℕ → List ℕ → ℕ → ℕ
 tableNumber file table share = firstNo (tableQuestions file table share)
 
--- Audit returns the gap and cost of the table, and changes nothing.
+-- Audit returns the gap and cost of the table and how many links are over (A.4), and changes nothing.
 unfoldable pub auditAnswer : List ℕ → List ℕ → ℕ → AuditAnswer
 auditAnswer file table share =
     let g = networkOf file in
     elim (tableNumber file table share) [
-      | zero ↦ record { refusal = 0; gap = gap g share table; cost = cost g share table }
-      | suc number ↦ record { refusal = suc number; gap = 0; cost = 0 }
+      | zero ↦ record { refusal = 0; gap = gap g share table; cost = cost g share table; over = over g share table }
+      | suc number ↦ record { refusal = suc number; gap = 0; cost = 0; over = 0 }
     ]
 
 -- What a pass answers of the move that it made of the judged table: moved or finest, and the new share.
@@ -87,7 +88,7 @@ abbrev pub tableAfter : List ℕ → Option Shared → List ℕ
 tableAfter table none = table
 tableAfter table (some x) = overwritten (x .table) table
 
--- Pass answers moved or finest, with the gap and cost of the judged table and the new share.
+-- Pass answers moved or finest, with the gap and cost of the judged table, the new share, and how many links of the judged table are over.
 unfoldable pub passAnswer : List ℕ → List ℕ → ℕ → PassAnswer
 passAnswer file table share =
     let g = networkOf file in
@@ -99,8 +100,9 @@ passAnswer file table share =
             gap = gap g share table;
             cost = cost g share table;
             share = shareAfter share next;
+            over = over g share table;
           }
-      | suc number ↦ record { refusal = suc number; outcome = outcome.Refused; gap = 0; cost = 0; share = 0 }
+      | suc number ↦ record { refusal = suc number; outcome = outcome.Refused; gap = 0; cost = 0; share = 0; over = 0 }
     ]
 
 unfoldable pub passTable : List ℕ → List ℕ → ℕ → List ℕ
@@ -118,7 +120,8 @@ runNumber file table budget = firstNo (runQuestions file table budget)
 unfoldable pub endingAt : Network → ℕ → Shared → Ending
 endingAt g excess x = cond (reaches g excess x) ending.Reached (cond (moves (move g x)) ending.Spent ending.Finest)
 
--- A run returns ending, tables judged, W, gap and cost of the last judged table, which stands in the first p·m numbers.
+-- A run returns ending, tables judged, W, gap and cost of the last judged table, which stands in the first p·m numbers, and how many links of
+-- that table are over.
 unfoldable pub runAnswer : List ℕ → List ℕ → ℕ → ℕ → RunAnswer
 runAnswer file table budget excess =
     let g = networkOf file in
@@ -131,8 +134,9 @@ runAnswer file table budget excess =
             share = x .share;
             gap = gap g (x .share) (x .table);
             cost = cost g (x .share) (x .table);
+            over = over g (x .share) (x .table);
           }
-      | suc number ↦ record { refusal = suc number; ending = ending.Refused; judged = 0; share = 0; gap = 0; cost = 0 }
+      | suc number ↦ record { refusal = suc number; ending = ending.Refused; judged = 0; share = 0; gap = 0; cost = 0; over = 0 }
     ]
 
 unfoldable pub runTable : List ℕ → List ℕ → ℕ → ℕ → List ℕ

@@ -3,7 +3,7 @@
 use Prim.Native.Nat.{ℕ}
 use native.Mathlib.Omega.{arith}
 use mathlib.Core.Path.{_≡_, refl}
-use mathlib.Core.Bool.{Bool, true, false, _&&_}
+use mathlib.Core.Bool.{Bool, true, false, _&&_, cond}
 use mathlib.Core.List.{List, [], _∷_, _++_}
 use lib.ListN.{take, drop, replicate}
 use lib.Dec.{eqb}
@@ -16,7 +16,7 @@ use Rattle.study.specs.Sections.{nodes, links, destinations, closedCount, part,
 use Rattle.study.specs.Fields.{tail, head, freeTime, rise, capacity, destination, trips, closedByte}
 use Rattle.theory.specs.Finite.{sum, all, first, largest, tabulate, rows}
 use Rattle.theory.specs.Network.{Network, totalTrips}
-use Rattle.theory.specs.Flows.{linkTotal, total, sumAt, balances, conserves, permits, totalsFit, step, stepTime, timeAt, times}
+use Rattle.theory.specs.Flows.{linkTotal, total, sumAt, balances, conserves, permits, totalsFit, step, stepTime, timeAt, times, overAt, over}
 use Rattle.theory.specs.Routes.{routing, IsPath, leastOf, fromHead, round, rounds, distances, fitsNext, nextLinks, walk, loadingRow, loading}
 use Rattle.theory.specs.Cost.{staircase, linkCost, cost, leastTimes, spentTimes, gap}
 use Rattle.theory.specs.Moves.{Shared, started, movedTimes, qualifies, chosen, added, doubled, move, afterMoves, reaches, stops, judged, lastJudged}
@@ -58,6 +58,16 @@ fullTown =
     ++ (0 ∷ 0 ∷ 1 ∷ 0 ∷ 255 ∷ 63 ∷ 255 ∷ 63 ∷ 1 ∷ 0 ∷ [])
     ++ (1 ∷ 0 ∷ [])
     ++ (255 ∷ 255 ∷ 0 ∷ 0 ∷ [])
+
+-- A.4: the town with 8 trips, four times what road 0 has room for, and a road 1 of capacity 9. File 58 bytes.
+unfoldable pub busyTown : List ℕ
+busyTown =
+    1 ∷ 0 ∷ 2 ∷ 0 ∷ 2 ∷ 0 ∷ 1 ∷ 0 ∷ []
+    ++ (32 ∷ 0 ∷ 0 ∷ 0 ∷ 20 ∷ 0 ∷ 0 ∷ 0 ∷ 52 ∷ 0 ∷ 0 ∷ 0 ∷ 2 ∷ 0 ∷ 0 ∷ 0 ∷ 54 ∷ 0 ∷ 0 ∷ 0 ∷ 4 ∷ 0 ∷ 0 ∷ 0 ∷ [])
+    ++ (0 ∷ 0 ∷ 1 ∷ 0 ∷ 10 ∷ 0 ∷ 10 ∷ 0 ∷ 2 ∷ 0 ∷ [])
+    ++ (0 ∷ 0 ∷ 1 ∷ 0 ∷ 15 ∷ 0 ∷ 0 ∷ 0 ∷ 9 ∷ 0 ∷ [])
+    ++ (1 ∷ 0 ∷ [])
+    ++ (8 ∷ 0 ∷ 0 ∷ 0 ∷ [])
 
 -- A.2: a small town with a zone, node 1, in the middle between node 0 and node 2, and a way round by node 3. Links: 0 1 5 20 2, 1 2 5 0 1,
 -- 0 3 10 0 1 and 3 2 10 0 1; destination 2; trips 2 from node 0 and 1 from the zone, and as many from the destination to itself as is said
@@ -121,6 +131,10 @@ g = networkOf town
 -- The time of link 0 with a flow, at a share.
 abbrev pub time0 : ℕ → ℕ → List ℕ
 time0 share flow = timeAt g share (λ l. flow) 0 ∷ []
+
+-- 1 where link 0 is over with that flow, and 0 where it is not.
+abbrev pub over0 : ℕ → ℕ → ℕ
+over0 share flow = cond (overAt g share (λ l. flow) 0) 1 0
 
 -- Ending, tables judged, share and gap of a run, and the table that it leaves, which held 7, 7 before.
 abbrev pub ran : ℕ → ℕ → List ℕ
@@ -214,6 +228,17 @@ cases =
     ∷ case (found (64 ∷ []) (0 ∷ 63 ∷ 127 ∷ []) ∷ found (127 ∷ []) (63 ∷ 64 ∷ []) ∷ found [] wordEnds ∷ []) (64 ∷ 127 ∷ 128 ∷ [])
     -- All of 128 nodes reached, and all but the last visited.
     ∷ case (lowestUnvisited (nodesBelow 128) (nodesBelow 127) ∷ lowestUnvisited (nodesBelow 128) (nodesBelow 128) ∷ []) (127 ∷ 128 ∷ [])
+    -- A.4: P2 and P3 count, P4 does not. One part below four times the capacity does not either, at share 64.
+    ∷ case (over0 1 8 ∷ over0 1 9 ∷ over0 64 511 ∷ over0 64 512 ∷ []) (1 ∷ 1 ∷ 0 ∷ 1 ∷ [])
+    -- Links over, in tables of the town: both, one of them, none; none on empty roads.
+    ∷ case (over g 1 (8 ∷ 4 ∷ []) ∷ over g 1 (8 ∷ 3 ∷ []) ∷ over g 1 (7 ∷ 3 ∷ []) ∷ over g 1 (0 ∷ 0 ∷ []) ∷ []) (2 ∷ 1 ∷ 0 ∷ 0 ∷ [])
+    -- A pass answers the count of the table that it judged, not of the one that it leaves.
+    ∷ case (passAnswer busyTown (8 ∷ 0 ∷ []) 1 .over ∷ passAnswer busyTown (8 ∷ 0 ∷ []) 1 .share ∷ passTable busyTown (8 ∷ 0 ∷ []) 1) (1 ∷ 4 ∷ 8 ∷ 24 ∷ [])
+    ∷ case (auditAnswer busyTown (8 ∷ 0 ∷ []) 1 .over ∷ auditAnswer busyTown (8 ∷ 24 ∷ []) 4 .over ∷ []) (1 ∷ 0 ∷ [])
+    -- Runs: one that its budget ends at the first table; the listing has `over 0`.
+    ∷ case (runAnswer busyTown (7 ∷ 7 ∷ []) 1 0 .over ∷ runAnswer town (7 ∷ 7 ∷ []) 10 0 .over ∷ []) (1 ∷ 0 ∷ [])
+    -- A refusal has 0, though link 0 would count: 16 at flows 8, 1.
+    ∷ case (auditAnswer busyTown (8 ∷ 1 ∷ []) 1 .refusal ∷ auditAnswer busyTown (8 ∷ 1 ∷ []) 1 .over ∷ []) (16 ∷ 0 ∷ [])
     ∷ []
 
 -- One lemma, by computation: the test holds of every case; and what the theorems ask of a study, a table, a share and a budget can be
@@ -242,11 +267,16 @@ pub record Computed : Type 0 where
   pub zone-way : IsPath (routing (networkOf (zoneTown 0 1)) (5 ∷ 5 ∷ 10 ∷ 10 ∷ []) 0) 0 (2 ∷ 3 ∷ [])
   pub zone-avoided : tableNumber (zoneTown 0 1) (0 ∷ 1 ∷ 2 ∷ 2 ∷ []) 1 ≡ 0
   pub full-time : timeAt (networkOf fullTown) 1 (total (networkOf fullTown) (65535 ∷ [])) 0 ≡ 4210431
+  pub busy : tableNumber busyTown (8 ∷ 0 ∷ []) 1 ≡ 0
+  pub busy-run : runNumber busyTown (7 ∷ 7 ∷ []) 1 ≡ 0
+  pub busy-roads : links busyTown ≡ 2
+  pub busy-road : (networkOf busyTown .capacity 0 ≡ 2) × (total (networkOf busyTown) (8 ∷ 0 ∷ []) 0 ≡ 8)
+  pub empty-roads : (total g (0 ∷ 0 ∷ []) 0 ≡ 0) × (total g (0 ∷ 0 ∷ []) 1 ≡ 0)
   pub next-node : found wordEnds (0 ∷ 63 ∷ []) ≡ 64
   pub next-none : found wordEnds wordEnds ≡ 128
 
 pub computed : Computed
-unfolding cases case town strandedTown fullTown zoneTown zoneServed zoneOnly townLines fullLine digitsWithin decimal hundredths aligned u16 u32 versions formOf version nodeField linkField destinationField hasSection offset size closedField lengthFits versionKnown countsFit sectionsApart sectionsInOrder sizesFit opening refusal nodes links destinations closedCount part tail head freeTime rise capacity destination trips closedByte sum all first largest tabulate rows totalTrips linkTotal sumAt balances conserves permits totalsFit step stepTime times leastOf fromHead round rounds distances fitsNext nextLinks walk loadingRow loading staircase linkCost cost leastTimes spentTimes gap started movedTimes qualifies chosen added doubled move afterMoves reaches stops judged lastJudged linkRow linkRows destinationNodes tripEntries mayUse network networkOf endsFit timesFit destinationsFit closedFit noTripsWithin totalFits hasPath tripsReach tableHolds budgetFits shareFits packedSize outputHolds studyQuestions shareQuestions checkQuestions packQuestions startQuestions runQuestions tableQuestions bytes16 bytes32 packedHeader packed packNumber packOutput overwritten checkNumber startNumber startTable tableNumber auditAnswer passAnswer passTable runNumber endingAt runAnswer runTable pageHolds pageQuestions pageLine lineOf pageOf pageNumber pageSlice bit marked onlyNode nodesBelow union lowest unvisited lowestUnvisited
+unfolding cases case town strandedTown fullTown busyTown zoneTown zoneServed zoneOnly townLines fullLine digitsWithin decimal hundredths aligned u16 u32 versions formOf version nodeField linkField destinationField hasSection offset size closedField lengthFits versionKnown countsFit sectionsApart sectionsInOrder sizesFit opening refusal nodes links destinations closedCount part tail head freeTime rise capacity destination trips closedByte sum all first largest tabulate rows totalTrips linkTotal sumAt balances conserves permits totalsFit step stepTime times over leastOf fromHead round rounds distances fitsNext nextLinks walk loadingRow loading staircase linkCost cost leastTimes spentTimes gap started movedTimes qualifies chosen added doubled move afterMoves reaches stops judged lastJudged linkRow linkRows destinationNodes tripEntries mayUse network networkOf endsFit timesFit destinationsFit closedFit noTripsWithin totalFits hasPath tripsReach tableHolds budgetFits shareFits packedSize outputHolds studyQuestions shareQuestions checkQuestions packQuestions startQuestions runQuestions tableQuestions bytes16 bytes32 packedHeader packed packNumber packOutput overwritten checkNumber startNumber startTable tableNumber auditAnswer passAnswer passTable runNumber endingAt runAnswer runTable pageHolds pageQuestions pageLine lineOf pageOf pageNumber pageSlice bit marked onlyNode nodesBelow union lowest unvisited lowestUnvisited
 computed =
     record {
       every-case-holds = refl;
@@ -272,6 +302,11 @@ computed =
       zone-way = (omega arith, refl, refl, (omega arith, refl, refl, refl));
       zone-avoided = refl;
       full-time = refl;
+      busy = refl;
+      busy-run = refl;
+      busy-roads = refl;
+      busy-road = (refl, refl);
+      empty-roads = (refl, refl);
       next-node = refl;
       next-none = refl;
     }

@@ -15,7 +15,8 @@ pub enum Outcome {
     Finest,
 }
 
-// In each answer `refusal` is the number of the first question that refused, or 0, and a refusal has 0 in every other field.
+// In each answer `refusal` is the number of the first question that refused, or 0, and a refusal has 0 in every other field. `over` counts the
+// links of the judged table that are past their curves (A.4).
 pub struct RunAnswer {
     pub refusal: u8,
     pub ending: Ending,
@@ -23,6 +24,7 @@ pub struct RunAnswer {
     pub share: u32,
     pub gap: u64,
     pub cost: u64,
+    pub over: u32,
 }
 
 pub struct PassAnswer {
@@ -31,10 +33,12 @@ pub struct PassAnswer {
     pub gap: u64,
     pub cost: u64,
     pub share: u32,
+    pub over: u32,
 }
 
 pub struct AuditAnswer {
     pub refusal: u8,
     pub gap: u64,
     pub cost: u64,
+    pub over: u32,
 }

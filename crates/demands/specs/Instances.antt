@@ -1,22 +1,22 @@
--- The hypotheses of the demands and of the requests' theorems can be met: the town of two roads, the town with a zone and some marked nodes meet each of
--- them.
-use Prim.Native.Nat.{ℕ, _*_, _<_}
+-- The hypotheses of the demands and of the requests' theorems can be met: the town of two roads, the busy town, the town with a zone and some
+-- marked nodes meet each of them.
+use Prim.Native.Nat.{ℕ, zero, suc, _*_, _≤_, _<_}
 use native.Mathlib.Omega.{arith}
 use mathlib.Core.Path.{_≡_}
-use mathlib.Core.Bool.{false}
+use mathlib.Core.Bool.{true, false}
 use mathlib.Core.List.{[], _∷_}
 use lib.ListN.{getD, take, replicate}
 use Rattle.study.specs.Header.{version}
 use Rattle.study.specs.Sections.{links}
-use Rattle.theory.specs.Flows.{entry, Carries}
+use Rattle.theory.specs.Flows.{entry, Carries, total, overAt, over}
 use Rattle.theory.specs.Marks.{bit, marked, unvisited}
 use Rattle.theory.specs.Laws.Finite.{Lowest}
 use Rattle.calls.specs.Study.{networkOf}
 use Rattle.calls.specs.Sequence.{Call, afterStart, afterCalls}
-use Rattle.calls.specs.Cases.{town, zoneTown, setOf, wordEnds, computed}
+use Rattle.calls.specs.Cases.{town, busyTown, zoneTown, setOf, wordEnds, computed}
 use Rattle.calls.specs.Page.{pageOf}
 use Rattle.calls.specs.Questions.{packedSize}
-use Rattle.calls.specs.Calls.{packOutput, pageSlice}
+use Rattle.calls.specs.Calls.{packOutput, auditAnswer, passAnswer, runAnswer, runTable, pageSlice}
 use Rattle.calls.specs.Laws.Questions.{Described, check-passed, table-both}
 use Rattle.calls.specs.Laws.Reach.{passed-carries}
 use Rattle.calls.specs.Laws.Page.{LineFits}
@@ -24,7 +24,8 @@ use Rattle.demands.specs.Demands.{Certified, demand-3}
 use Rattle.demands.specs.Results.{Fresh}
 use Rattle.demands.specs.Pages.{OfLine}
 use Rattle.demands.specs.Zones.{Closed, Avoids}
-use Rattle.demands.specs.Requests.{request-A1, request-A2, request-A3}
+use Rattle.demands.specs.PastCurves.{CountsOver}
+use Rattle.demands.specs.Requests.{request-A1, request-A2, request-A3, request-A4}
 
 -- A study that passes questions 1 to 11.
 pub town-described : Described town
@@ -79,3 +80,30 @@ none-left = request-A3 .none (setOf wordEnds) (setOf wordEnds) .0 (computed .nex
 -- A node of the second word.
 pub second-word : marked (setOf wordEnds) 64 ≡ bit (getD (setOf wordEnds) 1 0) 0
 second-word = request-A3 .word (setOf wordEnds) 64 (omega arith)
+
+-- A link of an accepted table with exactly four times its capacity is counted; so is it by audit, pass and run.
+pub busy-counted : overAt (networkOf busyTown) 1 (total (networkOf busyTown) (8 ∷ 0 ∷ [])) 0 ≡ true
+busy-counted = request-A4 .fourfold busyTown (8 ∷ 0 ∷ []) 1 (computed .busy) 0 (omega (arith, computed .busy-roads)) .1 (omega (arith, computed .busy-road))
+
+pub busy-over : 256 * (networkOf busyTown .capacity 0 * 1) ≤ 64 * total (networkOf busyTown) (8 ∷ 0 ∷ []) 0
+busy-over = request-A4 .counted busyTown (8 ∷ 0 ∷ []) 1 (computed .busy) 0 (omega (arith, computed .busy-roads)) .0 busy-counted
+
+pub busy-audit : CountsOver busyTown (8 ∷ 0 ∷ []) 1 (auditAnswer busyTown (8 ∷ 0 ∷ []) 1 .over)
+busy-audit = request-A4 .audit busyTown (8 ∷ 0 ∷ []) 1 (computed .busy)
+
+pub busy-pass : CountsOver busyTown (8 ∷ 0 ∷ []) 1 (passAnswer busyTown (8 ∷ 0 ∷ []) 1 .over)
+busy-pass = request-A4 .pass busyTown (8 ∷ 0 ∷ []) 1 (computed .busy)
+
+pub busy-run :
+    let answer = runAnswer busyTown (7 ∷ 7 ∷ []) 1 0 in
+    CountsOver busyTown (runTable busyTown (7 ∷ 7 ∷ []) 1 0) (answer .share) (answer .over)
+busy-run = request-A4 .run busyTown (7 ∷ 7 ∷ []) 1 0 (computed .busy-run)
+
+-- The town with nobody on its roads.
+pub town-empty : over (networkOf town) 1 (0 ∷ 0 ∷ []) ≡ 0
+town-empty = request-A4 .empty town (0 ∷ 0 ∷ []) 1 (λ l h. none l (rw (computed .roads) at h))
+  where
+    none : (l : ℕ) → l < 2 → total (networkOf town) (0 ∷ 0 ∷ []) l ≡ 0
+    none zero h = computed .empty-roads .0
+    none (suc zero) h = computed .empty-roads .1
+    none (suc (suc l)) h = omega arith

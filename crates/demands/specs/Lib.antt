@@ -11,4 +11,5 @@ pub mod Unreachable
 pub mod Pages
 pub mod Zones
 pub mod NextNodes
+pub mod PastCurves
 pub mod Instances

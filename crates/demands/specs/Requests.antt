@@ -1,6 +1,6 @@
 -- The theorems that document 02's requests ask for, beside the demands and in the vocabulary of the same definitions. Each proof is a
 -- citation. The demands themselves speak of all calls and all versions, and stand in `Demands`.
-use Prim.Native.Nat.{ℕ, _*_, _+_, _/_, _%_, _<_}
+use Prim.Native.Nat.{ℕ, _*_, _+_, _/_, _%_, _≤_, _<_}
 use mathlib.Core.Path.{_≡_}
 use mathlib.Core.Bool.{true, false}
 use mathlib.Core.List.{List}
@@ -9,18 +9,19 @@ use lib.ListN.{length, getD, take}
 use Rattle.study.specs.Header.{version}
 use Rattle.study.specs.Sections.{links}
 use Rattle.text.specs.Decimal.{decimal, hundredths}
-use Rattle.theory.specs.Flows.{entry}
+use Rattle.theory.specs.Flows.{entry, total, overAt, over}
 use Rattle.theory.specs.Routes.{routing, IsPath}
 use Rattle.theory.specs.Marks.{bit, marked, unvisited, lowestUnvisited}
 use Rattle.theory.specs.Laws.Finite.{Lowest}
 use Rattle.calls.specs.Study.{networkOf}
 use Rattle.calls.specs.Questions.{packedSize}
 use Rattle.calls.specs.Page.{lineOf, pageOf}
-use Rattle.calls.specs.Calls.{packNumber, packOutput, tableNumber, pageNumber, pageSlice}
+use Rattle.calls.specs.Calls.{packNumber, packOutput, tableNumber, auditAnswer, passAnswer, runNumber, runAnswer, runTable, pageNumber, pageSlice}
 use Rattle.calls.specs.Laws.Page.{LineRange, LineFits}
 use Rattle.demands.specs.Results.{Fresh}
 use Rattle.demands.specs.Zones.{Closed, Avoids, OnlyClosed, permitted-exactly, version-1-open, path-avoids, flow-avoids, pack-version, only-closed}
 use Rattle.demands.specs.NextNodes.{word-of, found-exactly, none-exactly}
+use Rattle.demands.specs.PastCurves.{CountsOver, over-when, over-when-fourfold, audit-counts, pass-counts, run-counts, empty-counts}
 use Rattle.demands.specs.Pages.{Plain, Pointed, OfLine, Largest, decimal-plain, hundredths-pointed, full-road, numbers-range, numbers-fit, line-length, line-place, page-length, page-fresh}
 
 -- A.1, volumes on paper. Whatever table the audit accepts, every number fits its columns (3, 3, 3, 8 and 8), so each line has exactly 30
@@ -88,3 +89,31 @@ pub record RequestA3 : Type 0 where
 
 pub request-A3 : RequestA3
 request-A3 = record { word = word-of; found = found-exactly; none = none-exactly }
+
+-- A.4, links past the curve. A link is counted exactly when 64·S is at least 256·c·W, that is when its total is at least four times its
+-- capacity. Audit and pass answer the count of the table that they judged, and a run that of its last judged table, which it leaves at the share
+-- that it answers; the count is at most m. At empty roads it is 0. (That a refusal carries 0 is in demand 1, and that the count changes no cost
+-- and no gap in demand 3, which stands as it was.)
+pub record RequestA4 : Type 0 where
+  pub counted : (file table : List ℕ) (share : ℕ) → tableNumber file table share ≡ 0 → (l : ℕ) → l < links file
+      → (overAt (networkOf file) share (total (networkOf file) table) l ≡ true)
+      ↔ (256 * (networkOf file .capacity l * share) ≤ 64 * total (networkOf file) table l)
+  pub fourfold : (file table : List ℕ) (share : ℕ) → tableNumber file table share ≡ 0 → (l : ℕ) → l < links file
+      → (overAt (networkOf file) share (total (networkOf file) table) l ≡ true)
+      ↔ (4 * (networkOf file .capacity l * share) ≤ total (networkOf file) table l)
+  pub audit : (file table : List ℕ) (share : ℕ) → tableNumber file table share ≡ 0 → CountsOver file table share (auditAnswer file table share .over)
+  pub pass : (file table : List ℕ) (share : ℕ) → tableNumber file table share ≡ 0 → CountsOver file table share (passAnswer file table share .over)
+  pub run : (file table : List ℕ) (budget excess : ℕ) → runNumber file table budget ≡ 0
+      → CountsOver file (runTable file table budget excess) (runAnswer file table budget excess .share) (runAnswer file table budget excess .over)
+  pub empty : (file table : List ℕ) (share : ℕ) → ((l : ℕ) → l < links file → total (networkOf file) table l ≡ 0) → over (networkOf file) share table ≡ 0
+
+pub request-A4 : RequestA4
+request-A4 =
+    record {
+      counted = over-when;
+      fourfold = over-when-fourfold;
+      audit = audit-counts;
+      pass = pass-counts;
+      run = run-counts;
+      empty = empty-counts;
+    }

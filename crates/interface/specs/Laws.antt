@@ -7,11 +7,11 @@ use Rattle.calls.specs.Laws.Calls.{audit-refused, pass-refused, run-refused}
 use Rattle.interface.specs.Numbers.{auditNumbers, passNumbers, runNumbers}
 
 module _ (file table : List ℕ) where
-  pub refused-pass : (share number : ℕ) → tableNumber file table share ≡ suc number → passNumbers (passAnswer file table share) ≡ 0 ∷ 0 ∷ 0 ∷ 0 ∷ []
+  pub refused-pass : (share number : ℕ) → tableNumber file table share ≡ suc number → passNumbers (passAnswer file table share) ≡ 0 ∷ 0 ∷ 0 ∷ 0 ∷ 0 ∷ []
   refused-pass share number e = ap passNumbers (pass-refused file table share number e)
 
-  pub refused-run : (budget excess number : ℕ) → runNumber file table budget ≡ suc number → runNumbers (runAnswer file table budget excess) ≡ 0 ∷ 0 ∷ 0 ∷ 0 ∷ 0 ∷ []
+  pub refused-run : (budget excess number : ℕ) → runNumber file table budget ≡ suc number → runNumbers (runAnswer file table budget excess) ≡ 0 ∷ 0 ∷ 0 ∷ 0 ∷ 0 ∷ 0 ∷ []
   refused-run budget excess number e = ap runNumbers (run-refused file table budget excess number e)
 
-  pub refused-audit : (share number : ℕ) → tableNumber file table share ≡ suc number → auditNumbers (auditAnswer file table share) ≡ 0 ∷ 0 ∷ []
+  pub refused-audit : (share number : ℕ) → tableNumber file table share ≡ suc number → auditNumbers (auditAnswer file table share) ≡ 0 ∷ 0 ∷ 0 ∷ []
   refused-audit share number e = ap auditNumbers (audit-refused file table share number e)

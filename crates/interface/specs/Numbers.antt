@@ -7,14 +7,14 @@ use Rattle.calls.specs.declared.RunAnswer.{RunAnswer}
 use Rattle.calls.specs.declared.PassAnswer.{PassAnswer}
 use Rattle.calls.specs.declared.AuditAnswer.{AuditAnswer}
 
--- Outcome, gap, cost, share.
+-- Outcome, gap, cost, share, over.
 abbrev pub passNumbers : PassAnswer → List ℕ
-passNumbers a = outcomeNumber (a .outcome) ∷ a .gap ∷ a .cost ∷ a .share ∷ []
+passNumbers a = outcomeNumber (a .outcome) ∷ a .gap ∷ a .cost ∷ a .share ∷ a .over ∷ []
 
--- Ending, tables judged, share, gap, cost.
+-- Ending, tables judged, share, gap, cost, over.
 abbrev pub runNumbers : RunAnswer → List ℕ
-runNumbers a = endingNumber (a .ending) ∷ a .judged ∷ a .share ∷ a .gap ∷ a .cost ∷ []
+runNumbers a = endingNumber (a .ending) ∷ a .judged ∷ a .share ∷ a .gap ∷ a .cost ∷ a .over ∷ []
 
--- Gap, cost.
+-- Gap, cost, over.
 abbrev pub auditNumbers : AuditAnswer → List ℕ
-auditNumbers a = a .gap ∷ a .cost ∷ []
+auditNumbers a = a .gap ∷ a .cost ∷ a .over ∷ []

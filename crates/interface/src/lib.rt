@@ -38,13 +38,13 @@ pub extern "C" fn ilstrovan_start(file: &[u8], table: &mut [u32]) -> u8
     assignment::start(file, table)
 }
 
-// Writes outcome (1 moved, 2 finest), gap, cost and the new share.
+// Writes outcome (1 moved, 2 finest), gap, cost, the new share and how many links of the judged table are over.
 #[no_mangle]
 pub extern "C" fn ilstrovan_pass(
     file: &[u8],
     table: &mut [u32],
     share: u32,
-    answer: &mut [u64; 4],
+    answer: &mut [u64; 5],
 ) -> u8
     ensures { λ r. ⌜ r ≡ passAnswer (now (file .entry)) (now (table .entry)) share .refusal ⌝ }
     ensures { λ _. ⌜ now (table .exit) ≡ passTable (now (file .entry)) (now (table .entry)) share ⌝ }
@@ -55,14 +55,14 @@ pub extern "C" fn ilstrovan_pass(
     passed.refusal
 }
 
-// Writes ending (1 reached, 2 finest, 3 spent), tables judged, share, gap and cost.
+// Writes ending (1 reached, 2 finest, 3 spent), tables judged, share, gap, cost and how many links are over.
 #[no_mangle]
 pub extern "C" fn ilstrovan_run(
     file: &[u8],
     table: &mut [u32],
     budget: u32,
     excess: u16,
-    answer: &mut [u64; 5],
+    answer: &mut [u64; 6],
 ) -> u8
     ensures { λ r. ⌜ r ≡ runAnswer (now (file .entry)) (now (table .entry)) budget excess .refusal ⌝ }
     ensures { λ _. ⌜ now (table .exit) ≡ runTable (now (file .entry)) (now (table .entry)) budget excess ⌝ }
@@ -73,13 +73,13 @@ pub extern "C" fn ilstrovan_run(
     ended.refusal
 }
 
-// Writes gap and cost.
+// Writes gap, cost and how many links are over.
 #[no_mangle]
 pub extern "C" fn ilstrovan_audit(
     file: &[u8],
     table: &[u32],
     share: u32,
-    answer: &mut [u64; 2],
+    answer: &mut [u64; 3],
 ) -> u8
     ensures { λ r. ⌜ r ≡ auditAnswer (now (file .entry)) (now (table .entry)) share .refusal ⌝ }
     ensures { λ _. ⌜ now (answer .exit) ≡ auditNumbers (auditAnswer (now (file .entry)) (now (table .entry)) share) ⌝ }
@@ -98,7 +98,7 @@ pub extern "C" fn ilstrovan_page(file: &[u8], table: &[u32], share: u32, page: &
     pages::page(file, table, share, page)
 }
 
-fn pass_numbers(passed: PassAnswer) -> [u64; 4]
+fn pass_numbers(passed: PassAnswer) -> [u64; 5]
     ensures { λ r. ⌜ r ≡ passNumbers passed ⌝ }
 {
     let outcome = passed.outcome;
@@ -107,10 +107,11 @@ fn pass_numbers(passed: PassAnswer) -> [u64; 4]
         passed.gap,
         passed.cost,
         passed.share as u64,
+        passed.over as u64,
     ]
 }
 
-fn run_numbers(ended: RunAnswer) -> [u64; 5]
+fn run_numbers(ended: RunAnswer) -> [u64; 6]
     ensures { λ r. ⌜ r ≡ runNumbers ended ⌝ }
 {
     let ending = ended.ending;
@@ -120,13 +121,14 @@ fn run_numbers(ended: RunAnswer) -> [u64; 5]
         ended.share as u64,
         ended.gap,
         ended.cost,
+        ended.over as u64,
     ]
 }
 
-fn audit_numbers(audited: AuditAnswer) -> [u64; 2]
+fn audit_numbers(audited: AuditAnswer) -> [u64; 3]
     ensures { λ r. ⌜ r ≡ auditNumbers audited ⌝ }
 {
-    [audited.gap, audited.cost]
+    [audited.gap, audited.cost, audited.over as u64]
 }
 
 fn outcome_number(outcome: Outcome) -> u64

@@ -5,7 +5,7 @@ use mathlib.Core.Bool.{Bool, true}
 use mathlib.Core.List.{List, []}
 use lib.ListN.{length, getD}
 use Rattle.theory.specs.Network.{Network}
-use Rattle.theory.specs.Flows.{linkTotal}
+use Rattle.theory.specs.Flows.{linkTotal, over}
 use Rattle.theory.specs.Cost.{cost, gap}
 use Rattle.theory.specs.Moves.{moves}
 use Rattle.calls.specs.Calls.{shareAfter, tableAfter}
@@ -75,6 +75,7 @@ pub record GapFits (m : ℕ) (times : List ℕ) (flows : List (List ℕ)) (share
 pub record Audited (g : Network) (table : List ℕ) (share : ℕ) (r : Sums) : Type 0 where
   pub gap-is : r .gap ≡ gap g share table
   pub cost-is : r .cost ≡ cost g share table
+  pub over-is : r .over ≡ over g share table
 
 -- What a pass answers of a table, and what it leaves.
 pub record PassedOn (g : Network) (table : List ℕ) (share : ℕ) (r : Passed) (after : List ℕ) : Type 0 where
@@ -82,6 +83,7 @@ pub record PassedOn (g : Network) (table : List ℕ) (share : ℕ) (r : Passed) 
   pub share-is : r .share ≡ shareAfter share (moveOf g table share)
   pub gap-is : r .gap ≡ gap g share table
   pub cost-is : r .cost ≡ cost g share table
+  pub over-is : r .over ≡ over g share table
   pub table-is : after ≡ tableAfter table (moveOf g table share)
 
 -- What a turn is handed: a share, and a limit that excess × T can be.

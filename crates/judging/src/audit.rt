@@ -6,8 +6,8 @@ ghost use Rattle.judging.specs.Study.{studyOf, Judgeable};
 ghost use Rattle.judging.specs.Judged.{Audited};
 use crate::Sums;
 
-// Audit: the gap and cost of a table with these totals, which say all that is needed of it. The gap is taken by its definition, from the least
-// times.
+// Audit: the gap and cost of a table with these totals, which say all that is needed of it, and how many links are over. The gap is taken by
+// its definition, from the least times.
 pub fn audit_table(
     nodes: usize,
     links: &[[u16; 6]],
@@ -28,6 +28,10 @@ pub fn audit_table(
     let into = search::into_chain(links);
     let least = search::least_times(nodes, links, destinations, trips, &times, &into);
     let gap = travel::product(&times, totals, links.len()) - share as u64 * least;
-    let cost = travel::cost(links, totals, share, &curves);
-    Sums { gap, cost }
+    let costs = travel::cost(links, totals, share, &curves);
+    Sums {
+        gap,
+        cost: costs.cost,
+        over: costs.over,
+    }
 }

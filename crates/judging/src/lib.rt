@@ -12,18 +12,20 @@ pub use pass::pass_table;
 pub use start::start_table;
 pub use turns::turn_table;
 
-// The gap and cost of a judged table.
+// The gap and cost of a judged table, and how many of its links are over.
 pub struct Sums {
     pub gap: u64,
     pub cost: u64,
+    pub over: u32,
 }
 
-// What a pass does: whether it moved the table, and the new share.
+// What a pass does: whether it moved the table, and the new share. The other numbers are of the judged table.
 pub struct Passed {
     pub moved: bool,
     pub share: u32,
     pub gap: u64,
     pub cost: u64,
+    pub over: u32,
 }
 
 // How a turn of a run goes on from the table that it judges.

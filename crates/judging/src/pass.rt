@@ -50,14 +50,15 @@ pub fn pass_table(
         flows,
     );
     let gap = gap_of(&times, flows, m, share);
-    let cost = travel::cost(links, &flows[TOTAL], share, &curves);
     let j = travel::chosen(links, flows, share, share / 8, gap, &curves);
     let moved = moves::can_move(share, j);
     let after = moves::move_table(table, nodes, m, p, &next, &volumes, share, j);
+    let costs = travel::cost(links, &flows[TOTAL], share, &curves);
     Passed {
         moved,
         share: after,
         gap,
-        cost,
+        cost: costs.cost,
+        over: costs.over,
     }
 }

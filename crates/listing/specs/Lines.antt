@@ -5,7 +5,7 @@ use lib.ListN.{getD}
 use Rattle.theory.specs.Finite.{rows}
 use Rattle.calls.specs.declared.RunAnswer.{RunAnswer}
 use Rattle.text.specs.Decimal.{newline}
-use Rattle.listing.specs.Listing.{endingWord, judgedWord, shareWord, gapWord, costWord, numberLine, linkLine, listing}
+use Rattle.listing.specs.Listing.{endingWord, judgedWord, shareWord, gapWord, costWord, overWord, numberLine, linkLine, listing}
 
 -- The lines before those of the links.
 unfoldable pub answerLines : RunAnswer → List ℕ
@@ -16,6 +16,7 @@ answerLines answer =
     ++ numberLine shareWord (answer .share)
     ++ numberLine gapWord (answer .gap)
     ++ numberLine costWord (answer .cost)
+    ++ numberLine overWord (answer .over)
 
 -- The lines of the first m links, whose flows and times are in two lists.
 unfoldable pub linkLines : ℕ → List ℕ → List ℕ → List ℕ

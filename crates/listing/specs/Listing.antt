@@ -35,6 +35,10 @@ gapWord = 103 ∷ 97 ∷ 112 ∷ []
 unfoldable pub costWord : List ℕ
 costWord = 99 ∷ 111 ∷ 115 ∷ 116 ∷ []
 
+-- (A.4)
+unfoldable pub overWord : List ℕ
+overWord = 111 ∷ 118 ∷ 101 ∷ 114 ∷ []
+
 unfoldable pub linkWord : List ℕ
 linkWord = 108 ∷ 105 ∷ 110 ∷ 107 ∷ []
 
@@ -56,6 +60,7 @@ listing answer m flow time =
     ++ numberLine shareWord (answer .share)
     ++ numberLine gapWord (answer .gap)
     ++ numberLine costWord (answer .cost)
+    ++ numberLine overWord (answer .over)
     ++ rows m (λ l. linkLine l (flow l) (time l)))
     (numberLine (endingWord ending.Refused) (answer .refusal))
 

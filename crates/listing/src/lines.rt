@@ -38,16 +38,18 @@ pub fn write_listing(
 
 // The lines before those of the links.
 fn put_answer_lines(out: &mut [u8], answer: RunAnswer) -> usize
-    requires { ⌜ 114 ≤ length (now out) ⌝ }
+    requires { ⌜ 140 ≤ length (now out) ⌝ }
     ensures { λ r. ⌜ Put (now (out .entry)) 0 (answerLines answer) (now (out .exit)) r ⌝ }
-    ensures { λ r. ⌜ r ≤ 114 ⌝ }
+    ensures { λ r. ⌜ r ≤ 140 ⌝ }
 {
     let ending = answer.ending;
+    let over = answer.over as u64;
     let at = put_ending_line(out, 0, ending);
     let at = put_number_line(out, at, b"judged", answer.judged as u64);
     let at = put_number_line(out, at, b"share", answer.share as u64);
     let at = put_number_line(out, at, b"gap", answer.gap);
-    put_number_line(out, at, b"cost", answer.cost)
+    let at = put_number_line(out, at, b"cost", answer.cost);
+    put_number_line(out, at, b"over", over)
 }
 
 fn put_ending_line(out: &mut [u8], at: usize, ending: Ending) -> usize

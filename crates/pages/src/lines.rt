@@ -30,7 +30,8 @@ pub fn put_lines(
         let link = links[l];
         let flow = flows[l];
         let volume = volume_of(share, flow);
-        let time = travel::link_time(link, share, flow, curves) as u32;
+        let timed = travel::link_time(link, share, flow, curves);
+        let time = timed.time as u32;
         at = put_line(page, at, l, link[TAIL], link[HEAD], volume, time);
         l += 1;
     }

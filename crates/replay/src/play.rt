@@ -39,19 +39,19 @@ fn start(file: &[u8], table: &mut [u32]) {
 }
 
 fn pass(file: &[u8], table: &mut [u32], share: u32) {
-    let mut answer = [0u64; 4];
+    let mut answer = [0u64; 5];
     let refusal = interface::ilstrovan_pass(file, table, share, &mut answer);
     lines::print(b"pass", refusal, &answer, digest::of_numbers(table));
 }
 
 fn run(file: &[u8], table: &mut [u32], budget: u32, excess: u16) {
-    let mut answer = [0u64; 5];
+    let mut answer = [0u64; 6];
     let refusal = interface::ilstrovan_run(file, table, budget, excess, &mut answer);
     lines::print(b"run", refusal, &answer, digest::of_numbers(table));
 }
 
 fn audit(file: &[u8], table: &[u32], share: u32) {
-    let mut answer = [0u64; 2];
+    let mut answer = [0u64; 3];
     let refusal = interface::ilstrovan_audit(file, table, share, &mut answer);
     lines::print(b"audit", refusal, &answer, digest::of_numbers(table));
 }

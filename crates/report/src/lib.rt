@@ -68,6 +68,7 @@ fn refused(number: u8) -> RunAnswer
         share: 0,
         gap: 0,
         cost: 0,
+        over: 0,
     }
 }
 

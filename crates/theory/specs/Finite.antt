@@ -1,6 +1,6 @@
 -- Sums, tests, searches and lists over the numbers below a bound.
 use Prim.Native.Nat.{ℕ, zero, suc, _+_}
-use mathlib.Core.Bool.{Bool, true, false, _&&_}
+use mathlib.Core.Bool.{Bool, true, false, _&&_, cond}
 use mathlib.Core.List.{List, [], _∷_, _++_}
 use mathlib.Core.Option.{Option, none, some}
 
@@ -8,6 +8,10 @@ use mathlib.Core.Option.{Option, none, some}
 unfoldable pub sum : ℕ → (ℕ → ℕ) → ℕ
 sum zero f = 0
 sum (suc n) f = sum n f + f n
+
+-- How many numbers below n there are of which the test holds.
+abbrev pub count : ℕ → (ℕ → Bool) → ℕ
+count n test = sum n (λ i. cond (test i) 1 0)
 
 -- The test holds of every number below n.
 unfoldable pub all : ℕ → (ℕ → Bool) → Bool

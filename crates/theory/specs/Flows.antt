@@ -5,7 +5,7 @@ use mathlib.Core.Bool.{Bool, true, false, _||_, cond}
 use mathlib.Core.List.{List}
 use lib.ListN.{getD}
 use lib.Dec.{eqb, leb}
-use Rattle.theory.specs.Finite.{sum, all, tabulate}
+use Rattle.theory.specs.Finite.{sum, count, all, tabulate}
 use Rattle.theory.specs.Network.{Network, totalTrips}
 
 -- The entry of a commodity and a link stands at place (position of s) × m + l. A number past the end of the list counts as 0.
@@ -70,3 +70,14 @@ timeAt g share flow l = g .height l (step (g .capacity l) share (flow l))
 -- The times of all links under a table, in link order.
 unfoldable pub times : Network → ℕ → List ℕ → List ℕ
 times g share table = tabulate (g .links) (timeAt g share (total g table))
+
+-- (A.4) With a link's time comes a yes or no: step 256 was reached, so the link has run onto the level part of its curve.
+abbrev pub isOver : ℕ → Bool
+isOver r = eqb r 256
+
+abbrev pub overAt : Network → ℕ → (ℕ → ℕ) → ℕ → Bool
+overAt g share flow l = isOver (step (g .capacity l) share (flow l))
+
+-- (A.4) Over: how many links have step 256 under a table.
+unfoldable pub over : Network → ℕ → List ℕ → ℕ
+over g share table = count (g .links) (overAt g share (total g table))

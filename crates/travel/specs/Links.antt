@@ -4,11 +4,12 @@ use mathlib.Core.Bool.{Bool, _||_}
 use mathlib.Core.List.{List, [], _++_}
 use lib.ListN.{length, getD, replicate}
 use lib.Dec.{eqb, leb}
-use Rattle.theory.specs.Finite.{sum, all, tabulate}
+use Rattle.theory.specs.Finite.{sum, count, all, tabulate}
 use Rattle.theory.specs.Network.{Network}
-use Rattle.theory.specs.Flows.{linkTotal, balances, step, stepTime}
+use Rattle.theory.specs.Flows.{linkTotal, balances, step, stepTime, isOver}
 use Rattle.theory.specs.Cost.{linkCost}
 use Rattle.theory.specs.Study.{tail, head, capacity, network}
+use Rattle.travel.specs.declared.steps.LinkTime.{LinkTime}
 
 -- An array of 512 numbers of which the first m are f 0, .., f (m - 1) and the others 0.
 unfoldable pub padded : ℕ → (ℕ → ℕ) → List ℕ
@@ -37,6 +38,10 @@ stepBy byCapacity byShare flow = min 256 (64 * flow * byShare / shareParts * byC
 abbrev pub rowTime : List ℕ → ℕ → ℕ
 rowTime link r = stepTime (getD link 2 0) (getD link 3 0) r
 
+-- (A.4) The same with a yes or no: whether that is step 256.
+abbrev pub timed : List ℕ → ℕ → LinkTime
+timed link r = record { time = rowTime link r; over = isOver r }
+
 -- The links of a study as a network without nodes and trips.
 abbrev pub roads : List (List ℕ) → Network
 roads links = network 0 links [] []
@@ -49,6 +54,10 @@ listTime links share flows l = rowTime (getD links l []) (step (capacity links l
 unfoldable pub listCost : List (List ℕ) → ℕ → List ℕ → ℕ
 listCost links share flows =
     sum (length links) (λ l. linkCost (rowTime (getD links l [])) (capacity links l) share (getD flows l 0))
+
+-- (A.4) How many of these links have step 256.
+unfoldable pub listOver : List (List ℕ) → ℕ → List ℕ → ℕ
+listOver links share flows = count (length links) (λ l. isOver (step (capacity links l) share (getD flows l 0)))
 
 -- Two totals of each link that belong together: row 0 has S of a table and row 1 has Y of its loading.
 abbrev pub totalOf : List (List ℕ) → ℕ → ℕ

@@ -149,9 +149,9 @@ fn sums_at(
         let s = flows[TOTAL][l];
         let y = flows[LOAD][l];
         let step = step_by(curves[RECIPROCALS + l], by_share, s + j as u64 * y);
-        let time = time_at(links[l], step, curves);
-        loaded += y * time;
-        spent += s * time;
+        let link = time_at(links[l], step, curves);
+        loaded += y * link.time;
+        spent += s * link.time;
         l += 1;
     }
     let loaded = share as u64 * loaded;

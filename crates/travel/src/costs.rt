@@ -1,10 +1,11 @@
-// Cost: the area of each link's staircase, and the sum of times × flows behind the gap.
+// Cost, the area of each link's staircase, with the count of links past their curves (A.4); and the sum of times × flows behind the gap.
 ghost use Prim.Native.Nat.{_*_, _≤_};
 ghost use mathlib.Core.Path.{_≡_};
 ghost use lib.ListN.{length, getD};
 ghost use Rattle.theory.specs.Finite.{sum};
+ghost use Rattle.theory.specs.Flows.{step, isOver};
 ghost use Rattle.theory.specs.Cost.{linkCost};
-ghost use Rattle.travel.specs.Links.{rowTime, listCost, listProduct};
+ghost use Rattle.travel.specs.Links.{rowTime, listCost, listOver, listProduct};
 ghost use Rattle.travel.specs.Ranges.{LinkFits, LinksFit, Powers, ShareFits, Within, mostFlow, mostTime};
 use crate::steps::step_of;
 use crate::steps::time_at;
@@ -12,31 +13,53 @@ use theory::CAPACITY;
 use theory::FREE_TIME;
 use theory::RISE;
 
-// The cost of the links with the flows of an array, at a share.
-pub fn cost(links: &[[u16; 6]], flows: &[u64; 512], share: u32, curves: &[u64; 769]) -> u64
+// The cost of links and how many of them are over.
+pub struct Costs {
+    pub cost: u64,
+    pub over: u32,
+}
+
+// The area of a link's staircase and whether the link is over.
+struct LinkCost {
+    area: u64,
+    over: bool,
+}
+
+// The cost of the links with the flows of an array, at a share, and how many of them have step 256.
+pub fn cost(links: &[[u16; 6]], flows: &[u64; 512], share: u32, curves: &[u64; 769]) -> Costs
     requires { ⌜ LinksFit (now links) × ShareFits share × Within (length (now links)) mostFlow (now flows) ⌝ }
     requires { ⌜ Powers (now curves) ⌝ }
-    ensures { λ r. ⌜ r ≡ listCost (now (links .entry)) share (now (flows .entry)) ⌝ }
+    ensures { λ r. ⌜ r .cost ≡ listCost (now (links .entry)) share (now (flows .entry)) ⌝ }
+    ensures { λ r. ⌜ r .over ≡ listOver (now (links .entry)) share (now (flows .entry)) ⌝ }
 {
-    let mut area = 0;
+    let mut cost = 0;
+    let mut over = 0;
     let mut l = 0;
     while l < links.len() {
-        area += link_cost(links[l], share, flows[l], curves);
+        let link = link_cost(links[l], share, flows[l], curves);
+        cost += link.area;
+        over += link.over as u32;
         l += 1;
     }
-    area
+    Costs { cost, over }
 }
 
 // The area of a link's staircase from 0 to 64·S: the treads below the step, each c·W wide, and what is
 // left at the height of the step.
-fn link_cost(link: [u16; 6], share: u32, flow: u64, curves: &[u64; 769]) -> u64
+fn link_cost(link: [u16; 6], share: u32, flow: u64, curves: &[u64; 769]) -> LinkCost
     requires { ⌜ LinkFits link × ShareFits share × (flow ≤ mostFlow) × Powers (now curves) ⌝ }
-    ensures { λ r. ⌜ (r ≡ linkCost (rowTime link) (getD link 4 0) share flow) × (r ≤ 64 * flow * mostTime) ⌝ }
+    ensures { λ r. ⌜ (r .area ≡ linkCost (rowTime link) (getD link 4 0) share flow) × (r .area ≤ 64 * flow * mostTime) ⌝ }
+    ensures { λ r. ⌜ r .over ≡ isOver (step (getD link 4 0) share flow) ⌝ }
 {
     let width = link[CAPACITY] as u64 * share as u64;
     let step = step_of(link[CAPACITY], share, flow);
     let whole = heights_below(link, step, curves) * width;
-    whole + time_at(link, step, curves) * (64 * flow - step * width)
+    let here = time_at(link, step, curves);
+    let area = whole + here.time * (64 * flow - step * width);
+    LinkCost {
+        area,
+        over: here.over,
+    }
 }
 
 // The sum of the heights of the treads below a step. A power below the 256th has 32 bits, so the cast

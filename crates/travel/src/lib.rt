@@ -10,9 +10,11 @@ mod table;
 
 pub use balance::row_balances;
 pub use choice::chosen;
+pub use costs::Costs;
 pub use costs::cost;
 pub use costs::product;
 pub use reciprocals::put_reciprocals;
+pub use steps::LinkTime;
 pub use steps::link_time;
 pub use steps::put_powers;
 pub use steps::times;

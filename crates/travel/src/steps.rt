@@ -3,11 +3,17 @@ ghost use Prim.Native.Nat.{_≤_};
 ghost use mathlib.Core.Path.{_≡_};
 ghost use lib.ListN.{length, getD};
 ghost use Rattle.theory.specs.Flows.{step};
-ghost use Rattle.travel.specs.Links.{padded, rowTime, listTime};
+ghost use Rattle.travel.specs.Links.{padded, timed, listTime};
 ghost use Rattle.travel.specs.Ranges.{LinkFits, LinksFit, Powers, ShareFits, Within, Clear, TimesFit, mostFlow, mostTime};
 use theory::CAPACITY;
 use theory::FREE_TIME;
 use theory::RISE;
+
+// The time of a link, and whether step 256 was reached: it has then run onto the level part of its curve (A.4).
+pub struct LinkTime {
+    pub time: u64,
+    pub over: bool,
+}
 
 // Step r: the smaller of 256 and floor(64·S / (c·W)).
 pub fn step_of(capacity: u16, share: u32, flow: u64) -> u64
@@ -35,18 +41,22 @@ pub fn put_powers(curves: &mut [u64; 769])
     }
 }
 
-// Time at a step: a + floor(b·r⁴ / 2²⁴).
-pub fn time_at(link: [u16; 6], step: u64, curves: &[u64; 769]) -> u64
+// Time at a step, a + floor(b·r⁴ / 2²⁴), and whether that is step 256. Every time of a link with its yes or no comes from here.
+pub fn time_at(link: [u16; 6], step: u64, curves: &[u64; 769]) -> LinkTime
     requires { ⌜ LinkFits link × (step ≤ 256) × Powers (now curves) ⌝ }
-    ensures { λ r. ⌜ (r ≡ rowTime link step) × (r ≤ mostTime) ⌝ }
+    ensures { λ r. ⌜ (r ≡ timed link step) × (r .time ≤ mostTime) ⌝ }
 {
-    link[FREE_TIME] as u64 + link[RISE] as u64 * curves[step as usize] / 16777216
+    let time = link[FREE_TIME] as u64 + link[RISE] as u64 * curves[step as usize] / 16777216;
+    LinkTime {
+        time,
+        over: step == 256,
+    }
 }
 
-// Time of a link with a flow, at a share.
-pub fn link_time(link: [u16; 6], share: u32, flow: u64, curves: &[u64; 769]) -> u64
+// Time of a link with a flow, at a share, and whether step 256 was reached.
+pub fn link_time(link: [u16; 6], share: u32, flow: u64, curves: &[u64; 769]) -> LinkTime
     requires { ⌜ LinkFits link × ShareFits share × (flow ≤ mostFlow) × Powers (now curves) ⌝ }
-    ensures { λ r. ⌜ (r ≡ rowTime link (step (getD link 4 0) share flow)) × (r ≤ mostTime) ⌝ }
+    ensures { λ r. ⌜ (r ≡ timed link (step (getD link 4 0) share flow)) × (r .time ≤ mostTime) ⌝ }
 {
     time_at(link, step_of(link[CAPACITY], share, flow), curves)
 }
@@ -67,8 +77,8 @@ pub fn times(
 {
     let mut l = 0;
     while l < links.len() {
-        let time = link_time(links[l], share, flows[l], curves);
-        times[l] = time as u32;
+        let link = link_time(links[l], share, flows[l], curves);
+        times[l] = link.time as u32;
         l += 1;
     }
 }

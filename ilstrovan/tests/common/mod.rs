@@ -130,7 +130,7 @@ impl Calls for Proved {
         let file = file.guarded.numbers();
         let mut lent = guarded_table(table);
         let flows = lent.numbers_mut();
-        let mut answer = guarded_answer::<4>();
+        let mut answer = guarded_answer::<5>();
         let refusal = unsafe {
             sys::ilstrovan_pass(
                 file.as_ptr(),
@@ -142,13 +142,14 @@ impl Calls for Proved {
             )
         };
         table.copy_from_slice(lent.open());
-        let [outcome, gap, cost, share] = opened(&answer);
+        let [outcome, gap, cost, share, over] = opened(&answer);
         PassAnswer {
             refusal,
             outcome: narrow(outcome),
             gap,
             cost,
             share: narrow(share),
+            over: narrow(over),
         }
     }
 
@@ -157,7 +158,7 @@ impl Calls for Proved {
         let file = file.guarded.numbers();
         let mut lent = guarded_table(table);
         let flows = lent.numbers_mut();
-        let mut answer = guarded_answer::<5>();
+        let mut answer = guarded_answer::<6>();
         let refusal = unsafe {
             sys::ilstrovan_run(
                 file.as_ptr(),
@@ -170,7 +171,7 @@ impl Calls for Proved {
             )
         };
         table.copy_from_slice(lent.open());
-        let [ending, judged, share, gap, cost] = opened(&answer);
+        let [ending, judged, share, gap, cost, over] = opened(&answer);
         RunAnswer {
             refusal,
             ending: narrow(ending),
@@ -178,6 +179,7 @@ impl Calls for Proved {
             share: narrow(share),
             gap,
             cost,
+            over: narrow(over),
         }
     }
 
@@ -186,7 +188,7 @@ impl Calls for Proved {
         let file = file.guarded.numbers();
         let lent = guarded_table(table);
         let flows = lent.numbers();
-        let mut answer = guarded_answer::<2>();
+        let mut answer = guarded_answer::<3>();
         let refusal = unsafe {
             sys::ilstrovan_audit(
                 file.as_ptr(),
@@ -198,8 +200,13 @@ impl Calls for Proved {
             )
         };
         assert!(lent.open() == table, "an audit changed the table");
-        let [gap, cost] = opened(&answer);
-        AuditAnswer { refusal, gap, cost }
+        let [gap, cost, over] = opened(&answer);
+        AuditAnswer {
+            refusal,
+            gap,
+            cost,
+            over: narrow(over),
+        }
     }
 
     fn page(&self, file: &[u8], table: &[u32], share: u32, page: &mut [u8]) -> u8 {

@@ -1,5 +1,6 @@
-//! The definitions of document 01 and of requests A.1 and A.2 of document 02,
-//! word for word and by brute force, in whole numbers of 128 bits with a sign.
+//! The definitions of document 01 and of requests A.1, A.2 and A.4 of document
+//! 02, word for word and by brute force, in whole numbers of 128 bits with a
+//! sign.
 
 use second::stream::Calls;
 use second::{AuditAnswer, PassAnswer, RunAnswer};
@@ -259,16 +260,30 @@ fn time_of_step(link: &Link, r: Whole) -> Whole {
     link.a + link.b * r * r * r * r / 16_777_216
 }
 
-/// "Step r = the smaller of 256 and floor(64·S / (c·W))."
-fn time(link: &Link, s: Whole, w: Whole) -> Whole {
+/// "Step r = the smaller of 256 and floor(64·S / (c·W))." "The time of a link
+/// now comes with a yes or no: step 256 was reached."
+fn time(link: &Link, s: Whole, w: Whole) -> (Whole, bool) {
     let r = (64 * s / (link.c * w)).min(256);
-    time_of_step(link, r)
+    (time_of_step(link, r), r == 256)
 }
 
 fn times(study: &Study, totals: &[Whole], w: Whole) -> Vec<Whole> {
     (0..study.m)
-        .map(|l| time(&study.links[l], totals[l], w))
+        .map(|l| time(&study.links[l], totals[l], w).0)
         .collect()
+}
+
+/// "how many links have run onto the level part"
+fn over(study: &Study, table: &Table, w: Whole) -> u32 {
+    let totals = totals(study, table);
+    let mut count = 0;
+    for (link, &s) in study.links.iter().zip(&totals) {
+        let (_, reached) = time(link, s, w);
+        if reached {
+            count += 1;
+        }
+    }
+    count
 }
 
 /// "The distance from j to s is the least sum of link times over paths, 0
@@ -388,7 +403,7 @@ fn moved(study: &Study, table: &Table, w: Whole) -> Option<(Table, Whole)> {
     // which the sum of d × (time at flow S + j·Y, share W + j) is at most 0."
     for j in (1..=(1_024 - w).min(64)).rev() {
         let sum: Whole = (0..study.m)
-            .map(|l| d[l] * time(&study.links[l], s[l] + j * y[l], w + j))
+            .map(|l| d[l] * time(&study.links[l], s[l] + j * y[l], w + j).0)
             .sum();
         if sum <= 0 {
             // "If there is one, the table becomes table + j·Y and W
@@ -562,6 +577,8 @@ impl Calls for Literal {
                 gap: u64_of(gap(&study, &table, w)),
                 cost: u64_of(cost(&study, &table, w)),
                 share: u32_of(moved.map_or(w, |(_, w)| w)),
+                // "return the count for the judged table"
+                over: over(&study, &table, w),
             })
         });
         result.unwrap_or_else(|refusal| PassAnswer {
@@ -570,6 +587,7 @@ impl Calls for Literal {
             gap: 0,
             cost: 0,
             share: 0,
+            over: 0,
         })
     }
 
@@ -604,6 +622,7 @@ impl Calls for Literal {
                     share: u32_of(w),
                     gap: u64_of(gap),
                     cost: u64_of(cost(&study, &table, w)),
+                    over: over(&study, &table, w),
                 });
             }
         });
@@ -614,6 +633,7 @@ impl Calls for Literal {
             share: 0,
             gap: 0,
             cost: 0,
+            over: 0,
         })
     }
 
@@ -626,12 +646,14 @@ impl Calls for Literal {
                 refusal: 0,
                 gap: u64_of(gap(&study, &table, w)),
                 cost: u64_of(cost(&study, &table, w)),
+                over: over(&study, &table, w),
             })
         });
         result.unwrap_or_else(|refusal| AuditAnswer {
             refusal,
             gap: 0,
             cost: 0,
+            over: 0,
         })
     }
 

@@ -93,14 +93,14 @@ module _ (file table : List ℕ) {opening n : ℕ} {linkList : List (List ℕ)} 
         rw (study-is parts) (judgeable file table share (check-passed file (started .0)) (started .1) (both .1))
 
     pub audit-answers : (sums : Sums) → Audited g table share sums
-        → _≡_ {A = AuditAnswer} (record { refusal = 0; gap = sums .gap; cost = sums .cost }) (auditAnswer file table share)
-    audit-answers sums a = rw (a .gap-is, a .cost-is, network-is parts) (sym (audit-accepted file table share accepted))
+        → _≡_ {A = AuditAnswer} (record { refusal = 0; gap = sums .gap; cost = sums .cost; over = sums .over }) (auditAnswer file table share)
+    audit-answers sums a = rw (a .gap-is, a .cost-is, a .over-is, network-is parts) (sym (audit-accepted file table share accepted))
 
     module _ (p : Passed) (after : List ℕ) (on : PassedOn g table share p after) where
-      pub pass-answers : _≡_ {A = PassAnswer} (record { refusal = 0; outcome = outcomeOf (p .moved); gap = p .gap; cost = p .cost; share = p .share })
+      pub pass-answers : _≡_ {A = PassAnswer} (record { refusal = 0; outcome = outcomeOf (p .moved); gap = p .gap; cost = p .cost; share = p .share; over = p .over })
           (passAnswer file table share)
       pass-answers =
-          rw (on .moved-is, on .share-is, on .gap-is, on .cost-is, outcome-moves (moveOf g table share), network-is parts)
+          rw (on .moved-is, on .share-is, on .gap-is, on .cost-is, on .over-is, outcome-moves (moveOf g table share), network-is parts)
           (sym (pass-accepted file table share accepted))
 
       pub pass-leaves : after ≡ passTable file table share

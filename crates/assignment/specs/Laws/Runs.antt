@@ -15,10 +15,11 @@ use borrow.Author.Tests.{eqb-true, eqb-false}
 use Rattle.theory.specs.Finite.{sum}
 use Rattle.theory.specs.Network.{Network, totalTrips}
 use Rattle.theory.specs.Study.{network}
+use Rattle.theory.specs.Flows.{over}
 use Rattle.theory.specs.Cost.{cost, gap}
 use Rattle.theory.specs.Moves.{Shared, tableSize, started, move, moves, afterMoves, reaches, stops, judged, lastJudged}
 use Rattle.theory.specs.Laws.Finite.{below-suc}
-use Rattle.theory.specs.Laws.Local.{cost-same, gap-same, move-same}
+use Rattle.theory.specs.Laws.Local.{cost-same, over-same, gap-same, move-same}
 use Rattle.theory.specs.Laws.Runs.{first-table, next-moved, judged-is}
 use Rattle.calls.specs.Study.{networkOf}
 use Rattle.calls.specs.Calls.{overwritten, startNumber, runNumber, runAnswer, runTable, endingAt, shareAfter, tableAfter}
@@ -58,6 +59,9 @@ module _ (file before : List ℕ) (study : Passed file) (i : ℕ) where
 
   pub cost-lent : cost g (x .share) lent ≡ cost g (x .share) (x .table)
   cost-lent = cost-same g lent (x .table) front (x .share)
+
+  pub over-lent : over g (x .share) lent ≡ over g (x .share) (x .table)
+  over-lent = over-same g lent (x .table) front (x .share)
 
   move-lent : moveOf (networkOf file) lent (x .share) ≡ move g x
   move-lent = move-same g lent (x .table) front (x .share)
@@ -220,7 +224,7 @@ module _ (file before : List ℕ) (budget excess : ℕ) (accepted : runNumber fi
     -- What the run answers and leaves then.
     pub ended-answer : (last : Step) → Ended file before budget excess i last
         → runAnswer file before budget excess
-        ≡ endedAnswer last (i + 1) share (gap (networkOf file) share table) (cost (networkOf file) share table)
+        ≡ endedAnswer last (i + 1) share (gap (networkOf file) share table) (cost (networkOf file) share table) (over (networkOf file) share table)
     ended-answer last e =
         rw (
           run-accepted file before budget excess accepted,
@@ -231,6 +235,7 @@ module _ (file before : List ℕ) (budget excess : ℕ) (accepted : runNumber fi
           running .share-is,
           gap-lent file before run-study i,
           cost-lent file before run-study i,
+          over-lent file before run-study i,
         )
 
     pub ended-table : (last : Step) → Ended file before budget excess i last → runTable file before budget excess ≡ table
@@ -263,12 +268,13 @@ module _ (file before : List ℕ) (budget excess : ℕ) (accepted : runNumber fi
     end : Ended file before budget excess i last
     end = running-ends file before budget excess accepted limit limit-is i table share running last (sym taken) stays
 
-    pub turn-answers : (gap′ cost′ : ℕ) (answer : RunAnswer) → gap′ ≡ gap (networkOf file) share table
-        → cost′ ≡ cost (networkOf file) share after → answer ≡ endedAnswer last (i + 1) share gap′ cost′
+    pub turn-answers : (gap′ cost′ over′ : ℕ) (answer : RunAnswer) → gap′ ≡ gap (networkOf file) share table
+        → cost′ ≡ cost (networkOf file) share after → over′ ≡ over (networkOf file) share after
+        → answer ≡ endedAnswer last (i + 1) share gap′ cost′ over′
         → answer ≡ runAnswer file before budget excess
-    turn-answers gap′ cost′ answer judged-gap judged-cost e =
+    turn-answers gap′ cost′ over′ answer judged-gap judged-cost judged-over e =
         e
-        ∙ rw (judged-gap, judged-cost, turn-same)
+        ∙ rw (judged-gap, judged-cost, judged-over, turn-same)
         (sym (ended-answer file before budget excess accepted limit limit-is i table share running last end))
 
     pub turn-leaves : after ≡ runTable file before budget excess
@@ -326,13 +332,15 @@ module _ {file : List ℕ} {n : ℕ} {linkList : List (List ℕ)} {nodeList entr
         still-judgeable =
             rw (turn-same file before budget excess accepted limit limit-was i table share running (r .step) after taken left stays) turn-judgeable
 
-        pub turn-ends : {cost′ : ℕ} {answer : RunAnswer} → cost′ ≡ cost (network n linkList nodeList entries) share after →
-            answer ≡ endedAnswer (r .step) (i + 1) share (r .gap) cost′ →
+        pub turn-ends : {cost′ over′ : ℕ} {answer : RunAnswer} → cost′ ≡ cost (network n linkList nodeList entries) share after →
+            over′ ≡ over (network n linkList nodeList entries) share after →
+            answer ≡ endedAnswer (r .step) (i + 1) share (r .gap) cost′ over′ →
             (answer ≡ runAnswer file before budget excess) × (after ≡ runTable file before budget excess)
-        turn-ends {cost′} {answer} cost-is e = (
-          turn-answers file before budget excess accepted limit limit-was i table share running (r .step) after taken left stays (r .gap) cost′ answer
+        turn-ends {cost′} {over′} {answer} cost-is over-is e = (
+          turn-answers file before budget excess accepted limit limit-was i table share running (r .step) after taken left stays (r .gap) cost′ over′ answer
               (rw (← network-is parts, ← share-was) (turned .gap-is))
               (rw (← network-is parts) cost-is)
+              (rw (← network-is parts) over-is)
               e,
           turn-leaves file before budget excess accepted limit limit-was i table share running (r .step) after taken left stays,
         )

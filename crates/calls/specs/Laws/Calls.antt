@@ -8,6 +8,7 @@ use borrow.Author.Tests.{ne-eqb}
 use lib.Dec.{eqb}
 use native.Mathlib.Omega.{arith}
 use Rattle.theory.specs.Network.{Network}
+use Rattle.theory.specs.Flows.{over}
 use Rattle.theory.specs.Cost.{cost, gap}
 use Rattle.theory.specs.Moves.{Shared, started, move, judged, lastJudged}
 use Rattle.calls.specs.Study.{networkOf}
@@ -23,13 +24,13 @@ use Rattle.calls.specs.Calls.{runNumber, endingAt, runAnswer, runTable, 
 
 -- A refusal: its number, and 0 in every other field.
 abbrev pub refusedAudit : ℕ → AuditAnswer
-refusedAudit number = record { refusal = number; gap = 0; cost = 0 }
+refusedAudit number = record { refusal = number; gap = 0; cost = 0; over = 0 }
 
 abbrev pub refusedPass : ℕ → PassAnswer
-refusedPass number = record { refusal = number; outcome = outcome.Refused; gap = 0; cost = 0; share = 0 }
+refusedPass number = record { refusal = number; outcome = outcome.Refused; gap = 0; cost = 0; share = 0; over = 0 }
 
 abbrev pub refusedRun : ℕ → RunAnswer
-refusedRun number = record { refusal = number; ending = ending.Refused; judged = 0; share = 0; gap = 0; cost = 0 }
+refusedRun number = record { refusal = number; ending = ending.Refused; judged = 0; share = 0; gap = 0; cost = 0; over = 0 }
 
 -- Lent memory after a call, by its number.
 pub kept : (number : ℕ) (after before : List ℕ) → (number ≡ 0 → ⊥) → unlessRefused number after before ≡ before
@@ -46,7 +47,7 @@ module _ (file table : List ℕ) (share : ℕ) where
   nextOf = move (networkOf file) judgedTable
 
   -- An audit and a pass that are accepted,
-  pub audit-accepted : tableNumber file table share ≡ 0 → auditAnswer file table share ≡ record { refusal = 0; gap = gap (networkOf file) share table; cost = cost (networkOf file) share table }
+  pub audit-accepted : tableNumber file table share ≡ 0 → auditAnswer file table share ≡ record { refusal = 0; gap = gap (networkOf file) share table; cost = cost (networkOf file) share table; over = over (networkOf file) share table }
   unfolding auditAnswer
   audit-accepted e = rw (e, auditAnswer)
 
@@ -58,6 +59,7 @@ module _ (file table : List ℕ) (share : ℕ) where
         gap = gap (networkOf file) share table;
         cost = cost (networkOf file) share table;
         share = shareAfter share nextOf;
+        over = over (networkOf file) share table;
       }
   unfolding passAnswer
   pass-accepted e = rw (e, passAnswer)
@@ -102,6 +104,7 @@ module _ (file table : List ℕ) (budget excess : ℕ) where
         share = last .share;
         gap = gap (networkOf file) (last .share) (last .table);
         cost = cost (networkOf file) (last .share) (last .table);
+        over = over (networkOf file) (last .share) (last .table);
       }
   unfolding runAnswer
   run-accepted e = rw (e, runAnswer)

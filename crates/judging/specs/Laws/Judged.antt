@@ -9,12 +9,12 @@ use mathlib.Core.Logic.{⊎-elim}
 use lib.ListN.{length, getD, set, replicate, length-set, List·getD-eq-default}
 use lib.Seq.{getD-set-same, getD-set-other}
 use lib.Dec.{leb}
-use Rattle.theory.specs.Flows.{linkTotal, total, step, stepTime, times}
+use Rattle.theory.specs.Flows.{linkTotal, total, step, stepTime, times, isOver, over}
 use Rattle.theory.specs.Routes.{loading}
 use Rattle.theory.specs.Cost.{linkCost, cost, leastTimes, spentTimes, gap}
 use Rattle.theory.specs.Moves.{movedTimes, qualifies, chosen, added, doubled, moves}
 use Rattle.theory.specs.Laws.Cases.{true-false}
-use Rattle.theory.specs.Laws.Finite.{order, sum-cong, largest-cong}
+use Rattle.theory.specs.Laws.Finite.{order, sum-cong, count-cong, largest-cong}
 use Rattle.theory.specs.Laws.Times.{length-times, times-at}
 use Rattle.theory.specs.Laws.Tables.{totalsFit-all}
 use Rattle.theory.specs.Laws.Routings.{routing-consistent}
@@ -25,7 +25,7 @@ use Rattle.theory.specs.Laws.Moves.{chosenOf}
 use Rattle.theory.specs.Laws.Local.{moveBy, move-by}
 use Rattle.theory.specs.Study.{freeTime, rise, capacity, network}
 use Rattle.calls.specs.Calls.{tableAfter}
-use Rattle.travel.specs.Links.{padded, roads, listTime, listCost, listProduct, totalOf, loadOf}
+use Rattle.travel.specs.Links.{padded, roads, listTime, listCost, listOver, listProduct, totalOf, loadOf}
 use Rattle.travel.specs.Ranges.{Within, ShareFits, TimesFit, MoveFits, mostFlow}
 use Rattle.travel.specs.Laws.Padded.{length-padded, getD-padded, getD-padded-rest, padded-clear, zeros-clear}
 use Rattle.search.specs.Groups.{leastOver}
@@ -155,6 +155,10 @@ module _ {d : Study} {table : List ℕ} {share : ℕ} (judgeable : Judgeable d t
     cost-is =
         sum-cong (linkCount d) _ _ (λ l h.
         ap (linkCost (stepTime (freeTime (d .links) l) (rise (d .links) l)) (capacity (d .links) l) share) (total-at l h))
+
+    pub over-is : listOver (d .links) share totals ≡ over (networkIn d) share table
+    unfolding listOver over network
+    over-is = count-cong (linkCount d) _ _ (λ l h. ap (λ flow. isOver (step (capacity (d .links) l) share flow)) (total-at l h))
 
     -- The times at them stand in an array.
     module _ {times′ : List ℕ}

@@ -14,7 +14,7 @@ use lib.Seq.{getD-append-add}
 use lib.Dec.{eqb}
 use lib.Arith.{digits-lt}
 use borrow.Author.Tests.{eq-eqb, ne-eqb}
-use Rattle.theory.specs.Finite.{sum, all, first, largest, tabulate, rows}
+use Rattle.theory.specs.Finite.{sum, count, all, first, largest, tabulate, rows}
 
 -- A number below n + 1 is below n, or is n.
 pub below-suc : (n i : ℕ) → i < suc n → (i < n) ⊎ (i ≡ n)
@@ -120,6 +120,21 @@ sum-pick (suc n) f k h = ⊎-elim (λ p. below p (sum-pick n f k p)) here (below
         let b : cond (eqb k n) (f n) 0 ≡ f n = rw (eq-eqb k n e) in
         let c : f k ≡ f n = ap f e in
         omega arith
+
+-- Counts.
+
+pub one-most : (b : Bool) → cond b 1 0 ≤ 1
+one-most true = omega arith
+one-most false = omega arith
+
+pub count-most : (n : ℕ) (t : ℕ → Bool) → count n t ≤ n
+count-most n t = omega (arith, sum-bound n 1 (λ i. cond (t i) 1 0) (λ i p. one-most (t i)))
+
+pub count-none : (n : ℕ) (t : ℕ → Bool) → ((i : ℕ) → i < n → t i ≡ false) → count n t ≡ 0
+count-none n t h = sum-zero n (λ i. cond (t i) 1 0) (λ i p. rw (h i p))
+
+pub count-cong : (n : ℕ) (t u : ℕ → Bool) → ((i : ℕ) → i < n → t i ≡ u i) → count n t ≡ count n u
+count-cong n t u h = sum-cong n (λ i. cond (t i) 1 0) (λ i. cond (u i) 1 0) (λ i p. rw (h i p))
 
 -- Tests.
 

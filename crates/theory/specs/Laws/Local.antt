@@ -1,5 +1,5 @@
--- Every definition on a table reads its first p·m numbers only: two tables that agree there have the same totals, times, cost, gap and
--- moves, and pass the same questions.
+-- Every definition on a table reads its first p·m numbers only: two tables that agree there have the same totals, times, cost, links over, gap
+-- and moves, and pass the same questions.
 use Prim.Native.Nat.{ℕ, _+_, _*_, _<_, min, _-_}
 use mathlib.Core.Path.{_≡_, refl, sym, _∙_, ap, ap₂}
 use mathlib.Core.Bool.{Bool, true, false, _||_, cond}
@@ -10,12 +10,12 @@ use lib.Arith.{digits-lt}
 use lib.Dec.{leb, eqb}
 use Rattle.theory.specs.Finite.{sum, all, largest, tabulate}
 use Rattle.theory.specs.Network.{Network, totalTrips}
-use Rattle.theory.specs.Flows.{entry, linkTotal, total, sumAt, balances, conserves, Carries, totalsFit, step, timeAt, times}
+use Rattle.theory.specs.Flows.{entry, linkTotal, total, sumAt, balances, conserves, Carries, totalsFit, step, timeAt, times, isOver, over}
 use Rattle.theory.specs.Routes.{loading}
 use Rattle.theory.specs.Cost.{linkCost, cost, leastTimes, spentTimes, gap}
 use Rattle.theory.specs.Moves.{Shared, tableSize, movedTimes, qualifies, chosen, added, doubled, move}
 use Rattle.theory.specs.Laws.Moves.{loadingOf, chosenOf}
-use Rattle.theory.specs.Laws.Finite.{sum-cong, all-cong, tabulate-cong, largest-cong}
+use Rattle.theory.specs.Laws.Finite.{sum-cong, count-cong, all-cong, tabulate-cong, largest-cong}
 
 -- The choice of j depends on the flows of the links alone.
 pub chosen-cong : (g : Network) (share : ℕ) (s s′ y : ℕ → ℕ) → ((l : ℕ) → l < g .links → s l ≡ s′ l) → chosen g share s y ≡ chosen g share s′ y
@@ -84,6 +84,10 @@ module _ (g : Network) (x y : List ℕ) (same : (i : ℕ) → i < tableSize g �
   pub cost-same : (share : ℕ) → cost g share x ≡ cost g share y
   unfolding cost
   cost-same share = sum-cong (g .links) _ _ (λ l p. ap (linkCost (g .height l) (g .capacity l) share) (total-same l p))
+
+  pub over-same : (share : ℕ) → over g share x ≡ over g share y
+  unfolding over
+  over-same share = count-cong (g .links) _ _ (λ l p. ap (λ v. isOver (step (g .capacity l) share v)) (total-same l p))
 
   pub spentTimes-same : (t : List ℕ) → spentTimes g t x ≡ spentTimes g t y
   unfolding spentTimes

@@ -1,13 +1,18 @@
 -- Steps and times of links.
-use Prim.Native.Nat.{ℕ, _*_, _/_, _^_, _≤_, _<_}
-use native.Mathlib.Nat.{le-min, le-trans, min-le-left, min-le-right, le-div-iff-mul-le, le-of-mul-le-mul-right, mul-le-mul-left, mul-le-mul-right, pow-le-pow-left, one-le-mul, div-mul-le-self}
+use Prim.Native.Nat.{ℕ, _*_, _/_, _^_, _≤_, _<_, min}
+use native.Mathlib.Nat.{le-min, le-trans, min-le-left, min-le-right, min-eq-left, le-div-iff-mul-le, le-of-mul-le-mul-right, mul-le-mul-left, mul-le-mul-right, pow-le-pow-left, one-le-mul, div-mul-le-self, zero-div}
 use native.Mathlib.Omega.{arith}
 use mathlib.Core.Path.{_≡_}
+use mathlib.Core.Bool.{true, false}
+use mathlib.Core.Logic.{_↔_}
 use mathlib.Core.List.{List}
 use lib.ListN.{getD, length}
+use lib.Dec.{leb}
+use borrow.Author.Tests.{eq-eqb, eqb-true, leb-true, le-leb}
 use Rattle.theory.specs.Network.{Network}
-use Rattle.theory.specs.Flows.{total, step, stepTime, timeAt, times}
+use Rattle.theory.specs.Flows.{total, step, stepTime, timeAt, times, isOver}
 use Rattle.theory.specs.Laws.Finite.{getD-tabulate, length-tabulate}
+use Rattle.theory.specs.Laws.Cases.{same-test}
 
 -- The list of times has an entry for every link,
 pub length-times : (g : Network) (share : ℕ) (table : List ℕ) → length (times g share table) ≡ g .links
@@ -60,3 +65,26 @@ top-time a b ha hb = omega arith
 
 pub stepTime-most : (a b r : ℕ) → a ≤ 16383 → b ≤ 16383 → r ≤ 256 → stepTime a b r ≤ 16383 * 257
 stepTime-most a b r ha hb hr = le-trans (stepTime-mono a b hr) (top-time a b ha hb)
+
+-- (A.4) Step 256 is reached exactly where 64·S is at least 256·c·W,
+pub over-exactly : (c w s : ℕ) → 1 ≤ c → 1 ≤ w → (isOver (step c w s) ≡ true) ↔ (256 * (c * w) ≤ 64 * s)
+unfolding step
+over-exactly c w s hc hw =
+    let treads = le-div-iff-mul-le {k = c * w} {x = 256} {y = 64 * s} (one-le-mul hc hw) in (
+      λ e. treads .0 (omega (arith, eqb-true (min 256 (64 * s / (c * w))) 256 e)),
+      λ h. eq-eqb (min 256 (64 * s / (c * w))) 256 (min-eq-left (treads .1 h)),
+    )
+
+-- that is where the total, in parts of a trip as the capacity's c·W, is at least four times the capacity.
+pub over-fourfold : (c w s : ℕ) → 1 ≤ c → 1 ≤ w → isOver (step c w s) ≡ leb (4 * (c * w)) s
+over-fourfold c w s hc hw =
+    let exactly = over-exactly c w s hc hw in
+    same-test (isOver (step c w s)) (leb (4 * (c * w)) s) (
+      λ e. le-leb (4 * (c * w)) s (omega (arith, exactly .0 e)),
+      λ e. exactly .1 (omega (arith, leb-true (4 * (c * w)) s e)),
+    )
+
+-- An empty link has step 0.
+pub over-empty : (c w : ℕ) → isOver (step c w 0) ≡ false
+unfolding step
+over-empty c w = rw (zero-div (c * w))

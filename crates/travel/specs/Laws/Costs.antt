@@ -3,14 +3,15 @@ use Prim.Native.Nat.{ℕ, _+_, _*_, _-_, _≤_, _<_}
 use native.Mathlib.Nat.{mul-le-mul, mul-le-mul-right, sub-le}
 use native.Mathlib.Omega.{arith}
 use mathlib.Core.Path.{_≡_, refl, sym}
+use mathlib.Core.Bool.{Bool, cond}
 use mathlib.Core.List.{List, []}
 use lib.ListN.{length, getD}
-use Rattle.theory.specs.Finite.{sum}
+use Rattle.theory.specs.Finite.{sum, count}
 use Rattle.theory.specs.Study.{capacity}
-use Rattle.theory.specs.Flows.{step}
+use Rattle.theory.specs.Flows.{step, isOver}
 use Rattle.theory.specs.Cost.{linkCost}
-use Rattle.theory.specs.Laws.Finite.{sum-suc, sum-bound}
-use Rattle.travel.specs.Links.{rowTime, listCost, listProduct}
+use Rattle.theory.specs.Laws.Finite.{sum-suc, sum-bound, count-most}
+use Rattle.travel.specs.Links.{rowTime, listCost, listOver, listProduct}
 use Rattle.travel.specs.Ranges.{LinkFits, LinksFit, Within, mostTime, mostFlow}
 use Rattle.travel.specs.Laws.Times.{step-within, rowTime-most}
 use Rattle.travel.specs.Laws.Staircase.{linkCost-treads, linkCost-most}
@@ -53,7 +54,7 @@ module _ (times flows : List ℕ) where
   product-most m time flow ht hf =
       sum-bound m (time * flow) (λ i. getD times i 0 * getD flows i 0) (λ i p. mul-le-mul (ht i p) (hf i p))
 
--- Costs.
+-- Costs, and links that are over.
 module _ (links : List (List ℕ)) (share : ℕ) (flows : List ℕ) where
   -- The cost of one link, and of the first l.
   abbrev pub costAt : ℕ → ℕ
@@ -72,6 +73,24 @@ module _ (links : List (List ℕ)) (share : ℕ) (flows : List ℕ) where
   pub cost-all : costTo (length links) ≡ listCost links share flows
   unfolding listCost
   cost-all = refl
+
+  -- Whether one link is over, and how many of the first l.
+  abbrev pub overAt : ℕ → Bool
+  overAt l = isOver (step (capacity links l) share (getD flows l 0))
+
+  abbrev pub overTo : ℕ → ℕ
+  overTo l = count l overAt
+
+  pub over-none : overTo 0 ≡ 0
+  unfolding sum
+  over-none = refl
+
+  pub over-more : (l : ℕ) → overTo (l + 1) ≡ overTo l + cond (overAt l) 1 0
+  over-more l = sum-suc l (λ i. cond (overAt i) 1 0)
+
+  pub over-all : overTo (length links) ≡ listOver links share flows
+  unfolding listOver
+  over-all = refl
 
   -- 64 × 67,107,840 × 4,210,431 for each link: for 512 links less than 2⁶⁴.
   pub cost-most : LinksFit links → 1 ≤ share → Within (length links) mostFlow flows → (l : ℕ) → l ≤ length links →

@@ -1,6 +1,6 @@
 //! The calls of an earlier build, whose static library ILSTROVAN_BEFORE names.
 //! `build.rs` renames what it exports: its `ilstrovan_run` is linked as
-//! `before_run`.
+//! `before_run`. A build from before A.4 leaves out the last number of an answer.
 
 use std::hint::black_box;
 
@@ -20,9 +20,9 @@ pub fn check(file: &[u8]) {
 }
 
 pub fn pass(file: &[u8], table: &mut [u32], share: u32) {
-    let mut answer = [0; 4];
+    let mut answer = [0; 5];
     let (bytes, size) = (file.as_ptr(), file.len());
-    // SAFETY: pointers and lengths are those of slices, and the answer has four numbers.
+    // SAFETY: pointers and lengths are those of slices, and the answer has five numbers.
     unsafe {
         sys::ilstrovan_pass(
             bytes,
@@ -37,18 +37,18 @@ pub fn pass(file: &[u8], table: &mut [u32], share: u32) {
 }
 
 pub fn run(file: &[u8], table: &mut [u32], budget: u32, excess: u16) {
-    let mut answer = [0; 5];
+    let mut answer = [0; 6];
     let (bytes, size) = (file.as_ptr(), file.len());
     let (flows, length) = (table.as_mut_ptr(), table.len());
-    // SAFETY: as in `pass`, and the answer has five numbers.
+    // SAFETY: as in `pass`, and the answer has six numbers.
     unsafe { sys::ilstrovan_run(bytes, size, flows, length, budget, excess, &mut answer) };
     black_box(answer);
 }
 
 pub fn audit(file: &[u8], table: &[u32], share: u32) {
-    let mut answer = [0; 2];
+    let mut answer = [0; 3];
     let (bytes, size) = (file.as_ptr(), file.len());
-    // SAFETY: as in `pass`, and the answer has two numbers.
+    // SAFETY: as in `pass`, and the answer has three numbers.
     unsafe { sys::ilstrovan_audit(bytes, size, table.as_ptr(), table.len(), share, &mut answer) };
     black_box(answer);
 }

@@ -134,10 +134,12 @@ fn agree(study: &Study, started: &[u32]) -> u32 {
     let run = second::run(file, &mut table, 1_024, 0);
     let proved = ilstrovan::run(file, &mut table, 1_024, 0).expect("accepted");
     assert_eq!((proved.judged, proved.gap), (run.judged, run.gap));
+    assert_eq!((proved.cost, proved.over), (run.cost, run.over));
 
     let audit = second::audit(file, started, 1);
     let proved = ilstrovan::audit(file, started, 1).expect("accepted");
     assert_eq!((proved.gap, proved.cost), (audit.gap, audit.cost));
+    assert_eq!(proved.over, audit.over);
 
     let (mut lines, mut proved) = (study.paper(), study.paper());
     assert_eq!(second::page(file, started, 1, &mut lines), 0);

@@ -20,7 +20,7 @@ use Rattle.calls.specs.Laws.Questions.{run-both}
 use Rattle.judging.specs.Study.{Study, studyOf, Judgeable}
 use Rattle.judging.specs.Judged.{Known, Lent, TotalsOf}
 use Rattle.judging.specs.Laws.Study.{links-fit, chainable}
-use Rattle.judging.specs.Laws.Judged.{zeros-lent, totals-set, totals-lent, share-fits, holds, totals-within, cost-is}
+use Rattle.judging.specs.Laws.Judged.{zeros-lent, totals-set, totals-lent, share-fits, holds, totals-within, cost-is, over-is}
 use Rattle.assignment.specs.Runs.{Running, Begun}
 use Rattle.assignment.specs.Laws.Parts.{network-is, parts-sized}
 use Rattle.assignment.specs.Laws.Answers.{start-holds}
@@ -233,7 +233,8 @@ returns c =
     turn-ends (given .pre .0) _ _ (given .args .excess) (given .pre .1) _ _ _ _ (limit-there (counted-of loop)) (under-way loop) refl refl refl
     (turn .turn-table .ensures .0)
     (stays matched)
-    (c .before .cost .ensures ∙ cost-is (still matched) (left .totals-are))
+    (c .before .cost .ensures .0 ∙ cost-is (still matched) (left .totals-are))
+    (c .before .cost .ensures .1 ∙ over-is (still matched) (left .totals-are))
     (c .ended .ensures)
 
 wrapping-sub-u32-requires : tie.Need-wrapping-sub-u32-requires Inv-loop μ-loop

@@ -6,7 +6,7 @@ use lib.ListN.{length, length-replicate}
 use borrow.Author.Needs.{needs}
 use Rattle.travel.specs.Laws.Padded.{zeros-clear}
 use Rattle.judging.specs.Laws.Study.{links-fit, chainable, searchable}
-use Rattle.judging.specs.Laws.Judged.{share-fits, totals-within, cost-is, least-fits, defined-gap}
+use Rattle.judging.specs.Laws.Judged.{share-fits, totals-within, cost-is, over-is, least-fits, defined-gap}
 use Rattle.judging.proofs.audit.audit_table.Statement.{statement}
 use Rattle.judging.proofs.audit.audit_table.Tie as tie
 
@@ -87,7 +87,8 @@ returns c = let spent = c .before .before in
       gap-is =
           ap₂ (λ a b. a - share * b) (spent .product .ensures) (found .least-times .ensures)
           ∙ defined-gap given (of-powers at .pre .1) (timed .times2 .ensures .0) (timed .times2 .ensures .1);
-      cost-is = c .cost .ensures ∙ cost-is given (of-powers at .pre .1);
+      cost-is = c .cost .ensures .0 ∙ cost-is given (of-powers at .pre .1);
+      over-is = c .cost .ensures .1 ∙ over-is given (of-powers at .pre .1);
     }
 
 pub audit-table-spec : {M : Type 1} → statement M

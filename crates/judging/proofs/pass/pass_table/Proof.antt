@@ -9,11 +9,11 @@ use Rattle.calls.specs.Calls.{shareAfter, tableAfter}
 use Rattle.judging.specs.Study.{studyOf}
 use Rattle.judging.specs.Judged.{TotalsOf}
 use Rattle.judging.specs.Laws.Study.{links-fit, chainable}
-use Rattle.judging.specs.Laws.Judged.{zeros-lent, share-fits, totals-within, cost-is, totals-are, gap-is, gap-fits, move-fits, movable, move-is, moves-is}
+use Rattle.judging.specs.Laws.Judged.{zeros-lent, share-fits, totals-within, cost-is, over-is, totals-are, gap-is, gap-fits, move-fits, movable, move-is, moves-is}
 use Rattle.judging.proofs.pass.pass_table.Statement.{statement}
 use Rattle.judging.proofs.pass.pass_table.Tie as tie
 
--- The places at which powers and reciprocals, what judging computes, the gap, the cost and j are there, each with the one before.
+-- The places at which powers and reciprocals, what judging computes, the gap, j and the moved table are there, each with the one before.
 abbrev start : tie.After-put-reciprocals → tie.Start
 start c = c .before .before .before .before .before .before .before .before
 
@@ -23,11 +23,11 @@ of-judge c = c .before .before .before .before .before .before .before
 abbrev of-gap : tie.After-gap-of → tie.After-judge
 of-gap c = c .before .before .before
 
-abbrev of-cost : tie.After-cost → tie.After-gap-of
-of-cost c = c .before .before .before
-
-abbrev of-chosen : tie.After-chosen → tie.After-cost
+abbrev of-chosen : tie.After-chosen → tie.After-gap-of
 of-chosen c = c .before .before .before
+
+abbrev of-moved : tie.After-move-table → tie.After-chosen
+of-moved c = c .before .before .before .before .before
 
 -- The totals that are lent.
 totals-were :
@@ -68,38 +68,37 @@ gap-of-requires c κs = let judged = c .before .before in
     let begin = start (of-judge judged) in
     gap-fits (begin .pre .0) (judged .judge .ensures) (totals-were begin)
 
-index-1-cost : tie.Need-index-1-cost
-index-1-cost c = search needs
-
-cost-requires : tie.Need-cost-requires
-cost-requires c κs = let judged = of-gap (c .before .before) in
-    let at = of-judge judged in
-    let given = start at .pre .0 in
-    ((links-fit (given .ready), share-fits given, totals-within given (totals-are given (judged .judge .ensures) (totals-were (start at)))), at .put-reciprocals .ensures .powers)
-
 chosen-requires : tie.Need-chosen-requires
-chosen-requires c κs = let judged = of-gap (of-cost (c .before .before)) in
+chosen-requires c κs = let judged = of-gap (c .before .before) in
     let at = of-judge judged in
     (move-fits (start at .pre .0) (judged .judge .ensures) (totals-were (start at)), at .put-reciprocals .ensures)
 
 can-move-requires : tie.Need-can-move-requires
-can-move-requires c κs = start (of-judge (of-gap (of-cost (of-chosen c)))) .pre .0 .share-most
+can-move-requires c κs = start (of-judge (of-gap (of-chosen c))) .pre .0 .share-most
 
 move-table-requires : tie.Need-move-table-requires
 move-table-requires c κs = let chose = c .before .before .before .before in
-    let judged = of-gap (of-cost (of-chosen chose)) in
+    let judged = of-gap (of-chosen chose) in
     let begin = start (of-judge judged) in
     movable (begin .pre .0) (judged .judge .ensures) (totals-were begin) (chose .chosen .ensures)
 
 same-length : tie.Need-same-length
 same-length c = search needs
 
+index-1-cost : tie.Need-index-1-cost
+index-1-cost c = search needs
+
+cost-requires : tie.Need-cost-requires
+cost-requires c κs = let judged = of-gap (of-chosen (of-moved (c .before .before .before .before))) in
+    let at = of-judge judged in
+    let given = start at .pre .0 in
+    ((links-fit (given .ready), share-fits given, totals-within given (totals-are given (judged .judge .ensures) (totals-were (start at)))), at .put-reciprocals .ensures .powers)
+
 returns : tie.Need-returns
-returns c = let moved = c .before .before in
+returns c = let moved = c .before .before .before .before .before in
     let can = moved .before .before .before .before in
     let chose = can .before in
-    let priced = of-chosen chose in
-    let gapped = of-cost priced in
+    let gapped = of-chosen chose in
     let judged = of-gap gapped in
     let begin = start (of-judge judged) in
     let judgeable = begin .pre .0 in
@@ -110,7 +109,8 @@ returns c = let moved = c .before .before in
       moved-is = can .can-move .ensures ∙ moves-is judgeable known sums (chose .chosen .ensures);
       share-is = moved .move-table .ensures .0 ∙ ap (shareAfter (begin .args .share)) next;
       gap-is = gapped .gap-of .ensures ∙ gap-is judgeable known sums;
-      cost-is = priced .cost .ensures ∙ cost-is judgeable (totals-are judgeable known sums);
+      cost-is = c .cost .ensures .0 ∙ cost-is judgeable (totals-are judgeable known sums);
+      over-is = c .cost .ensures .1 ∙ over-is judgeable (totals-are judgeable known sums);
       table-is = moved .move-table .ensures .1 ∙ ap (tableAfter (begin .args .table .now)) next;
     }
 
@@ -123,10 +123,10 @@ pass-table-spec =
     put-reciprocals-requires
     judge-requires
     gap-of-requires
-    index-1-cost
-    cost-requires
     chosen-requires
     can-move-requires
     move-table-requires
+    index-1-cost
+    cost-requires
     same-length
     returns)

@@ -60,7 +60,7 @@ array-read-put-line-2 c = search needs
 put-line-requires : tie.Need-put-line-requires Inv-loop μ-loop
 unfolding listTime
 put-line-requires c κs =
-    let timed = c .before in
+    let timed = c .before .before in
     let turn = timed .before .before .before .before in
     let pre = turn .before .before .before .pre .0 in (
       rw (timed .before .volume-of .ensures, timed .link-time .ensures .0) (pre .line _ (turn .loop-test .taken)),
@@ -77,7 +77,7 @@ loop-again : tie.Need-loop-again Inv-loop μ-loop
 unfolding rowLine listTime
 loop-again c =
     let put = c .before .before in
-    let timed = put .before .before in
+    let timed = put .before .before .before in
     let turn = timed .before .before .before .before in
     let line = rw (timed .before .volume-of .ensures, timed .link-time .ensures .0) at (put .put-line .ensures .0) in
     (omega arith, omega arith, puts.then-row _ _ (turn .before .loop .inv .2) line)

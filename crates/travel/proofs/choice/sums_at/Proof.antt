@@ -74,16 +74,16 @@ divisible c =
 -- The time that a turn works out.
 time-is : (c : tie.After-time-at Inv-loop μ-loop) (amount : ℕ → ℕ) →
     let x = at-loop c .before .before .args in
-    c .time-at .result ≡ movedAt (x .links .now) (x .share) (totalOf (x .flows .now)) (loadOf (x .flows .now)) (x .j) amount (at-loop c .loop .l)
+    c .time-at .result .time ≡ movedAt (x .links .now) (x .share) (totalOf (x .flows .now)) (loadOf (x .flows .now)) (x .j) amount (at-loop c .loop .l)
 time-is c amount =
     let at = c .before .before in
-    c .time-at .ensures .0
+    ap (λ r. r .time) (c .time-at .ensures .0)
     ∙ ap (rowTime (getD (start (at .before) .args .links .now) (at-loop c .loop .l) [])) (at .step-by .ensures .0 ∙ step-by _ _ _ (divisible (at .before)))
 
 -- After a turn each sum is that of one link more.
 turn : (c : tie.After-time-at Inv-loop μ-loop) (amount : ℕ → ℕ) (sum : ℕ) →
     sum ≡ sum-of (at-loop c .before .before) amount (at-loop c .loop .l) →
-    sum + amount (at-loop c .loop .l) * c .time-at .result ≡ sum-of (at-loop c .before .before) amount (at-loop c .loop .l + 1)
+    sum + amount (at-loop c .loop .l) * c .time-at .result .time ≡ sum-of (at-loop c .before .before) amount (at-loop c .loop .l + 1)
 turn c amount sum e =
     let l = at-loop c .loop .l in
     let x = at-loop c .before .before .args in
@@ -95,12 +95,23 @@ turn c amount sum e =
     )
 
 loaded-turn : (c : tie.After-time-at Inv-loop μ-loop) →
-    at-loop c .loop .loaded + loadOf (at-loop c .before .before .args .flows .now) (at-loop c .loop .l) * c .time-at .result ≡ sum-of (at-loop c .before .before) (loadOf (at-loop c .before .before .args .flows .now)) (at-loop c .loop .l + 1)
+    at-loop c .loop .loaded + loadOf (at-loop c .before .before .args .flows .now) (at-loop c .loop .l) * c .time-at .result .time ≡ sum-of (at-loop c .before .before) (loadOf (at-loop c .before .before .args .flows .now)) (at-loop c .loop .l + 1)
 loaded-turn c = turn c (loadOf (at-loop c .before .before .args .flows .now)) (at-loop c .loop .loaded) (at-loop c .loop .inv .1)
 
 spent-turn : (c : tie.After-time-at Inv-loop μ-loop) →
-    at-loop c .loop .spent + totalOf (at-loop c .before .before .args .flows .now) (at-loop c .loop .l) * c .time-at .result ≡ sum-of (at-loop c .before .before) (totalOf (at-loop c .before .before .args .flows .now)) (at-loop c .loop .l + 1)
+    at-loop c .loop .spent + totalOf (at-loop c .before .before .args .flows .now) (at-loop c .loop .l) * c .time-at .result .time ≡ sum-of (at-loop c .before .before) (totalOf (at-loop c .before .before .args .flows .now)) (at-loop c .loop .l + 1)
 spent-turn c = turn c (totalOf (at-loop c .before .before .args .flows .now)) (at-loop c .loop .spent) (at-loop c .loop .inv .2)
+
+-- Neither is more than it can be.
+loaded-within : (c : tie.After-time-at Inv-loop μ-loop) →
+    at-loop c .loop .loaded + loadOf (at-loop c .before .before .args .flows .now) (at-loop c .loop .l) * c .time-at .result .time ≤ 512 * (65535 * mostTime)
+loaded-within c =
+    omega (arith, loaded-turn c, loaded-most (at-loop c .before .before) (at-loop c .loop .l + 1) (omega arith))
+
+spent-within : (c : tie.After-time-at Inv-loop μ-loop) →
+    at-loop c .loop .spent + totalOf (at-loop c .before .before .args .flows .now) (at-loop c .loop .l) * c .time-at .result .time ≤ 512 * (mostFlow * mostTime)
+spent-within c =
+    omega (arith, spent-turn c, spent-most (at-loop c .before .before) (at-loop c .loop .l + 1) (omega arith))
 
 add-share-reciprocal : tie.Need-add-share-reciprocal Inv-loop μ-loop
 add-share-reciprocal c = search needs
@@ -164,16 +175,16 @@ time-at-requires c κs =
     (start turn .pre .0 .links-fit .link (loop-of turn .loop .l) (omega arith), c .before .step-by .ensures .1, start turn .pre .2 .powers)
 
 mul-loaded : tie.Need-mul-loaded Inv-loop μ-loop
-mul-loaded c = omega (arith, loaded-turn c, loaded-most (at-loop c .before .before) (at-loop c .loop .l + 1) (omega arith))
+mul-loaded c = omega (arith, loaded-within (c .before))
 
 add-loaded : tie.Need-add-loaded Inv-loop μ-loop
-add-loaded c = omega (arith, loaded-turn c, loaded-most (at-loop c .before .before) (at-loop c .loop .l + 1) (omega arith))
+add-loaded c = omega (arith, loaded-within (c .before))
 
 mul-spent : tie.Need-mul-spent Inv-loop μ-loop
-mul-spent c = omega (arith, spent-turn c, spent-most (at-loop c .before .before) (at-loop c .loop .l + 1) (omega arith))
+mul-spent c = omega (arith, spent-within (c .before .before))
 
 add-spent : tie.Need-add-spent Inv-loop μ-loop
-add-spent c = omega (arith, spent-turn c, spent-most (at-loop c .before .before) (at-loop c .loop .l + 1) (omega arith))
+add-spent c = omega (arith, spent-within (c .before .before))
 
 add-l : tie.Need-add-l Inv-loop μ-loop
 add-l c = search needs
@@ -182,7 +193,7 @@ loop-less : tie.Need-loop-less Inv-loop μ-loop
 loop-less c = search needs
 
 loop-again : tie.Need-loop-again Inv-loop μ-loop
-loop-again c = (search needs, loaded-turn c, spent-turn c)
+loop-again c = (search needs, loaded-turn (c .before .before), spent-turn (c .before .before))
 
 mul-loaded-2 : tie.Need-mul-loaded-2 Inv-loop μ-loop
 mul-loaded-2 c =

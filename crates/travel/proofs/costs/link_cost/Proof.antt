@@ -1,11 +1,12 @@
 -- `link_cost` meets its contract: what it adds up is the staircase (`treads-cost`). Assumes nothing.
 use Prim.Native.Nat.{ℕ, _+_, _*_, _-_, _≤_}
 use native.Mathlib.Omega.{arith}
-use mathlib.Core.Path.{_≡_}
+use mathlib.Core.Path.{_≡_, _∙_, ap}
 use lib.ListN.{getD}
 use mir.Syntax.{w16}
 use mir.Val.{Fits}
 use borrow.Author.Needs.{needs}
+use Rattle.theory.specs.Flows.{isOver}
 use Rattle.theory.specs.Cost.{linkCost}
 use Rattle.travel.specs.Links.{rowTime}
 use Rattle.travel.specs.Ranges.{mostTime}
@@ -38,10 +39,10 @@ within c =
 
 -- What the code adds up is the cost.
 same : (c : tie.After-time-at) →
-    c .before .heights-below .result * width (start c) + c .time-at .result * (64 * start c .args .flow - c .before .before .step-of .result * width (start c)) ≡ cost-of (start c)
+    c .before .heights-below .result * width (start c) + c .time-at .result .time * (64 * start c .args .flow - c .before .before .step-of .result * width (start c)) ≡ cost-of (start c)
 same c =
     let x = start c .args in
-    treads-cost (capacity (start c)) (x .share) (x .flow) _ (c .before .before .step-of .ensures .0) (rowTime (x .t1)) _ _ (start c .pre .0 .some-capacity) (search needs) (c .before .heights-below .ensures .0) (c .time-at .ensures .0)
+    treads-cost (capacity (start c)) (x .share) (x .flow) _ (c .before .before .step-of .ensures .0) (rowTime (x .t1)) _ _ (start c .pre .0 .some-capacity) (search needs) (c .before .heights-below .ensures .0) (ap (λ r. r .time) (c .time-at .ensures .0))
 
 most : (c : tie.Start) → cost-of c ≤ 64 * c .args .flow * mostTime
 most c = cost-of-most (c .args .t1) (c .args .share) (c .args .flow) (c .pre .0) (search needs)
@@ -75,28 +76,31 @@ mul-whole c =
 time-at-requires : tie.Need-time-at-requires
 time-at-requires c κs = search needs
 
-mul-result : tie.Need-mul-result
-mul-result c = search needs
+mul-area : tie.Need-mul-area
+mul-area c = search needs
 
-mul-result-2 : tie.Need-mul-result-2
-mul-result-2 c = omega (arith, within c)
+mul-area-2 : tie.Need-mul-area-2
+mul-area-2 c = omega (arith, within c)
 
-sub-result : tie.Need-sub-result
-sub-result c = within c
+sub-area : tie.Need-sub-area
+sub-area c = within c
 
-mul-result-3 : tie.Need-mul-result-3
-mul-result-3 c =
-    let x = start c .args in
+mul-area-3 : tie.Need-mul-area-3
+mul-area-3 c =
+    let at = c .before in
+    let x = start at .args in
     omega (
       arith,
-      rest-most (capacity (start c)) (x .share) (x .flow) _ (c .before .before .step-of .ensures .0) (c .time-at .result) (search needs),
+      rest-most (capacity (start at)) (x .share) (x .flow) _ (at .before .before .step-of .ensures .0) (at .time-at .result .time) (search needs),
     )
 
-add-result : tie.Need-add-result
-add-result c = omega (arith, same c, most (start c))
+add-area : tie.Need-add-area
+add-area c = omega (arith, same (c .before), most (start (c .before)))
 
 returns : tie.Need-returns
-returns c = (same c, rw (same c) (most (start c)))
+returns c =
+    let at = c .before in
+    ((same at, rw (same at) (most (start at))), ap (λ r. r .over) (at .time-at .ensures .0) ∙ ap isOver (at .before .before .step-of .ensures .0))
 
 pub link-cost-spec : {M : Type 1} → statement M
 link-cost-spec =
@@ -110,9 +114,9 @@ link-cost-spec =
     heights-below-requires
     mul-whole
     time-at-requires
-    mul-result
-    mul-result-2
-    sub-result
-    mul-result-3
-    add-result
+    mul-area
+    mul-area-2
+    sub-area
+    mul-area-3
+    add-area
     returns)

@@ -10,31 +10,31 @@ use Rattle.travel.specs.Laws.Powers.{rise-most, time-at}
 use Rattle.travel.proofs.steps.time_at.Statement.{statement}
 use Rattle.travel.proofs.steps.time_at.Tie as tie
 
-array-read-result : tie.Need-array-read-result
-array-read-result c = search needs
+array-read-time : tie.Need-array-read-time
+array-read-time c = search needs
 
-cast-result : tie.Need-cast-result
-cast-result c = search needs
+cast-time : tie.Need-cast-time
+cast-time c = search needs
 
-array-read-result-2 : tie.Need-array-read-result-2
-array-read-result-2 c = search needs
+array-read-time-2 : tie.Need-array-read-time-2
+array-read-time-2 c = search needs
 
-cast-result-2 : tie.Need-cast-result-2
-cast-result-2 c = search needs
+cast-time-2 : tie.Need-cast-time-2
+cast-time-2 c = search needs
 
-mul-result : tie.Need-mul-result
-mul-result c = search needs
+mul-time : tie.Need-mul-time
+mul-time c = search needs
 
-element-copy-out-result : tie.Need-element-copy-out-result
-element-copy-out-result c = search needs
+element-copy-out-time : tie.Need-element-copy-out-time
+element-copy-out-time c = search needs
 
-mul-result-2 : tie.Need-mul-result-2
-mul-result-2 c =
+mul-time-2 : tie.Need-mul-time-2
+mul-time-2 c =
     let x = c .before .args in
     omega (arith, rise-most (x .curves .now) (c .before .pre .2) (x .step) (getD (x .t1) 3 0) (search needs) (search needs))
 
-add-result : tie.Need-add-result
-add-result c =
+add-time : tie.Need-add-time
+add-time c =
     let x = c .before .args in
     omega (arith, rise-most (x .curves .now) (c .before .pre .2) (x .step) (getD (x .t1) 3 0) (search needs) (search needs))
 
@@ -42,18 +42,18 @@ returns : tie.Need-returns
 returns c =
     let x = c .before .args in
     let same : getD (x .t1) 2 0 + getD (x .t1) 3 0 * getD (x .curves .now) (x .step) 0 / 16777216 ≡ rowTime (x .t1) (x .step) = time-at (x .curves .now) (c .before .pre .2) (x .step) (getD (x .t1) 2 0) (getD (x .t1) 3 0) (search needs) in
-    (same, rw same (rowTime-most (x .t1) (x .step) (c .before .pre .0) (search needs)))
+    (rw same, rw same (rowTime-most (x .t1) (x .step) (c .before .pre .0) (search needs)))
 
 pub time-at-spec : {M : Type 1} → statement M
 time-at-spec =
     tie.close
     (tie.spec
-    array-read-result
-    cast-result
-    array-read-result-2
-    cast-result-2
-    mul-result
-    element-copy-out-result
-    mul-result-2
-    add-result
+    array-read-time
+    cast-time
+    array-read-time-2
+    cast-time-2
+    mul-time
+    element-copy-out-time
+    mul-time-2
+    add-time
     returns)

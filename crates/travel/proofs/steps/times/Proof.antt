@@ -2,7 +2,7 @@
 -- is what is left of the links. Assumes nothing.
 use Prim.Native.Nat.{_-_, _≤_}
 use native.Mathlib.Omega.{arith}
-use mathlib.Core.Path.{_≡_}
+use mathlib.Core.Path.{_≡_, ap}
 use lib.ListN.{length}
 use borrow.Author.Needs.{needs}
 use Rattle.travel.specs.Links.{padded, listTime}
@@ -56,8 +56,8 @@ loop-less c = search needs
 loop-again : tie.Need-loop-again Inv-loop μ-loop
 unfolding listTime
 loop-again c =
-    let at-loop = c .before .before .before .before in
-    (search needs, filled-more _ _ _ (at-loop .loop .l) _ (omega arith) (at-loop .before .pre .0 .0 .few) (at-loop .loop .inv .1) (c .link-time .ensures .0))
+    let at-loop = c .before .before .before .before .before in
+    (search needs, filled-more _ _ _ (at-loop .loop .l) _ (omega arith) (at-loop .before .pre .0 .0 .few) (at-loop .loop .inv .1) (ap (λ r. r .time) (c .before .link-time .ensures .0)))
 
 returns : tie.Need-returns Inv-loop μ-loop
 returns c =
