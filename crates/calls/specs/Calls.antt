@@ -1,8 +1,8 @@
 -- Document 01, 'Start, pass, run, audit, pack', and the calls of document 02's requests: what each call answers, and what it leaves in lent
 -- memory. A refusal carries its number and 0 in every other field, and changes no lent memory.
-use Prim.Native.Nat.{ℕ, zero, suc, _+_, _*_}
-use mathlib.Core.Bool.{Bool, true, false, cond}
-use mathlib.Core.List.{List, [], _∷_, _++_}
+use Prim.Native.Nat.{ℕ, zero, suc}
+use mathlib.Core.Bool.{cond}
+use mathlib.Core.List.{List, _++_}
 use mathlib.Core.Option.{Option, none, some}
 use lib.ListN.{length, drop}
 use lib.Dec.{eqb}

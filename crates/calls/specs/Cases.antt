@@ -19,7 +19,7 @@ use Rattle.theory.specs.Network.{Network, totalTrips}
 use Rattle.theory.specs.Flows.{linkTotal, total, sumAt, balances, conserves, permits, totalsFit, step, stepTime, timeAt, times, overAt, over}
 use Rattle.theory.specs.Routes.{routing, IsPath, leastOf, fromHead, round, rounds, distances, fitsNext, nextLinks, walk, loadingRow, loading}
 use Rattle.theory.specs.Cost.{staircase, linkCost, cost, leastTimes, spentTimes, gap}
-use Rattle.theory.specs.Moves.{Shared, started, movedTimes, qualifies, chosen, added, doubled, move, afterMoves, reaches, stops, judged, lastJudged}
+use Rattle.theory.specs.Moves.{started, movedTimes, qualifies, chosen, added, doubled, move, afterMoves, reaches, stops, judged, lastJudged}
 use Rattle.theory.specs.Study.{mayUse, network}
 use Rattle.theory.specs.Marks.{bit, marked, onlyNode, nodesBelow, union, lowest, unvisited, lowestUnvisited}
 use Rattle.calls.specs.Study.{linkRow, linkRows, destinationNodes, tripEntries, networkOf}
@@ -27,7 +27,7 @@ use Rattle.calls.specs.Questions.{endsFit, timesFit, destinationsFit, cl
 use Rattle.calls.specs.Questions.{packedSize, outputHolds, studyQuestions, shareQuestions, checkQuestions, packQuestions, startQuestions, runQuestions, tableQuestions, pageHolds, pageQuestions}
 use Rattle.calls.specs.Pack.{bytes16, bytes32, packedHeader, packed}
 use Rattle.calls.specs.Page.{volume, pageLine, lineOf, pageOf}
-use Rattle.calls.specs.Calls.{endingNumber, outcomeNumber, overwritten, checkNumber, packNumber, packOutput, startNumber, startTable, tableNumber, auditAnswer}
+use Rattle.calls.specs.Calls.{endingNumber, overwritten, checkNumber, packNumber, packOutput, startNumber, startTable, tableNumber, auditAnswer}
 use Rattle.calls.specs.Calls.{passAnswer, passTable, runNumber, endingAt, runAnswer, runTable, pageNumber, pageSlice}
 
 -- n 2, m 2, p 1; links (tail, head, a, b, c): 0 1 10 10 2 and 0 1 15 0 1; destination 1; trips 2, 0. File 58 bytes.

@@ -41,7 +41,7 @@ pub fn put_powers(curves: &mut [u64; 769])
     }
 }
 
-// Time at a step, a + floor(b·r⁴ / 2²⁴), and whether that is step 256. Every time of a link with its yes or no comes from here.
+// Time at a step, a + floor(b·r⁴ / 2²⁴), and whether that is step 256. No other function makes a `LinkTime`.
 pub fn time_at(link: [u16; 6], step: u64, curves: &[u64; 769]) -> LinkTime
     requires { ⌜ LinkFits link × (step ≤ 256) × Powers (now curves) ⌝ }
     ensures { λ r. ⌜ (r ≡ timed link step) × (r .time ≤ mostTime) ⌝ }

@@ -1,13 +1,9 @@
 -- The answers and tables of the calls, by what their questions answer.
-use Prim.Native.Nat.{ℕ, zero, suc}
-use mathlib.Core.Path.{_≡_, refl, sym, _∙_}
-use mathlib.Core.Bool.{Bool, true, false}
+use Prim.Native.Nat.{ℕ, suc}
+use mathlib.Core.Path.{_≡_}
 use mathlib.Core.List.{List}
 use mathlib.Core.Option.{Option}
 use borrow.Author.Tests.{ne-eqb}
-use lib.Dec.{eqb}
-use native.Mathlib.Omega.{arith}
-use Rattle.theory.specs.Network.{Network}
 use Rattle.theory.specs.Flows.{over}
 use Rattle.theory.specs.Cost.{cost, gap}
 use Rattle.theory.specs.Moves.{Shared, started, move, judged, lastJudged}

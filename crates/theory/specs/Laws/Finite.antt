@@ -123,7 +123,7 @@ sum-pick (suc n) f k h = ⊎-elim (λ p. below p (sum-pick n f k p)) here (below
 
 -- Counts.
 
-pub one-most : (b : Bool) → cond b 1 0 ≤ 1
+one-most : (b : Bool) → cond b 1 0 ≤ 1
 one-most true = omega arith
 one-most false = omega arith
 

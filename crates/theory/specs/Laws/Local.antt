@@ -2,17 +2,16 @@
 -- and moves, and pass the same questions.
 use Prim.Native.Nat.{ℕ, _+_, _*_, _<_, min, _-_}
 use mathlib.Core.Path.{_≡_, refl, sym, _∙_, ap, ap₂}
-use mathlib.Core.Bool.{Bool, true, false, _||_, cond}
+use mathlib.Core.Bool.{true, false, cond}
 use mathlib.Core.List.{List}
 use mathlib.Core.Option.{Option, none, some}
 use lib.ListN.{getD}
 use lib.Arith.{digits-lt}
 use lib.Dec.{leb, eqb}
-use Rattle.theory.specs.Finite.{sum, all, largest, tabulate}
 use Rattle.theory.specs.Network.{Network, totalTrips}
 use Rattle.theory.specs.Flows.{entry, linkTotal, total, sumAt, balances, conserves, Carries, totalsFit, step, timeAt, times, isOver, over}
 use Rattle.theory.specs.Routes.{loading}
-use Rattle.theory.specs.Cost.{linkCost, cost, leastTimes, spentTimes, gap}
+use Rattle.theory.specs.Cost.{linkCost, cost, spentTimes, gap}
 use Rattle.theory.specs.Moves.{Shared, tableSize, movedTimes, qualifies, chosen, added, doubled, move}
 use Rattle.theory.specs.Laws.Moves.{loadingOf, chosenOf}
 use Rattle.theory.specs.Laws.Finite.{sum-cong, count-cong, all-cong, tabulate-cong, largest-cong}

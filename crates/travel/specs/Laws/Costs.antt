@@ -10,7 +10,7 @@ use Rattle.theory.specs.Finite.{sum, count}
 use Rattle.theory.specs.Study.{capacity}
 use Rattle.theory.specs.Flows.{step, isOver}
 use Rattle.theory.specs.Cost.{linkCost}
-use Rattle.theory.specs.Laws.Finite.{sum-suc, sum-bound, count-most}
+use Rattle.theory.specs.Laws.Finite.{sum-suc, sum-bound}
 use Rattle.travel.specs.Links.{rowTime, listCost, listOver, listProduct}
 use Rattle.travel.specs.Ranges.{LinkFits, LinksFit, Within, mostTime, mostFlow}
 use Rattle.travel.specs.Laws.Times.{step-within, rowTime-most}

@@ -3,7 +3,6 @@ use Prim.Native.Nat.{ℕ, _*_, _-_, _≤_}
 use native.Mathlib.Omega.{arith}
 use mathlib.Core.Path.{_∙_, ap, ap₂}
 use lib.ListN.{length, length-replicate}
-use borrow.Author.Needs.{needs}
 use Rattle.travel.specs.Laws.Padded.{zeros-clear}
 use Rattle.judging.specs.Laws.Study.{links-fit, chainable, searchable}
 use Rattle.judging.specs.Laws.Judged.{share-fits, totals-within, cost-is, over-is, least-fits, defined-gap}

@@ -1,5 +1,5 @@
--- `cost` meets its contract. The invariant: the areas of the links passed are added, and those of them that are over are counted. The measure is what is left of the links.
--- Assumes nothing.
+-- `cost` meets its contract. The invariant: the areas of the links passed are added, and those of them that are over are counted. The
+-- measure is what is left of the links. Assumes nothing.
 use Prim.Native.Nat.{ℕ, _+_, _-_, _≤_}
 use native.Mathlib.Omega.{arith}
 use mathlib.Core.Path.{_≡_, refl, sym, _∙_, ap}
@@ -29,7 +29,7 @@ over-of c l = overTo (c .args .links .now) (c .args .share) (c .args .flows .now
 abbrev at-loop : tie.After-link-cost Inv-loop μ-loop → tie.At-loop Inv-loop μ-loop
 at-loop c = c .before .before .before .before
 
--- After a turn the cost is that of one link more, and so is the count.
+-- After a turn the cost is that of one link more,
 turn : (c : tie.After-link-cost Inv-loop μ-loop) →
     at-loop c .loop .cost + c .link-cost .result .area ≡ cost-of (at-loop c .before) (at-loop c .loop .l + 1)
 turn c =
@@ -40,6 +40,7 @@ turn c =
       cost-more (x .links .now) (x .share) (x .flows .now) (at-loop c .loop .l),
     )
 
+-- and so is the count, which is at most 512. A yes is cast to 1 and a no to 0.
 byte-is : (b : Bool) → boolByte b ≡ cond b 1 0
 byte-is true = refl
 byte-is false = refl
