@@ -3,7 +3,8 @@
 //! It is `target/staticlib/libinterface.a` of the repository above this
 //! folder, or of the folder that ILSTROVAN_STATICLIB names. Where
 //! ILSTROVAN_BEFORE names the static library of an earlier build, the benchmark
-//! links that too, with its exports renamed by `objcopy`.
+//! links that too, and `objcopy` renames its exports and aligns the functions of
+//! both.
 
 use std::env;
 use std::ffi::OsStr;
@@ -33,34 +34,44 @@ fn main() {
         );
         return;
     }
-    println!("cargo::rustc-link-search=native={}", folder.display());
     println!("cargo::rustc-link-lib=static=interface");
     println!("cargo::rustc-env=ILSTROVAN_ARCHIVE={}", archive.display());
     println!("cargo::rustc-check-cfg=cfg(before, before_page)");
     println!("cargo::rerun-if-env-changed={BEFORE}");
-    if let Some(archive) = env::var_os(BEFORE) {
-        link_before(&archive);
+    match env::var_os(BEFORE) {
+        Some(before) => link_both(archive.as_os_str(), &before),
+        None => println!("cargo::rustc-link-search=native={}", folder.display()),
     }
 }
 
-/// Links an earlier build's calls as `before_check` and so on.
-fn link_before(archive: &OsStr) {
+/// Links copies of the calls and of an earlier build's, whose names become
+/// `before_check` and so on.
+fn link_both(archive: &OsStr, before: &OsStr) {
     let out = PathBuf::from(env::var_os("OUT_DIR").expect("cargo sets OUT_DIR"));
-    let mut objcopy = Command::new("objcopy");
-    for call in ["check", "pack", "start", "pass", "run", "audit", "page"] {
-        objcopy.arg(format!("--redefine-sym=ilstrovan_{call}=before_{call}"));
-    }
-    let copied = objcopy.arg(archive).arg(out.join("libbefore.a")).status();
-    if !copied.is_ok_and(|status| status.success()) {
-        println!("cargo::error=objcopy made no copy of the archive that {BEFORE} names");
+    let calls = ["check", "pack", "start", "pass", "run", "audit", "page"];
+    let renamed = calls.map(|call| format!("--redefine-sym=ilstrovan_{call}=before_{call}"));
+    let copied = copy_aligned(archive, &[], &out.join("libinterface.a"))
+        && copy_aligned(before, &renamed, &out.join("libbefore.a"));
+    if !copied {
+        println!("cargo::error=objcopy made no copies of the archives to compare");
         return;
     }
     println!("cargo::rustc-link-search=native={}", out.display());
     println!("cargo::rustc-link-lib=static=before");
     println!("cargo::rustc-cfg=before");
-    if names(archive, "ilstrovan_page") {
+    if names(before, "ilstrovan_page") {
         println!("cargo::rustc-cfg=before_page");
     }
+}
+
+/// Copies an archive and has each of its functions begin at a multiple of 64
+/// bytes, so that equal code lies alike in both: where the linker happens to put
+/// a loop can make a call slower by a twentieth.
+fn copy_aligned(archive: &OsStr, options: &[String], copy: &Path) -> bool {
+    let mut objcopy = Command::new("objcopy");
+    objcopy.args(["--set-section-alignment", ".text.*=64"]);
+    objcopy.args(options).arg(archive).arg(copy);
+    objcopy.status().is_ok_and(|status| status.success())
 }
 
 /// Whether an archive names this call: builds before the page lack it.
