@@ -66,7 +66,7 @@ fn link_both(archive: &OsStr, before: &OsStr) {
 
 /// Copies an archive and has each of its functions begin at a multiple of 64
 /// bytes, so that equal code lies alike in both: where the linker happens to put
-/// a loop can make a call slower by a twentieth.
+/// a function can make a call slower by a twentieth.
 fn copy_aligned(archive: &OsStr, options: &[String], copy: &Path) -> bool {
     let mut objcopy = Command::new("objcopy");
     objcopy.args(["--set-section-alignment", ".text.*=64"]);

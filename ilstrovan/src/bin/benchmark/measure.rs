@@ -77,8 +77,9 @@ pub fn compare(table: &[u32], ways: &mut [Way<'_>]) -> Comparison {
     let calls = calls.clamp(1, MOST_CALLS);
     let mut times = vec![vec![]; ways.len()];
     for turn in 0..REPETITIONS {
+        // Each of them is now the first, now the last.
         for place in 0..ways.len() {
-            let way = at_place(turn, place, ways.len());
+            let way = (turn + place) % ways.len();
             times[way].push(deeper(turn, &mut || time(table, calls, &mut ways[way])));
         }
     }
@@ -93,16 +94,6 @@ pub fn compare(table: &[u32], ways: &mut [Way<'_>]) -> Comparison {
             .map(|before| (Spread::of(before.clone()), ratio(before))),
         proved: Spread::of(times[0].clone()),
         second: Spread::of(times[1].clone()),
-    }
-}
-
-/// Which of so many ways has a place in a turn. Each of them is now the first,
-/// now the last, and comes now after one of the others, now after the other: what
-/// a call finds in the processor's caches depends on the call before it.
-fn at_place(turn: usize, place: usize, ways: usize) -> usize {
-    match turn / ways % 2 {
-        0 => (turn + place) % ways,
-        _ => (turn + ways - 1 - place) % ways,
     }
 }
 
