@@ -26,11 +26,14 @@
  *   A call needs at most 512 KiB of stack.
  *
  * Versions
- *   A study file has version 1 or 2. Version 2 has a header of 40 bytes, not 32,
- *   and a fourth section, one byte a node: 1 where the node is closed, 0 where
- *   it is open. A link into a closed node carries flow to that node only, so no
- *   path leads through it; trips may begin and end there. In version 1 every
- *   node is open.
+ *   A study file has version 1, 2 or 3. Version 2 has a header of 40 bytes, not
+ *   32, and a fourth section, one byte a node: 1 where the node is closed, 0
+ *   where it is open. A link into a closed node carries flow to that node only,
+ *   so no path leads through it; trips may begin and end there. In version 1
+ *   every node is open. Version 3 is version 2 with links of 12 bytes, not 10:
+ *   the sixth number of a link is its power q, 1 to 4. Its time at step r, a
+ *   64th of its capacity each, is its free time and rise * r^q / 64^q, rounded
+ *   down. In versions 1 and 2 every link has power 4.
  *
  * Parameters
  *   file, file_length      The study file and its length in bytes.
@@ -71,22 +74,22 @@ enum ilstrovan_refusal {
     ILSTROVAN_ACCEPTED = 0,
     /* The file is shorter than 32 bytes or longer than 65536. */
     ILSTROVAN_FILE_LENGTH = 1,
-    /* The version is not 1 or 2. */
+    /* The version is not 1, 2 or 3. */
     ILSTROVAN_VERSION = 2,
     /* Nodes are not 2 to 128, links 1 to 512 or destinations 1 to 32, or there
        are more destinations than nodes. */
     ILSTROVAN_COUNTS = 3,
     /* A section begins within the header, before the end of the section before
        it, or ends after the file; or the file is shorter than its version's
-       header, 32 bytes and in version 2 40. */
+       header, 32 bytes and from version 2 on 40. */
     ILSTROVAN_SECTIONS = 4,
-    /* A section's length is not 10 bytes a link, 2 a destination, 2 a
-       destination and node or, in version 2, 1 a node. */
+    /* A section's length is not 10 bytes a link, in version 3 12, 2 a
+       destination, 2 a destination and node or, from version 2 on, 1 a node. */
     ILSTROVAN_SECTION_LENGTHS = 5,
     /* A link's tail or head is no node, or they are the same. */
     ILSTROVAN_LINK_ENDS = 6,
-    /* A link's free time is not 1 to 16383, its rise is above 16383, or its
-       capacity is 0. */
+    /* A link's free time is not 1 to 16383, its rise is above 16383, its
+       capacity is 0, or its power is not 1 to 4. */
     ILSTROVAN_LINK_NUMBERS = 7,
     /* A destination is no node, or the destinations do not ascend strictly. */
     ILSTROVAN_DESTINATIONS = 8,
@@ -138,7 +141,8 @@ uint8_t ilstrovan_check(const uint8_t *file, size_t file_length);
 /* Writes the study to `output` in its own version with no gaps, its sections in
    order from the end of the header: in version 1
    32 + 10 * links + 2 * destinations * (1 + nodes) bytes, in version 2 8 bytes
-   and a byte a node more. Refusals as check, then 17. */
+   and a byte a node more, in version 3 also 2 bytes a link more. Refusals as
+   check, then 17. */
 uint8_t ilstrovan_pack(const uint8_t *file, size_t file_length,
                        uint8_t *output, size_t output_length);
 

@@ -34,8 +34,10 @@
 //! # Ok::<(), ilstrovan::Refusal>(())
 //! ```
 //!
-//! A study has version 1 or 2. In version 2 nodes can be closed: a link into a
-//! closed node carries flow to that node only, so no path leads through it.
+//! A study has version 1, 2 or 3. From version 2 on nodes can be closed: a link
+//! into a closed node carries flow to that node only, so no path leads through
+//! it. In version 3 each link has a power, 1 to 4, with which its time rises; in
+//! versions 1 and 2 it is 4.
 //!
 //! A call needs at most 512 KiB of stack. It keeps nothing, so calls may run in
 //! any number of threads.

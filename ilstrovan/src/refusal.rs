@@ -7,12 +7,12 @@ use std::num::NonZeroU8;
 /// What the numbers mean, from 1 on.
 const WORDS: [&str; 20] = [
     "the file is not 32 to 65,536 bytes long",
-    "the version is not 1 or 2",
+    "the version is not 1, 2 or 3",
     "nodes are not 2 to 128, links 1 to 512 or destinations 1 to 32, or there are more destinations than nodes",
     "the sections are not in order after the header and within the file, or the file is shorter than its version's header",
     "a section's length does not fit the counts",
     "a link's tail or head is no node, or they are the same",
-    "a link's free time is not 1 to 16,383, its rise is above 16,383, or its capacity is 0",
+    "a link's free time is not 1 to 16,383, its rise is above 16,383, its capacity is 0, or its power is not 1 to 4",
     "a destination is no node, or the destinations do not ascend strictly",
     "a destination has trips to itself",
     "there are more than 65,535 trips in all",

@@ -77,7 +77,7 @@ fn recorded_calls() {
     for call in cases::all() {
         pair.play(&call);
     }
-    assert!(pair.calls > 5_000, "{} calls", pair.calls);
+    assert!(pair.calls > 5_500, "{} calls", pair.calls);
     assert!(pair.over > 500, "{} with links over", pair.over);
     assert!(pair.pages[0] > 150, "{:?}", pair.pages);
 }
@@ -116,6 +116,24 @@ fn random_calls_on_small_studies_with_closed_nodes() {
     assert!(never.eq([13, 17]), "{:?}", pair.pages);
 }
 
+/// Small studies of version 3, with closed nodes and without, whole and damaged.
+#[test]
+fn random_calls_on_small_studies_with_powers() {
+    let mut dice = Dice::new(2_031);
+    let mut pair = Pair::default();
+    while pair.calls < 160_000 {
+        let study = small_closed(&mut dice);
+        let study = powered(&mut dice, study);
+        round(&mut pair, &mut dice, &study, 1_024);
+    }
+    assert!(pair.accepted > pair.calls / 3, "{} accepted", pair.accepted);
+    assert!(pair.over > pair.calls / 50, "{} with links over", pair.over);
+    assert!(pair.pages[0] > 10_000, "{:?}", pair.pages);
+    assert!(pair.pages[7] > 500, "{:?}", pair.pages);
+    let never = (0..=20).filter(|&number| pair.pages[number] == 0);
+    assert!(never.eq([13, 17]), "{:?}", pair.pages);
+}
+
 /// Studies of version 1 up to every limit.
 #[test]
 fn random_calls_on_large_studies() {
@@ -145,8 +163,23 @@ fn random_calls_on_large_studies_with_closed_nodes() {
     assert!(pair.pages[20] > 50, "{:?}", pair.pages);
 }
 
+/// Studies of version 3 up to every limit.
+#[test]
+fn random_calls_on_large_studies_with_powers() {
+    let mut dice = Dice::new(2_032);
+    let mut pair = Pair::default();
+    while pair.calls < 5_000 {
+        let study = large_closed(&mut dice);
+        let study = powered(&mut dice, study);
+        round(&mut pair, &mut dice, &study, 40);
+    }
+    assert!(pair.accepted > pair.calls / 3, "{} accepted", pair.accepted);
+    assert!(pair.over > pair.calls / 50, "{} with links over", pair.over);
+    assert!(pair.pages[0] > 300, "{:?}", pair.pages);
+}
+
 /// Files of about 2,048 bytes, up to which the calls lend fewer places for their
-/// rows: as many links or trips as there is room for, in either version.
+/// rows: as many links or trips as there is room for, in every version.
 #[test]
 fn random_calls_on_files_of_about_2048_bytes() {
     let mut dice = Dice::new(2_030);
@@ -166,7 +199,11 @@ fn random_calls_on_files_of_about_2048_bytes() {
 /// A study of many links and few trips, or of many trips and fewer links, whose
 /// file often has about 2,048 bytes.
 fn about_2048_bytes(dice: &mut Dice) -> Versioned {
-    let sizes = [((2, 4), (195, 201), 1), ((20, 30), (30, 80), 30)];
+    let sizes = [
+        ((2, 4), (195, 201), 1),
+        ((2, 4), (162, 167), 1),
+        ((20, 30), (30, 80), 30),
+    ];
     let (nodes, links, destinations) = dice.pick(&sizes);
     let plan = Plan {
         nodes,
@@ -179,25 +216,37 @@ fn about_2048_bytes(dice: &mut Dice) -> Versioned {
         return draft.into();
     }
     let tenths = dice.pick(&[0, 0, 1]);
-    closing(dice, draft, tenths)
+    let study = closing(dice, draft, tenths);
+    match dice.below(2) {
+        0 => study,
+        _ => study.with_some_powers(dice),
+    }
 }
 
-/// With all nodes open, version 2 answers what version 1 does.
+/// With all nodes open, version 2 answers what version 1 does, and version 3 too
+/// where every link has power 4.
 #[test]
-fn open_nodes_make_no_difference() {
+fn open_nodes_and_fourth_powers_make_no_difference() {
     let mut dice = Dice::new(2_030);
     for _ in 0..400 {
         let draft = Plan::small(&mut dice).draft(&mut dice);
         let mut table = draft.wandering_table(&mut dice, 10);
         draft.add_cycle(&mut dice, &mut table, 3);
-        let [first, other] = [draft.file(), draft.clone().closing(&[]).file()].map(|file| {
+        let fourth = vec![4; draft.links.len()];
+        let files = [
+            draft.file(),
+            draft.clone().closing(&[]).file(),
+            draft.clone().with_powers(fourth).file(),
+        ];
+        let [first, second, third] = files.map(|file| {
             let audit = Proved.audit(&file, &table, 10);
             let (mut moved, mut ended) = (table.clone(), table.clone());
             let pass = Proved.pass(&file, &mut moved, 10);
             let run = Proved.run(&file, &mut ended, 20, 0);
             (Proved.check(&file), audit, pass, run, moved, ended)
         });
-        assert_eq!(first, other);
+        assert_eq!(first, second);
+        assert_eq!(first, third);
     }
 }
 
@@ -235,6 +284,18 @@ fn closing(dice: &mut Dice, draft: Draft, tenths: u64) -> Versioned {
     let mut study = draft.closing_some(dice, tenths);
     if dice.once_in(8) {
         study.draft = whole;
+    }
+    study
+}
+
+/// The study in version 3. In one of twenty a power is not 1 to 4.
+fn powered(dice: &mut Dice, study: Versioned) -> Versioned {
+    let mut study = study.with_some_powers(dice);
+    if let Some(powers) = &mut study.powers
+        && dice.once_in(20)
+    {
+        let link = dice.index(powers.len());
+        powers[link] = dice.pick(&[0, 5, 6, 255, 256, 257, 260, 1_024, 65_535]);
     }
     study
 }
@@ -400,7 +461,7 @@ fn file_of(dice: &mut Dice, study: &Versioned) -> Vec<u8> {
             2 => file.resize(65_536 + dice.index(2), 0x5A),
             _ => file.push(dice.roll() as u8),
         },
-        // One of the last bytes, which are the closed ones in version 2.
+        // One of the last bytes, which are the closed ones from version 2 on.
         4 if dice.once_in(2) => {
             let place = file.len() - 1 - dice.index(usize::from(study.draft.nodes));
             file[place] = dice.pick(&[0, 1, 2, 3, 128, 255]);
@@ -423,7 +484,7 @@ fn damage_header(dice: &mut Dice, study: &Versioned, file: &mut [u8]) {
 }
 
 /// An output that holds a pattern: about one in four is too short, some by one
-/// byte, some as long as the study needs in the other version.
+/// byte, some as long as the study needs in version 1.
 fn output(dice: &mut Dice, study: &Versioned) -> Vec<u8> {
     let length = study.packed_length();
     let room = match dice.below(8) {

@@ -40,7 +40,7 @@ fn town() {
 
     let ran = Command::new(&program).output().expect("the program runs");
     assert!(ran.status.success(), "{ran:?}");
-    let expected = expected() + &expected_of_the_zone();
+    let expected = expected() + &expected_of_the_zone() + &expected_of_powers();
     assert_eq!(String::from_utf8_lossy(&ran.stdout), expected);
 }
 
@@ -181,4 +181,22 @@ fn expected_of_the_zone() -> String {
         "",
     ]);
     lines.join("\n")
+}
+
+/// What the program is to print of the town with powers, by the second
+/// implementation.
+fn expected_of_powers() -> String {
+    let mut lines = String::new();
+    let mut line = |words: String| writeln!(lines, "{words}").expect("a string takes all");
+    for power in 0..=5 {
+        let file = Draft::town().with_powers(vec![power, 4]).file();
+        let mut table = [16, 2, 9];
+        line(format!("check {}", second::check(&file)));
+        line(audit_words(second::audit(&file, &table, 9)));
+        line(pass_words(second::pass(&file, &mut table, 9)));
+        line(table_words(&table));
+        line(run_words(second::run(&file, &mut table, 10, 0)));
+        line(table_words(&table));
+    }
+    lines + "pack 17\npack 0\nsame 1, after it 238\n"
 }

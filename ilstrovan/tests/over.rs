@@ -32,7 +32,8 @@ impl Crowd {
 
 /// Roads from node 0 to node 1 with totals about four times their capacity, and
 /// the widest road last, with what is left of the last trip. In version 2 too,
-/// with no node closed or the destination closed, which changes no number here.
+/// with no node closed or the destination closed, which changes no number here,
+/// and in version 3, where links of every power are over alike.
 fn crowd(dice: &mut Dice, most_links: u64) -> Crowd {
     let share = match dice.below(4) {
         0 => dice.pick(&[1, 2, 3, 512, 1_023, 1_024]),
@@ -61,10 +62,11 @@ fn crowd(dice: &mut Dice, most_links: u64) -> Crowd {
         destinations: vec![1],
         trips: vec![vec![trips as u16, 0]],
     };
-    let file = match dice.below(3) {
+    let file = match dice.below(4) {
         0 => draft.file(),
         1 => draft.closing(&[]).file(),
-        _ => draft.closing(&[1]).file(),
+        2 => draft.closing(&[1]).file(),
+        _ => draft.with_some_powers(dice).file(),
     };
     Crowd {
         links,

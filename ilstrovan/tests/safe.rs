@@ -188,6 +188,58 @@ fn calls_that_a_zone_refuses() {
     assert_eq!(check(&alone.closing(&[]).file()), Ok(()));
 }
 
+/// The town with each power on its first road, the model's cases: gap and cost of
+/// flows 16 and 2 at share 9, and what a run ends with.
+#[test]
+fn a_road_of_each_power() {
+    let cases = [
+        (1, (48, 16_140), (2, 2, 3_448), [2, 2]),
+        (2, (32, 14_342), (6, 11, 17_314), [16, 6]),
+        (3, (16, 13_552), (4, 5, 7_500), [8, 2]),
+        (4, (0, 13_104), (5, 9, 13_104), [16, 2]),
+    ];
+    for (power, (gap, cost), numbers, flows) in cases {
+        let study = Draft::town().with_powers(vec![power, 4]);
+        let file = study.file();
+        assert_eq!(file.len(), 72);
+        let over = 0;
+        assert_eq!(audit(&file, &[16, 2], 9), Ok(Audit { gap, cost, over }));
+        let mut table = [7; 3];
+        let ended = run(&file, &mut table, 10, 0).expect("accepted");
+        assert_eq!((ended.judged, ended.share, ended.cost), numbers);
+        assert_eq!((ended.ending, ended.gap), (Ending::Reached, 0));
+        assert_eq!(table, [flows[0], flows[1], 7]);
+
+        let mut output = [0xEE; 80];
+        assert_eq!(refusal(pack(&file, &mut output[..71])), 17);
+        assert_eq!(pack(&file, &mut output), Ok(()));
+        assert_eq!(output[..72], file);
+        assert!(output[72..].iter().all(|&byte| byte == 0xEE));
+    }
+}
+
+#[test]
+fn powers_that_are_refused() {
+    for power in [0, 5, 255, 256, 260, 65_535] {
+        let file = Draft::town().with_powers(vec![4, power]).file();
+        let refused = check(&file).expect_err("a refusal");
+        assert_eq!(
+            refused.to_string(),
+            "refused 7: a link's free time is not 1 to 16,383, its rise is above 16,383, its capacity is 0, or its power is not 1 to 4"
+        );
+    }
+    let file = Draft::town().with_powers(vec![1, 4]).file();
+    for length in 32..=40 {
+        assert_eq!(refusal(check(&file[..length])), 4, "{length}");
+    }
+    // The same file in other versions.
+    for (version, number) in [(0, 2), (1, 5), (2, 5), (4, 2)] {
+        let mut other = file.clone();
+        other[0] = version;
+        assert_eq!(refusal(check(&other)), number, "version {version}");
+    }
+}
+
 /// Flow to a closed destination enters it, and flow to another does not, though
 /// the link's total is the same.
 #[test]

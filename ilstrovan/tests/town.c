@@ -1,5 +1,5 @@
-/* The town of two roads and the town with a zone, from C: every call, accepted
-   and refused. */
+/* The town of two roads, the town with a zone and the town with powers, from C:
+   every call, accepted and refused. */
 #include "ilstrovan.h"
 
 #include <stdio.h>
@@ -24,6 +24,21 @@ static const uint8_t zone[94] = {
     2, 0, 1, 0, 0, 0, 0, 0,                                      /* trips */
     0, 1, 0, 0                                                   /* closed */
 };
+
+/* Version 3: the town of two roads, with power 2 on link 0 and 4 on link 1. */
+static const uint8_t curved[72] = {
+    3, 0, 2, 0, 2, 0, 1, 0,                                      /* version, n, m, p */
+    40, 0, 0, 0, 24, 0, 0, 0, 64, 0, 0, 0, 2, 0, 0, 0,
+    66, 0, 0, 0, 4, 0, 0, 0, 70, 0, 0, 0, 2, 0, 0, 0,
+    0, 0, 1, 0, 10, 0, 10, 0, 2, 0, 2, 0,                        /* links */
+    0, 0, 1, 0, 15, 0, 0, 0, 1, 0, 4, 0,
+    1, 0,                                                        /* destination */
+    2, 0, 0, 0,                                                  /* trips */
+    0, 0                                                         /* closed */
+};
+
+/* Where its first power stands. */
+enum { CURVED_POWER = 50 };
 
 /* Where the zone's closed byte and the destination's own trips stand. */
 enum { ZONE_CLOSED = 91, ZONE_OWN_TRIPS = 86 };
@@ -156,6 +171,32 @@ static void busy_town(void)
     show_table(table);
 }
 
+/* Every power from 0 to 5 on link 0. */
+static void town_with_powers(void)
+{
+    uint8_t file[sizeof curved], output[sizeof curved + 1];
+    uint32_t table[3] = {16, 2, 9};
+    uint64_t passed[5], ended[6], audited[3];
+
+    memcpy(file, curved, sizeof curved);
+    for (uint8_t power = 0; power <= 5; power++) {
+        file[CURVED_POWER] = power;
+        table[0] = 16;
+        table[1] = 2;
+        show("check", ilstrovan_check(file, sizeof file), NULL, 0);
+        show("audit", ilstrovan_audit(file, sizeof file, table, 3, 9, audited), audited, 3);
+        show("pass", ilstrovan_pass(file, sizeof file, table, 3, 9, passed), passed, 5);
+        show_table(table);
+        show("run", ilstrovan_run(file, sizeof file, table, 3, 10, 0, ended), ended, 6);
+        show_table(table);
+    }
+    memset(output, 0xEE, sizeof output);
+    show("pack", ilstrovan_pack(curved, sizeof curved, output, 71), NULL, 0);
+    show("pack", ilstrovan_pack(curved, sizeof curved, output, sizeof output), NULL, 0);
+    printf("same %d, after it %u\n", memcmp(output, curved, sizeof curved) == 0,
+           (unsigned)output[72]);
+}
+
 int main(void)
 {
     uint8_t output[60], page[64];
@@ -200,5 +241,6 @@ int main(void)
 
     busy_town();
     town_with_a_zone();
+    town_with_powers();
     return 0;
 }

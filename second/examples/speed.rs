@@ -3,7 +3,8 @@
 //! Each time is the shortest of many tries, in microseconds. Passes, audits
 //! and pages are of the table a run ends with. First come studies of version
 //! 1, then pairs of a study with closed nodes and the same one with all nodes
-//! open.
+//! open, then studies with powers of several kinds and the same ones with power
+//! 4 on all links.
 
 use std::hint::black_box;
 use std::time::{Duration, Instant};
@@ -122,6 +123,25 @@ fn main() {
     for destinations in [1, 8, 32] {
         closed_nodes(&mut dice, destinations);
     }
+    for destinations in [1, 8, 32] {
+        powers(&mut dice, destinations);
+    }
+}
+
+/// A street grid 16 by 8 with mixed powers, with power 1 on all links and with
+/// power 4 on all links, that one in version 3 and in version 1.
+fn powers(dice: &mut Dice, destinations: u64) {
+    let mut links = grid(dice, 16, 8, 512, 300, 300);
+    while links.len() < 512 {
+        links.push(dice.pick(&links));
+    }
+    let trips = (480 / destinations).min(90);
+    let draft = study(dice, 128, &links, destinations, trips);
+    let mixed = (0..512).map(|_| dice.between(1, 4) as u16).collect();
+    show("mixed powers", draft.clone().with_powers(mixed));
+    show("  power 1", draft.clone().with_powers(vec![1; 512]));
+    show("  power 4", draft.clone().with_powers(vec![4; 512]));
+    show("  version 1", draft);
 }
 
 /// Studies with closed nodes, each followed by its twin without them: streets

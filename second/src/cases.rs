@@ -4,8 +4,8 @@
 //! call that puts it, small studies of all kinds with tables of all kinds
 //! (made by passes, wandering, with cycles, damaged), and studies at every
 //! limit; after all these, pages of the same kinds of tables; after these,
-//! studies of version 2 with closed nodes; and after these, links past the
-//! curve.
+//! studies of version 2 with closed nodes; after these, links past the curve; and
+//! after these, studies of version 3 with powers.
 //!
 //! New calls go to the end of the list, so that a recording made before is the
 //! beginning of the next one.
@@ -16,6 +16,9 @@ use crate::stream::{Call, Kind, Lent, Player, Reply, Second};
 
 mod headers;
 mod past_the_curve;
+mod power_files;
+mod power_networks;
+mod powers;
 mod zoned_networks;
 mod zones;
 
@@ -76,6 +79,24 @@ pub fn all() -> Vec<Call> {
     past_the_curve::all_links(&mut list);
     past_the_curve::refusals(&mut list);
     past_the_curve::networks(&mut list);
+
+    powers::town(&mut list);
+    powers::steps(&mut list);
+    powers::extremes(&mut list);
+    powers::choices(&mut list);
+    powers::past_the_curve(&mut list);
+    powers::closed_nodes(&mut list);
+    powers::twins(&mut list);
+    power_files::powers_at_boundaries(&mut list);
+    power_files::versions(&mut list);
+    power_files::short_files(&mut list);
+    power_files::offsets_and_lengths(&mut list);
+    power_files::gaps(&mut list);
+    power_files::order_of_questions(&mut list);
+    power_files::packing(&mut list);
+    power_networks::random_studies(&mut list);
+    power_networks::long_runs(&mut list);
+    power_networks::full_limits(&mut list);
     list.calls
 }
 

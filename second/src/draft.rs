@@ -1,6 +1,6 @@
 //! Studies and tables in the making, for tests and recordings.
 //!
-//! A [`Draft`] is a study of version 1; with closed nodes it becomes a
+//! A [`Draft`] is a study of version 1; with closed nodes or powers it becomes a
 //! [`Versioned`] one.
 
 use crate::format::{LINK_BYTES, Layout, VERSION};

@@ -13,8 +13,12 @@ pub const LONGEST_FILE: usize = 65_536;
 pub const VERSION: u16 = 1;
 /// The version with closed nodes.
 pub const CLOSED_VERSION: u16 = 2;
+/// The version with a power for each link.
+pub const POWER_VERSION: u16 = 3;
 /// Bytes of one link in versions 1 and 2.
 pub const LINK_BYTES: usize = 10;
+/// Bytes of one link in version 3.
+pub const POWER_LINK_BYTES: usize = 12;
 /// Sections of the version that has the most.
 pub const MOST_SECTIONS: usize = 4;
 
@@ -41,9 +45,10 @@ pub struct Layout {
 
 /// All versions there are.
 #[rustfmt::skip]
-pub static LAYOUTS: [Layout; 2] = [
-    Layout { version: VERSION,        header: HEADER, link_bytes: LINK_BYTES, sections: 3 },
-    Layout { version: CLOSED_VERSION, header: 40,     link_bytes: LINK_BYTES, sections: 4 },
+pub static LAYOUTS: [Layout; 3] = [
+    Layout { version: VERSION,        header: HEADER, link_bytes: LINK_BYTES,       sections: 3 },
+    Layout { version: CLOSED_VERSION, header: 40,     link_bytes: LINK_BYTES,       sections: 4 },
+    Layout { version: POWER_VERSION,  header: 40,     link_bytes: POWER_LINK_BYTES, sections: 4 },
 ];
 
 impl Layout {

@@ -1,9 +1,10 @@
 //! Equilibrium assignment of trips to a road network.
 //!
 //! The second implementation of document 01, the scope, and of requests A.1,
-//! A.2 and A.4 of document 02, the page, the closed nodes and the links past
-//! the curve. Its answers are compared with the first implementation's, call by
-//! call, and its speed is the yardstick for the first one's.
+//! A.2, A.4 and A.5 of document 02, the page, the closed nodes, the links past
+//! the curve and the powers. Its answers are compared with the first
+//! implementation's, call by call, and its speed is the yardstick for the first
+//! one's.
 //!
 //! The layers, from the bottom up:
 //!

@@ -1,10 +1,12 @@
 //! The decoded study: links, destinations, closed nodes and trips, questions 6
 //! to 11 with 19 among them.
 
-use crate::format::{MOST_DESTINATIONS, MOST_LINKS, MOST_NODES, Sections, numbers};
+use crate::format::{
+    LINK_BYTES, MOST_DESTINATIONS, MOST_LINKS, MOST_NODES, POWER_LINK_BYTES, Sections, numbers,
+};
 use crate::questions::{LARGEST_TOTAL, Question};
 use crate::reach::paths_exist;
-use crate::staircase::Road;
+use crate::staircase::{LARGEST_POWER, Road};
 
 pub use crate::adjacency::{Adjacency, Lists};
 
@@ -35,8 +37,8 @@ pub struct Study {
     pub tails: ByLink<u8>,
     /// Head of each link.
     pub heads: ByLink<u8>,
-    /// Free time, rise and capacity of each link.
-    pub roads: ByLink<Road>,
+    /// Free time, rise, capacity and power of each link, m of them.
+    pub roads: Vec<Road>,
     /// The destinations, ascending; the first [`Study::destination_count`] count.
     pub destinations: [u8; MOST_DESTINATIONS],
     /// Number of destinations, p.
@@ -63,7 +65,7 @@ impl Study {
             links: sections.links,
             tails: [0; MOST_LINKS],
             heads: [0; MOST_LINKS],
-            roads: [Road::default(); MOST_LINKS],
+            roads: vec![Road::default(); sections.links],
             destinations: [0; MOST_DESTINATIONS],
             destination_count: sections.destinations,
             closed: 0,
@@ -81,12 +83,26 @@ impl Study {
     /// Decodes the links, with questions 6 and 7.
     #[inline]
     fn decode_links(&mut self, sections: &Sections<'_>) -> Result<(), Question> {
+        let part = sections.link_part;
+        match sections.layout.link_bytes {
+            POWER_LINK_BYTES => self.decode_links_of(part.as_chunks::<POWER_LINK_BYTES>().0),
+            _ => self.decode_links_of(part.as_chunks::<LINK_BYTES>().0),
+        }
+    }
+
+    /// The same for links of so many bytes. Where they have no power of their
+    /// own, it is 4.
+    #[inline]
+    fn decode_links_of<const BYTES: usize>(
+        &mut self,
+        links: &[[u8; BYTES]],
+    ) -> Result<(), Question> {
         // Both questions are about all links, and 6 comes before 7 even when
         // a later link fails it.
         let (mut ends_fit, mut roads_fit) = (true, true);
-        let links = sections.link_part.chunks_exact(sections.layout.link_bytes);
         let ends = self.tails.iter_mut().zip(&mut self.heads);
-        for ((bytes, (own_tail, own_head)), own_road) in links.zip(ends).zip(&mut self.roads) {
+        for ((bytes, (own_tail, own_head)), own_road) in links.iter().zip(ends).zip(&mut self.roads)
+        {
             let mut numbers = numbers(bytes);
             let mut number = || numbers.next().expect("a link has five numbers");
             let (tail, head) = (number(), number());
@@ -94,6 +110,7 @@ impl Study {
                 free: number(),
                 rise: number(),
                 capacity: number(),
+                power: numbers.next().unwrap_or(LARGEST_POWER),
             };
             ends_fit &= usize::from(tail.max(head)) < self.nodes && tail != head;
             roads_fit &= road.fits();

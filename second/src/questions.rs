@@ -29,7 +29,8 @@ pub enum Question {
     Lengths = 5,
     /// 6: are each link's ends nodes, and different?
     Ends = 6,
-    /// 7: are each link's free time, rise and capacity within their limits?
+    /// 7: are each link's free time, rise, capacity and power within their
+    /// limits?
     Roads = 7,
     /// 8: are the destinations nodes, strictly ascending?
     Destinations = 8,

@@ -3,9 +3,9 @@
 
 mod definitions;
 
-use second::cases;
-use second::draft::{Dice, Plan, Versioned, grid};
+use second::draft::{Dice, Draft, Plan, Versioned, grid};
 use second::stream::{Call, Kind, Lent, Player, Reply, Second};
+use second::{cases, pack};
 
 use definitions::Literal;
 
@@ -219,6 +219,86 @@ fn small_studies_with_closed_nodes() {
     assert!(pair.over > 10_000, "{}", pair.over);
 }
 
+/// A study with powers at random, and mostly with closed nodes.
+fn some_powers_and_zones(dice: &mut Dice, draft: Draft) -> Versioned {
+    match dice.below(3) {
+        0 => draft.with_some_powers(dice),
+        1 => draft.closing_some(dice, 3).with_some_powers(dice),
+        _ => draft.with_some_powers(dice).closing_some(dice, 2),
+    }
+}
+
+/// Thousands of small studies with powers, all seven calls.
+#[test]
+fn small_studies_with_powers() {
+    let mut dice = Dice::new(2_031);
+    let mut pair = Pair::default();
+    for turn in 0..9_000 {
+        let study = match turn % 3 {
+            0 => Plan::small(&mut dice)
+                .draft(&mut dice)
+                .with_some_powers(&mut dice),
+            1 => small_closed_study(&mut dice).with_some_powers(&mut dice),
+            _ => small_powers_study(&mut dice),
+        };
+        let file = study.file();
+        pair.study(&mut dice, &study, &file);
+    }
+    assert!(pair.numbers[0] > 90_000, "{:?}", pair.numbers);
+    assert!(pair.numbers[20] > 1_000, "{:?}", pair.numbers);
+    assert!(pair.pages > 20_000, "{}", pair.pages);
+    assert!(pair.over > 20_000, "{}", pair.over);
+}
+
+/// A few nodes with many links side by side, of like times and several powers,
+/// with flows all along the curve.
+fn small_powers_study(dice: &mut Dice) -> Versioned {
+    let nodes = dice.between(2, 4) as u16;
+    let (time, capacity) = (dice.between(1, 400), dice.between(2, 60));
+    let mut links = Vec::new();
+    for _ in 0..dice.between(3, 12) {
+        let tail = dice.below(u64::from(nodes)) as u16;
+        let free = dice.between(time, time + time / 4) as u16;
+        let rise = dice.between(1, 2 * time) as u16;
+        let head = (tail + 1) % nodes;
+        links.push([tail, head, free, rise, dice.between(1, capacity) as u16]);
+    }
+    let plan = Plan {
+        nodes: (2, 2),
+        links: (1, 1),
+        destinations: 3,
+        time: 1,
+        capacity: 1,
+        trips: 4 * capacity,
+        tenths: 9,
+    };
+    plan.with_links(dice, nodes, links).with_some_powers(dice)
+}
+
+/// Powers that are none, and other faults with them.
+#[test]
+fn powers_out_of_range() {
+    let mut dice = Dice::new(2_032);
+    let mut pair = Pair::default();
+    for _ in 0..3_000 {
+        let mut study = Plan::small(&mut dice)
+            .draft(&mut dice)
+            .with_some_powers(&mut dice);
+        let links = study.draft.links.len();
+        let powers = study.powers.as_mut().expect("there are powers");
+        powers[dice.index(links)] = dice.pick(&[0, 5, 6, 8, 255, 256, 260, 1_024, 65_535]);
+        match dice.below(8) {
+            0 => study.draft.links[dice.index(links)][1] = study.draft.nodes,
+            1 => study.draft.destinations[0] = study.draft.nodes,
+            2 => study = study.with_closed(vec![2; 2]),
+            _ => {}
+        }
+        pair.call(Kind::Check, &study.file(), Lent::Nothing, 0, 0, 0);
+    }
+    assert!(pair.numbers[5] > 100 && pair.numbers[6] > 100 && pair.numbers[7] > 2_000);
+    assert_eq!(pair.numbers[5] + pair.numbers[6] + pair.numbers[7], 3_000);
+}
+
 /// Small studies with closed nodes, and trips that may have no path.
 #[test]
 fn closed_nodes_and_paths() {
@@ -286,69 +366,127 @@ fn paths_to_many_destinations() {
     );
 }
 
-/// A study of version 2 whose nodes are all open is the same in version 1.
+/// Makes every call but pack with each of these files, which are to be answered
+/// alike, and compares what the calls answer and leave.
+fn compare_alike(files: &[Vec<u8>], table: &[u32], share: u32) {
+    let page = vec![1; 30 * 20];
+    for (kind, budget) in [
+        (Kind::Check, 0),
+        (Kind::Audit, 0),
+        (Kind::Pass, 0),
+        (Kind::Run, 30),
+        (Kind::Start, 0),
+        (Kind::Page, 0),
+    ] {
+        let answered = files.iter().map(|file| {
+            let call = Call {
+                kind,
+                file: Some(file.clone()),
+                lent: match kind {
+                    Kind::Check => Lent::Nothing,
+                    Kind::Page => Lent::Page(Some(table.to_vec()), page.clone()),
+                    _ => Lent::Table(table.to_vec()),
+                },
+                share,
+                budget,
+                excess: 0,
+            };
+            let mut player = Player::default();
+            let reply = player.play(&Second, &call);
+            (reply, player.table, player.page)
+        });
+        let answered: Vec<_> = answered.collect();
+        assert!(answered.iter().all(|other| *other == answered[0]));
+    }
+}
+
+/// A study of version 2 whose nodes are all open is the same in version 1, and
+/// so is one of version 3 whose powers are all 4.
 #[test]
 fn all_open_is_version_1() {
     let mut dice = Dice::new(2_029);
     for _ in 0..500 {
         let draft = Plan::small(&mut dice).draft(&mut dice);
-        let open = draft.clone().closing(&[]);
-        let (file, twin) = (open.file(), draft.file());
+        let powers = vec![4; draft.links.len()];
+        let files = [
+            draft.file(),
+            draft.clone().closing(&[]).file(),
+            draft.clone().with_powers(powers).file(),
+        ];
         let share = dice.pick(&[1, 9, 512, 1_024]);
         let table = draft.wandering_table(&mut dice, share);
-        let (mut first, mut second) = (Player::default(), Player::default());
-        for (kind, budget) in [
-            (Kind::Audit, 0),
-            (Kind::Pass, 0),
-            (Kind::Run, 30),
-            (Kind::Start, 0),
-        ] {
-            let call = |file: &Vec<u8>| Call {
-                kind,
-                file: Some(file.clone()),
-                lent: Lent::Table(table.clone()),
-                share,
-                budget,
-                excess: 0,
-            };
-            let replies = [
-                first.play(&Second, &call(&file)),
-                second.play(&Second, &call(&twin)),
-            ];
-            assert_eq!(replies[0], replies[1]);
-            assert_eq!(first.table, second.table);
-        }
+        compare_alike(&files, &table, share);
     }
 }
 
-/// Runs to their end, on crowded networks where they take long, in version 1
-/// and with closed nodes.
+/// A study of version 3 whose powers are all 4 is the same in version 2, with
+/// tables of all kinds. Packed, it has the same bytes but for the version, the
+/// powers and the offsets after them.
+#[test]
+fn all_powers_4_is_version_2() {
+    let mut dice = Dice::new(2_033);
+    for _ in 0..1_000 {
+        let study = small_closed_study(&mut dice);
+        let links = study.draft.links.len();
+        let twin = study.clone().with_powers(vec![4; links]);
+        let files = [study.file(), twin.file()];
+        let share = dice.pick(&[1, 9, 512, 1_024]);
+        let mut table = study.wandering_table(&mut dice, share);
+        compare_alike(&files, &table, share);
+        compare_alike(
+            &files,
+            &study.draft.wandering_table(&mut dice, share),
+            share,
+        );
+        let place = dice.index(table.len());
+        table[place] = dice.any_u32();
+        compare_alike(&files, &table, share);
+
+        let mut packed = vec![0; twin.packed_length()];
+        assert_eq!(pack(&files[0], &mut packed), 0);
+        assert_eq!(packed[..study.packed_length()], files[0]);
+        assert_eq!(pack(&files[1], &mut packed), 0);
+        assert_eq!(packed, files[1]);
+        assert_eq!(files[1][40 + 12 * links..], files[0][40 + 10 * links..]);
+    }
+}
+
+/// A crowded street grid of one of five kinds: in version 1, with zones, with
+/// zones and powers, with powers, with closed nodes.
+fn crowded_study(dice: &mut Dice, kind: usize) -> Versioned {
+    let (wide, high) = (dice.between(2, 4) as u16, dice.between(1, 3) as u16);
+    let (time, capacity) = (dice.pick(&[5, 40, 900]), dice.pick(&[4, 25, 300]));
+    let links = grid(dice, wide, high, 512, time, capacity);
+    let plan = Plan {
+        nodes: (1, 1),
+        links: (1, 1),
+        destinations: 5,
+        time,
+        capacity,
+        trips: capacity,
+        tenths: 9,
+    };
+    let nodes = wide * high;
+    match kind {
+        0 => plan.with_links(dice, nodes, links).into(),
+        1 => plan.with_zones(dice, nodes, 5, links),
+        2 => plan
+            .with_zones(dice, nodes, 5, links)
+            .with_some_powers(dice),
+        3 => plan.with_links(dice, nodes, links).with_some_powers(dice),
+        _ => plan.with_links(dice, nodes, links).closing_some(dice, 2),
+    }
+}
+
+/// Runs to their end, on crowded networks where they take long, in version 1,
+/// with closed nodes and with powers.
 #[test]
 fn long_runs() {
     let mut dice = Dice::new(77);
     let mut pair = Pair::default();
     let (mut judged, mut endings) = (0, [0; 4]);
-    for turn in 0..360 {
-        let (wide, high) = (dice.between(2, 4) as u16, dice.between(1, 3) as u16);
-        let (time, capacity) = (dice.pick(&[5, 40, 900]), dice.pick(&[4, 25, 300]));
-        let links = grid(&mut dice, wide, high, 512, time, capacity);
-        let plan = Plan {
-            nodes: (1, 1),
-            links: (1, 1),
-            destinations: 5,
-            time,
-            capacity,
-            trips: capacity,
-            tenths: 9,
-        };
-        let study = match turn % 3 {
-            0 => Versioned::from(plan.with_links(&mut dice, wide * high, links)),
-            1 => plan.with_zones(&mut dice, wide * high, 5, links),
-            _ => {
-                let draft = plan.with_links(&mut dice, wide * high, links);
-                draft.closing_some(&mut dice, 2)
-            }
-        };
+    for turn in 0..600 {
+        let study = crowded_study(&mut dice, turn % 5);
         let excess = dice.pick(&[0, 0, 0, 1, 3]);
         let budget = if turn % 4 == 0 { 60 } else { 1_024 };
         let table = Lent::Table(vec![0; study.draft.table_length()]);
@@ -390,13 +528,14 @@ fn damaged(dice: &mut Dice, file: &[u8], header: usize) -> Vec<u8> {
 fn damaged_files() {
     let mut dice = Dice::new(505);
     let mut pair = Pair::default();
-    for turn in 0..5_000 {
+    for turn in 0..7_500 {
         let draft = Plan::small(&mut dice).draft(&mut dice);
         let gaps: [Vec<u8>; 5] = [(); 5].map(|()| vec![dice.roll() as u8; dice.index(6)]);
         let gaps = gaps.each_ref().map(Vec::as_slice);
-        let (study, header) = match turn % 2 {
+        let (study, header) = match turn % 3 {
             0 => (Versioned::from(draft), 32),
-            _ => (draft.closing_some(&mut dice, 3), 40),
+            1 => (draft.closing_some(&mut dice, 3), 40),
+            _ => (some_powers_and_zones(&mut dice, draft), 40),
         };
         let file = study.file_with_gaps(&gaps[..header / 8]);
         for _ in 0..8 {
@@ -425,8 +564,9 @@ fn sensible_header(version: u16, n: u16, m: u16, p: u16) -> Vec<u8> {
         .flat_map(u16::to_le_bytes)
         .collect();
     let sections = usize::from(version.min(2)) + 2;
+    let link_bytes = if version == 3 { 12 } else { 10 };
     let mut offset = 8 + 8 * sections as u32;
-    for length in &[10 * m, 2 * p, 2 * p * n, n][..sections] {
+    for length in &[link_bytes * m, 2 * p, 2 * p * n, n][..sections] {
         header.extend(offset.to_le_bytes());
         header.extend(u32::from(*length).to_le_bytes());
         offset += u32::from(*length);
@@ -445,7 +585,7 @@ fn senseless_files() {
             .map(|_| dice.roll() as u8 >> dice.below(8))
             .collect();
         let (n, m, p) = (dice.between(1, 3), dice.between(1, 3), dice.between(1, 2));
-        let version = dice.pick(&[1, 1, 2, 2, 3]);
+        let version = dice.pick(&[1, 1, 2, 2, 3, 3, 4]);
         let header = sensible_header(version, n as u16, m as u16, p as u16);
         if dice.once_in(2) {
             for (byte, number) in file.iter_mut().zip(header) {
@@ -476,17 +616,17 @@ fn recorded_calls() {
     assert!(pair.made >= 2_400 && pair.pages >= 190 && pair.over >= 500);
 }
 
-/// Networks of a larger size, with many destinations, in version 1 and with
-/// closed nodes.
+/// Networks of a larger size, with many destinations, in version 1, with closed
+/// nodes and with powers.
 #[test]
 fn larger_studies() {
     let mut dice = Dice::new(909);
     let mut pair = Pair::default();
-    for turn in 0..120 {
+    for turn in 0..180 {
         let plan = Plan {
             nodes: (20, 70),
             links: (40, 260),
-            destinations: 32.min(4 + turn / 2),
+            destinations: 32.min(4 + turn / 3),
             time: dice.pick(&[2, 30, 1_000, 16_383]),
             capacity: dice.pick(&[2, 30, 1_000, 65_535]),
             trips: dice.pick(&[1, 5, 60]),
@@ -498,12 +638,14 @@ fn larger_studies() {
         } else {
             plan.draft(&mut dice)
         };
-        let study = match turn % 4 {
+        let study = match turn % 6 {
             0 | 1 => Versioned::from(draft),
-            2 => draft.closing_some(&mut dice, 2),
+            2 => draft.with_some_powers(&mut dice),
+            3 => some_powers_and_zones(&mut dice, draft),
+            4 => draft.closing_some(&mut dice, 2),
             _ => {
                 let links = grid(&mut dice, 8, 6, 160, plan.time, plan.capacity);
-                plan.with_zones(&mut dice, 48, 5 + turn as u16 / 4, links)
+                plan.with_zones(&mut dice, 48, 5 + turn as u16 / 6, links)
             }
         };
         let file = study.file();

@@ -2,7 +2,7 @@
 
 use second::draft::{Dice, Draft, DraftLink, Plan, Versioned, grid};
 use second::staircase::Road;
-use second::{FINEST, MOVED, REACHED, SPENT, audit, check, pack, pass, run, start};
+use second::{FINEST, MOVED, REACHED, SPENT, audit, check, pack, page, pass, run, start};
 
 fn draft(nodes: u16, links: &[DraftLink], destinations: &[u16], trips: &[&[u16]]) -> Draft {
     Draft {
@@ -82,6 +82,7 @@ fn nodes_without_paths() {
         free: 2,
         rise: 8,
         capacity: 1,
+        power: 4,
     };
     assert_eq!(answer.refusal, 0);
     assert_eq!(answer.gap, plain.gap + 2 * 5 * u64::from(road.time(5, 1)));
@@ -531,6 +532,7 @@ fn nodes_behind_a_closed_node() {
         free: 2,
         rise: 8,
         capacity: 1,
+        power: 4,
     };
     let round = audit(&file, &[4, 0, 3, 3], 1);
     assert_eq!(round.gap, 2 * 3 * u64::from(road.time(3, 1)));
@@ -579,6 +581,46 @@ fn zones() {
     }
 }
 
+/// A crowded study with these counts.
+fn draft_of(dice: &mut Dice, nodes: u64, links: u64, destinations: u64) -> Draft {
+    let plan = Plan {
+        nodes: (nodes, nodes),
+        links: (links, links),
+        destinations,
+        time: 900,
+        capacity: 50,
+        trips: 12,
+        tenths: 8,
+    };
+    let mut draft = plan.draft(dice);
+    while (draft.destinations.len() as u64) < destinations {
+        draft = plan.with_links(dice, nodes as u16, draft.links);
+    }
+    draft
+}
+
+/// Packs a study and runs it, with as much room as it needs and with less.
+fn pack_and_run(study: &Versioned) {
+    let file = study.file();
+    assert_eq!(check(&file), 0);
+    let mut output = vec![1; file.len() + 1];
+    assert_eq!(pack(&file, &mut output[..file.len() - 1]), 17);
+    assert_eq!(pack(&file, &mut output), 0);
+    assert_eq!(output[..file.len()], file);
+    assert_eq!(output[file.len()], 1);
+
+    let length = study.draft.table_length();
+    let mut table = vec![7; length + 1];
+    assert_eq!(start(&file, &mut table[..length - 1]), 12);
+    let answer = run(&file, &mut table, 40, 0);
+    assert_eq!((answer.refusal, table[length]), (0, 7));
+    let audited = audit(&file, &table, answer.share);
+    assert_eq!(
+        (audited.refusal, audited.gap, audited.cost, audited.over),
+        (0, answer.gap, answer.cost, answer.over)
+    );
+}
+
 /// Studies of version 2 with each count at its limit.
 #[test]
 fn closed_nodes_at_the_limits() {
@@ -593,38 +635,8 @@ fn closed_nodes_at_the_limits() {
         (2, 512, 2, 10),
         (2, 1, 1, 10),
     ] {
-        let plan = Plan {
-            nodes: (nodes, nodes),
-            links: (links, links),
-            destinations,
-            time: 900,
-            capacity: 50,
-            trips: 12,
-            tenths: 8,
-        };
-        let mut draft = plan.draft(&mut dice);
-        while (draft.destinations.len() as u64) < destinations {
-            draft = plan.with_links(&mut dice, nodes as u16, draft.links);
-        }
-        let study = draft.closing_some(&mut dice, tenths);
-        let file = study.file();
-        assert_eq!(check(&file), 0);
-        let mut output = vec![1; file.len() + 1];
-        assert_eq!(pack(&file, &mut output[..file.len() - 1]), 17);
-        assert_eq!(pack(&file, &mut output), 0);
-        assert_eq!(output[..file.len()], file);
-        assert_eq!(output[file.len()], 1);
-
-        let length = study.draft.table_length();
-        let mut table = vec![7; length + 1];
-        assert_eq!(start(&file, &mut table[..length - 1]), 12);
-        let answer = run(&file, &mut table, 40, 0);
-        assert_eq!((answer.refusal, table[length]), (0, 7));
-        let audited = audit(&file, &table, answer.share);
-        assert_eq!(
-            (audited.refusal, audited.gap, audited.cost, audited.over),
-            (0, answer.gap, answer.cost, answer.over)
-        );
+        let draft = draft_of(&mut dice, nodes, links, destinations);
+        pack_and_run(&draft.closing_some(&mut dice, tenths));
     }
 }
 
@@ -633,10 +645,11 @@ fn closed_nodes_at_the_limits() {
 #[test]
 fn a_run_is_a_start_and_passes() {
     let mut dice = Dice::new(4);
-    for turn in 0..600 {
+    for turn in 0..800 {
         let draft = Plan::small(&mut dice).draft(&mut dice);
-        let study = match turn % 3 {
+        let study = match turn % 4 {
             0 => draft.closing_some(&mut dice, 2),
+            1 => draft.with_some_powers(&mut dice),
             _ => Versioned::from(draft),
         };
         let (draft, file) = (&study.draft, study.file());
@@ -669,5 +682,114 @@ fn a_run_is_a_start_and_passes() {
         if !reached {
             assert_eq!(last.outcome == MOVED, answer.ending == SPENT);
         }
+    }
+}
+
+/// All 512 links as full as they may be, with each power and with all four.
+#[test]
+fn the_fullest_table_with_powers() {
+    let mut links = vec![[0, 1, 16_383, 16_383, 1]; 256];
+    links.extend(vec![[1, 0, 16_383, 16_383, 1]; 255]);
+    links.push([1, 0, 16_383, 16_383, 65_535]);
+    let draft = draft(2, &links, &[1], &[&[65_535, 0]]);
+    let full = 1_024 * 65_535_u32;
+    let mut table = vec![full; 512];
+    table[511] = 0;
+
+    let top = |power: u32| 16_383 + 16_383 * 4_u64.pow(power);
+    let area = |power: u32| {
+        let treads = (0..256_u64).map(|step| 16_383 + 16_383 * step.pow(power) / 64_u64.pow(power));
+        1_024 * treads.sum::<u64>() + (64 * u64::from(full) - 256 * 1_024) * top(power)
+    };
+    for chosen in [[1; 4], [2; 4], [3; 4], [4; 4], [1, 2, 3, 4], [4, 3, 3, 2]] {
+        let powers: Vec<u16> = chosen.into_iter().cycle().take(512).collect();
+        let study = draft.clone().with_powers(powers.clone());
+        let (mut cost, mut spent, mut least) = (0, 0, u64::MAX);
+        for (link, &power) in powers[..511].iter().enumerate() {
+            cost += area(power.into());
+            spent += top(power.into()) * u64::from(full);
+            if link < 256 {
+                least = least.min(top(power.into()));
+            }
+        }
+        let answer = audit(&study.file(), &table, 1_024);
+        assert_eq!((answer.refusal, answer.over), (0, 511));
+        assert_eq!(answer.cost, cost);
+        assert_eq!(answer.gap, spent - 1_024 * 65_535 * least);
+        let mut after = table.clone();
+        let judged = pass(&study.file(), &mut after, 1_024);
+        assert_eq!((judged.gap, judged.cost), (answer.gap, answer.cost));
+    }
+}
+
+/// The cost is the sum of the roads' areas and the gap that of their times, each
+/// link with its own power.
+#[test]
+fn every_link_has_its_own_power() {
+    let mut dice = Dice::new(8);
+    for _ in 0..300 {
+        let draft = Plan::small(&mut dice).draft(&mut dice);
+        let study = draft.with_some_powers(&mut dice);
+        let share = dice.pick(&[1, 5, 64, 1_024]);
+        let table = study.wandering_table(&mut dice, share);
+        let answer = audit(&study.file(), &table, share);
+        if answer.refusal != 0 {
+            continue;
+        }
+        let links = study.draft.links.len();
+        let mut cost = 0;
+        let mut lines = vec![0; 30 * links];
+        assert_eq!(page(&study.file(), &table, share, &mut lines), 0);
+        for (link, [_, _, free, rise, capacity]) in study.draft.links.iter().enumerate() {
+            let road = Road {
+                free: *free,
+                rise: *rise,
+                capacity: *capacity,
+                power: study.power(link),
+            };
+            let total = table.chunks(links).map(|row| row[link]).sum::<u32>();
+            cost += road.area(total, share).0;
+            let time = road.time(total.into(), share.into());
+            let printed = format!("{}.{:02}\n", time / 100, time % 100);
+            assert!(lines[30 * link..][..30].ends_with(printed.as_bytes()));
+        }
+        assert_eq!(answer.cost, cost);
+    }
+}
+
+/// Up to capacity a smaller power takes more time, far past it less.
+#[test]
+fn smaller_powers_rise_earlier() {
+    let costs = |trips: u16| {
+        let draft = draft(2, &[[0, 1, 10, 900, 64]], &[1], &[&[trips, 0]]);
+        [1, 2, 3, 4].map(|power| {
+            let file = draft.clone().with_powers(vec![power]).file();
+            audit(&file, &[trips.into()], 1).cost
+        })
+    };
+    assert!(costs(64).windows(2).all(|pair| pair[0] > pair[1]));
+    assert!(costs(256).windows(2).all(|pair| pair[0] < pair[1]));
+}
+
+/// Studies of version 3 with each count at its limit. The largest has 14,568
+/// bytes.
+#[test]
+fn powers_at_the_limits() {
+    let mut dice = Dice::new(9);
+    for (nodes, links, destinations, tenths) in [
+        (128, 512, 32, 1),
+        (128, 512, 32, 0),
+        (128, 512, 1, 2),
+        (33, 400, 32, 3),
+        (2, 512, 2, 10),
+        (2, 1, 1, 10),
+    ] {
+        let draft = draft_of(&mut dice, nodes, links, destinations);
+        let powers = (0..links).map(|link| 1 + link as u16 % 4).collect();
+        let study = draft.with_powers(powers).closing_some(&mut dice, tenths);
+        let sections = 12 * links + 2 * destinations + 2 * destinations * nodes + nodes;
+        assert_eq!(study.file().len() as u64, 40 + sections);
+        assert!(study.file().len() <= 14_568);
+        pack_and_run(&study);
     }
 }

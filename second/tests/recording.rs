@@ -2,6 +2,7 @@
 
 use std::collections::HashSet;
 
+use second::format::u16_at;
 use second::network::Study;
 use second::staircase::LAST_STEP;
 use second::stream::{
@@ -25,6 +26,12 @@ const WITHOUT_CLOSED_NODES: usize = 4_509;
 /// Calls before the first ones that were made for links past the curve.
 const WITHOUT_OVER: usize = 5_131;
 
+/// Calls before the first ones that were made for version 3.
+const WITHOUT_POWERS: usize = 5_253;
+
+/// All calls.
+const ALL: usize = 5_750;
+
 /// The lines of answers without the count of links past the curve, which stands
 /// before the digest.
 fn without_over(lines: &str) -> String {
@@ -41,8 +48,9 @@ fn without_over(lines: &str) -> String {
 }
 
 /// The list is the same every time and everywhere, and begins with what it was
-/// before there were pages, before there were closed nodes and before links
-/// past the curve were counted. Nothing but the count has come to the answers.
+/// before there were pages, before there were closed nodes, before links past
+/// the curve were counted and before there were powers. Nothing but the count
+/// has come to the answers.
 #[test]
 fn the_list_stays_the_same() {
     let calls = cases::all();
@@ -55,16 +63,23 @@ fn the_list_stays_the_same() {
             0x6153_11DF_0DB6_1548,
             0xE73C_6274_6DAF_CC73,
         ),
-        (WITHOUT_OVER, 0x4CF5_E60D_F0D2_0DCD, 0xFD51_74B0_5329_7677),
+        (WITHOUT_OVER, 0x4CF5_E60D_F0D2_0DCD, 0x9D89_72D6_A7CC_F0E1),
     ] {
         let calls = &calls[..count];
         let answered = without_over(&answers(&Second, calls));
         assert_eq!(digest(write_calls(calls)), stream, "{count}");
         assert_eq!(digest(answered.into_bytes()), lines, "{count}");
     }
-    assert_eq!(digest(write_calls(&calls)), 0x9C24_B7FE_D2AD_FC0D);
-    let lines = answers(&Second, &calls);
-    assert_eq!(digest(lines.into_bytes()), 0x2A2C_235E_E9EB_6722);
+    for (count, stream, lines) in [
+        (WITHOUT_POWERS, 0x9C24_B7FE_D2AD_FC0D, 0xB966_9CB0_8703_1144),
+        (ALL, 0x2688_F39D_96B9_94F5, 0xBC66_F6E7_B969_31A4),
+    ] {
+        let calls = &calls[..count];
+        let answered = answers(&Second, calls);
+        assert_eq!(digest(write_calls(calls)), stream, "{count}");
+        assert_eq!(digest(answered.into_bytes()), lines, "{count}");
+    }
+    assert_eq!(calls.len(), ALL);
 }
 
 /// A file of version 1 that calls itself version 2 was refused 2 before there
@@ -94,6 +109,44 @@ fn answers_that_changed_with_version_2() {
         before.push('\n');
     }
     assert_eq!(digest(before.into_bytes()), 0x68C3_3E75_690D_4835);
+}
+
+/// A file that calls itself version 3 was refused 2 before there was a version
+/// 3. Since then those that are cut short or have the sections of version 1 are
+/// refused 4, and one of version 2 is refused 5: its links are too short. That
+/// is all that has changed in the answers.
+#[test]
+fn answers_that_changed_with_version_3() {
+    let calls = &cases::all()[..WITHOUT_POWERS];
+    let mut player = Player::default();
+    let mut changed = Vec::new();
+    for (place, call) in calls.iter().enumerate() {
+        let reply = player.play(&Second, call);
+        if player.file.starts_with(&[3, 0]) && player.file.len() >= 32 {
+            changed.push((place, reply.refusal()));
+        }
+    }
+    let places = [4_534, 4_535, 4_549, 4_550, 4_551, 4_571];
+    assert_eq!(
+        changed,
+        places
+            .into_iter()
+            .zip([4, 4, 5, 5, 4, 4])
+            .collect::<Vec<_>>()
+    );
+
+    let mut before = String::new();
+    for (place, line) in answers(&Second, calls).lines().enumerate() {
+        before += &match changed.iter().find(|(changed, _)| *changed == place) {
+            Some((_, refusal)) => line.replacen(&format!(" {refusal} "), " 2 ", 1),
+            None => line.to_string(),
+        };
+        before.push('\n');
+    }
+    assert_eq!(digest(before.bytes()), 0x2A2C_235E_E9EB_6722);
+    let first: String = before.split_inclusive('\n').take(WITHOUT_OVER).collect();
+    let first = without_over(&first);
+    assert_eq!(digest(first.into_bytes()), 0xFD51_74B0_5329_7677);
 }
 
 #[test]
@@ -343,7 +396,7 @@ struct Judged {
 fn made_for_over() -> Vec<Judged> {
     let mut player = Player::default();
     let mut made = Vec::new();
-    for call in cases::all().split_off(WITHOUT_OVER) {
+    for call in cases::all().drain(WITHOUT_OVER..WITHOUT_POWERS) {
         let before = match &call.lent {
             Lent::Table(table) => table.clone(),
             _ => player.table.clone(),
@@ -431,4 +484,99 @@ fn the_list_has_counts_that_a_pass_changes() {
     assert!(fewer >= 5 && more >= 3, "{fewer} {more}");
     assert!(mixed.iter().all(|&count| count >= 5), "{mixed:?}");
     assert!(doubled.iter().all(|&count| count >= 2), "{doubled:?}");
+}
+
+/// Calls made for powers are answered alike with the calls before them and
+/// without.
+#[test]
+fn calls_for_powers_stand_alone() {
+    let calls = cases::all();
+    let first = &calls[WITHOUT_POWERS];
+    assert!(first.file.is_some() && matches!(first.lent, Lent::Table(_)));
+    let all = answers(&Second, &calls);
+    assert!(all.ends_with(&answers(&Second, &calls[WITHOUT_POWERS..])));
+}
+
+/// An accepted file of version 3 with this power on every link.
+fn with_power(file: &[u8], power: u8) -> Vec<u8> {
+    let mut other = file.to_vec();
+    let (offset, links) = (usize::from(u16_at(file, 8)), usize::from(u16_at(file, 4)));
+    for link in 0..links {
+        other[offset + 12 * link + 10] = power;
+    }
+    other
+}
+
+/// Every call on studies of version 3, with every refusal of a file, every
+/// outcome and every ending, with closed nodes and with links past the curve.
+#[test]
+fn the_list_has_powers() {
+    let mut player = Player::default();
+    let mut accepted: HashSet<&str> = HashSet::new();
+    let mut refusals: HashSet<u8> = HashSet::new();
+    let (mut outcomes, mut endings, mut closed, mut over) = ([0; 3], [0; 4], 0, 0);
+    for call in &cases::all()[WITHOUT_POWERS..] {
+        let reply = player.play(&Second, call);
+        if !player.file.starts_with(&[3, 0]) {
+            continue;
+        }
+        refusals.insert(reply.refusal());
+        over += usize::from(reply.over() > 0);
+        if reply.refusal() == 0 {
+            accepted.insert(call.kind.word());
+            let study = Study::read(&player.file);
+            closed += usize::from(study.is_ok_and(|study| study.closed != 0));
+        }
+        match reply {
+            Reply::Pass(answer) => outcomes[usize::from(answer.outcome)] += 1,
+            Reply::Run(answer) => endings[usize::from(answer.ending)] += 1,
+            _ => {}
+        }
+    }
+    assert_eq!(accepted.len(), Kind::ALL.len());
+    for number in [0, 1, 3, 4, 5, 6, 7, 8, 19, 9, 10, 11, 15, 16, 17, 18, 20] {
+        assert!(refusals.contains(&number), "{number}");
+    }
+    assert!(outcomes.iter().all(|&count| count >= 5), "{outcomes:?}");
+    assert!(endings.iter().all(|&count| count >= 5), "{endings:?}");
+    assert!(closed >= 50 && over >= 50, "{closed} {over}");
+}
+
+/// For many of these calls the powers matter: with one power for all links,
+/// whichever, the same call answers or leaves something else.
+#[test]
+fn the_list_tells_powers_apart() {
+    let mut player = Player::default();
+    let mut apart = [0; 7];
+    for call in &cases::all()[WITHOUT_POWERS..] {
+        let before = player.clone();
+        let reply = player.play(&Second, call);
+        if reply.refusal() != 0 || !player.file.starts_with(&[3, 0]) {
+            continue;
+        }
+        let others = [1, 2, 3, 4].map(|power| {
+            let mut other = before.clone();
+            let file = Some(with_power(&player.file, power));
+            let call = Call {
+                file,
+                ..call.clone()
+            };
+            let reply = other.play(&Second, &call);
+            (reply, other.table, other.page)
+        });
+        let own = (reply, player.table.clone(), player.page.clone());
+        if others.iter().all(|other| *other != own) {
+            let place = Kind::ALL.iter().position(|kind| *kind == call.kind);
+            apart[place.expect("a kind of call")] += 1;
+        }
+    }
+    // Kinds in their order: check, pack, start, pass, run, audit, page.
+    let least = [0, 0, 0, 40, 25, 50, 25];
+    assert!(
+        apart
+            .iter()
+            .zip(least)
+            .all(|(count, least)| *count >= least),
+        "{apart:?}"
+    );
 }

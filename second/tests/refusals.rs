@@ -135,16 +135,17 @@ fn question_1_length_of_the_file() {
 fn question_2_version() {
     let file = sample().file();
     let closed = closed_sample().file();
-    for version in [0, 3, 4, 255, 256, 257, 258, 512, 513, 65_535] {
+    for version in [0, 4, 5, 255, 256, 257, 258, 259, 512, 513, 768, 65_535] {
         refused(&with_u16(&file, 0, version), 2);
         refused(&with_u16(&closed, 0, version), 2);
     }
     // Even where nothing else is right.
-    for version in [0, 3, 4, 65_535] {
+    for version in [0, 4, 65_535] {
         refused(&with_u16(&[0xFF; 32], 0, version), 2);
     }
     refused(&with_u16(&[0xFF; 32], 0, 1), 3);
     refused(&with_u16(&[0xFF; 32], 0, 2), 3);
+    refused(&with_u16(&[0xFF; 32], 0, 3), 3);
     // The sections of version 1 begin too early for version 2; those of
     // version 2 are right for version 1, which does not read the fourth.
     refused(&with_u16(&file, 0, 2), 4);
@@ -638,8 +639,8 @@ fn short_files_of_version_2() {
         refused(&with_u16(&file, 2, 1)[..length], 3);
         refused(&with_u16(&file, 4, 0)[..length], 3);
         refused(&with_u16(&file, 6, 4)[..length], 3);
-        refused(&with_u16(&file, 0, 3)[..length], 2);
         refused(&with_u16(&file, 0, 4)[..length], 2);
+        refused(&with_u16(&file, 0, 5)[..length], 2);
     }
     // A file of 39 bytes whose pairs, as far as there are any, are right.
     let header = with_pairs(&file[..40], [(40, 0); 4]);
@@ -924,4 +925,248 @@ fn the_first_question_counts() {
             refused(&file, faults[first].0);
         }
     }
+}
+
+/// The sample study in version 3, with several powers.
+fn power_sample() -> Versioned {
+    closed_sample().with_powers(vec![1, 4, 2])
+}
+
+fn power_sample_with(change: impl FnOnce(&mut Versioned)) -> Vec<u8> {
+    let mut study = power_sample();
+    change(&mut study);
+    study.file()
+}
+
+#[test]
+fn question_7_powers() {
+    for link in 0..3 {
+        for power in [0, 5, 6, 8, 255, 256, 257, 260, 1_025, 32_768, 65_535] {
+            refused(
+                &power_sample_with(|study| study.powers.as_mut().unwrap()[link] = power),
+                7,
+            );
+        }
+        for power in 1..=4 {
+            accepted(&power_sample_with(|study| {
+                study.powers.as_mut().unwrap()[link] = power;
+            }));
+        }
+    }
+}
+
+/// The other numbers of a link are asked in version 3 too, with every power.
+#[test]
+fn question_7_in_version_3() {
+    for power in 1..=4 {
+        for (field, inside, outside) in [
+            (2, [1, 16_383], [0, 16_384, 65_535]),
+            (3, [0, 16_383], [16_384, 32_768, 65_535]),
+            (4, [1, 65_535], [0, 0, 0]),
+        ] {
+            let with = |number| {
+                power_sample_with(|study| {
+                    study.powers = Some(vec![power; 3]);
+                    study.draft.links[1][field] = number;
+                })
+            };
+            for number in inside {
+                accepted(&with(number));
+            }
+            for number in outside {
+                refused(&with(number), 7);
+            }
+        }
+    }
+}
+
+#[test]
+fn question_7_power_of_the_last_link() {
+    let mut full = sample();
+    full.links.resize(512, [0, 1, 900, 0, 1]);
+    let full = full.with_powers(vec![4; 512]);
+    accepted(&full.file());
+    for link in [0, 255, 256, 510, 511] {
+        let mut other = full.clone();
+        other.powers.as_mut().unwrap()[link] = 5;
+        refused(&other.file(), 7);
+    }
+}
+
+/// Versions 2 and 3 differ in the bytes of a link, and 1 in the header too.
+#[test]
+fn versions_taken_for_one_another() {
+    let file = power_sample().file();
+    assert_eq!(file.len(), 95);
+    accepted(&file);
+    refused(&with_u16(&file, 0, 1), 5);
+    refused(&with_u16(&file, 0, 2), 5);
+    refused(&with_u16(&closed_sample().file(), 0, 3), 5);
+    refused(&with_u16(&sample().file(), 0, 3), 4);
+    for version in [0, 4, 5, 256, 259, 768, 65_535] {
+        refused(&with_u16(&file, 0, version), 2);
+    }
+    // 60 bytes are five links of version 3 or six of version 2.
+    let mut six = closed_sample();
+    six.draft.links = [[1, 2, 1, 2, 1], [2, 1, 2, 1, 2]].repeat(3);
+    six.draft.trips = vec![vec![0; 3], vec![0, 4, 0]];
+    let file = six.file();
+    accepted(&file);
+    let five = with_u16(&with_u16(&file, 0, 3), 4, 5);
+    accepted(&five);
+    assert_eq!(check(&with_u16(&five, 4, 6)), 5);
+    assert_eq!(check(&with_u16(&file, 4, 5)), 5);
+}
+
+#[test]
+fn short_files_of_version_3() {
+    let file = power_sample().file();
+    for length in 0..32 {
+        refused(&file[..length], 1);
+    }
+    for length in 32..file.len() {
+        refused(&file[..length], 4);
+    }
+    // Question 3 comes before 4, and question 2 before both.
+    for length in 32..=40 {
+        refused(&with_u16(&file, 2, 1)[..length], 3);
+        refused(&with_u16(&file, 4, 0)[..length], 3);
+        refused(&with_u16(&file, 6, 4)[..length], 3);
+        refused(&with_u16(&file, 0, 4)[..length], 2);
+    }
+    let header = with_pairs(&file[..40], [(40, 0); 4]);
+    refused(&header, 5);
+    refused(&header[..39], 4);
+    refused(&with_u32(&header, 8, 39), 4);
+}
+
+#[test]
+fn questions_4_and_5_in_version_3() {
+    let study = power_sample();
+    let file = study.file();
+    let close = [(40, 36), (76, 4), (80, 12), (92, 3)];
+    assert_eq!(file, with_pairs(&file, close));
+    for offset in [39, 32, 0] {
+        refused(&with_u32(&file, 8, offset), 4);
+    }
+    for first in 0..4 {
+        for second in 0..first {
+            let mut pairs = close;
+            pairs.swap(first, second);
+            refused(&with_pairs(&file, pairs), 4);
+        }
+    }
+    let gap: &[u8] = &[0; 8];
+    let roomy = study.file_with_gaps(&[gap; 5]);
+    accepted(&roomy);
+    for (section, here) in [36, 4, 12, 3].into_iter().enumerate() {
+        let place = 12 + 8 * section;
+        for length in [here - 1, here + 1, here - 2, here + 2, 0, here + 8] {
+            refused(&with_u32(&roomy, place, length), 5);
+        }
+        refused(&with_u32(&roomy, place, here + 9), 4);
+    }
+    // Ten bytes a link.
+    refused(&with_u32(&roomy, 12, 30), 5);
+    for links in [2, 4] {
+        refused(&with_u16(&roomy, 4, links), 5);
+    }
+    let closed = |bytes: usize| power_sample_with(|study| study.closed = Some(vec![0; bytes]));
+    accepted(&closed(3));
+    for bytes in [0, 2, 4] {
+        refused(&closed(bytes), 5);
+    }
+    // With the longest file the sections end where it ends.
+    let gap = vec![0; 65_536 - 95];
+    let full = study.file_with_gaps(&[&[], &gap]);
+    assert_eq!(full.len(), 65_536);
+    accepted(&full);
+    refused(&full[..65_535], 4);
+}
+
+/// With faults for several questions at once, the first one counts, and a wrong
+/// power is a fault for question 7.
+#[test]
+fn the_first_question_counts_in_version_3() {
+    type Fault = (u8, fn(&mut Versioned));
+    let faults: [Fault; 9] = [
+        (3, |study| study.draft.nodes = 200),
+        (5, |study| study.closed.as_mut().unwrap().push(2)),
+        (6, |study| study.draft.links.push([0, 0, 1, 1, 1])),
+        (7, |study| study.powers = Some(vec![5, 4, 2])),
+        (8, |study| study.draft.destinations.reverse()),
+        (19, |study| study.closed.as_mut().unwrap()[1] = 2),
+        (9, |study| {
+            study.draft.trips[0][1] = 1;
+            study.draft.trips[0][2] = 1;
+            study.draft.trips[1][1] = 1;
+        }),
+        (10, |study| study.draft.trips[0][0] = 65_535),
+        (11, |study| {
+            let closed = study.closed.as_mut().unwrap();
+            closed[0] |= 1;
+            closed[1] |= 1;
+        }),
+    ];
+    for first in 0..faults.len() {
+        for second in first..faults.len() {
+            let file = power_sample_with(|study| {
+                faults[first].1(study);
+                if first != second {
+                    faults[second].1(study);
+                }
+            });
+            refused(&file, faults[first].0);
+        }
+    }
+    // A wrong end on the last link and a wrong power on the first.
+    let file = power_sample_with(|study| {
+        study.draft.links[2][1] = 3;
+        study.powers = Some(vec![0, 1, 1]);
+    });
+    refused(&file, 6);
+}
+
+#[test]
+fn question_17_output_of_version_3() {
+    let study = power_sample();
+    for gaps in [[0; 5], [1, 2, 3, 4, 5], [0, 0, 0, 0, 500]] {
+        let bytes = gaps.map(|length| vec![6; length]);
+        let file = study.file_with_gaps(&bytes.each_ref().map(Vec::as_slice));
+        for length in [0, 79, 89, 94] {
+            let mut output = vec![0xCC; length];
+            assert_eq!(pack(&file, &mut output), 17);
+            assert_eq!(output, vec![0xCC; length]);
+        }
+        for length in [95, 96, 5_000] {
+            let mut output = vec![0xCC; length];
+            assert_eq!(pack(&file, &mut output), 0);
+            assert_eq!(output[..95], study.file());
+            assert!(output[95..].iter().all(|&byte| byte == 0xCC));
+        }
+    }
+}
+
+/// Tables are asked the same with powers: 12, 14, 15, 16, 20 and 18.
+#[test]
+fn tables_in_version_3() {
+    let mut draft = sample();
+    draft.links.iter_mut().for_each(|link| link[4] = 9);
+    let file = draft.closing(&[2]).with_powers(vec![3, 1, 2]).file();
+    let ring = round_the_ring(&file, 0, 1);
+    for (table, share, number) in [
+        (&ring[..5], 1, 12),
+        (&ring, 0, 14),
+        (&round_the_ring(&file, 0, 15), 1, 15),
+        (&ring, 2, 16),
+        (&ring, 1, 20),
+    ] {
+        assert_eq!(audit(&file, table, share).refusal, number);
+        assert_eq!(pass(&file, &mut table.to_vec(), share).refusal, number);
+        page_refused(&file, table, share, number);
+    }
+    let table = round_the_ring(&file, 1, 1);
+    assert_eq!(audit(&file, &table, 1).refusal, 0);
+    assert_eq!(page(&file, &table, 1, &mut [0; 89]), 18);
+    assert_eq!(run(&file, &mut [0; 6], 0, 0).refusal, 13);
 }

@@ -1,6 +1,7 @@
-//! The cases of the town of two roads, and of a town with a zone in the middle.
+//! The cases of the town of two roads, of a town with a zone in the middle, and
+//! of the first town with other powers.
 
-use second::draft::Draft;
+use second::draft::{Draft, Versioned};
 use second::staircase::{LAST_STEP, Road};
 use second::{
     AuditAnswer, FINEST, MOVED, PassAnswer, REACHED, RUN_FINEST, RunAnswer, SPENT, audit, check,
@@ -11,11 +12,13 @@ const LINK_0: Road = Road {
     free: 10,
     rise: 10,
     capacity: 2,
+    power: 4,
 };
 const LINK_1: Road = Road {
     free: 15,
     rise: 0,
     capacity: 1,
+    power: 4,
 };
 
 fn town() -> Vec<u8> {
@@ -789,5 +792,184 @@ fn listings_of_version_2() {
         file.resize(length, 2);
         let text = listed(&input(10, 0, &file));
         assert_eq!(text.lines().next(), Some(first));
+    }
+}
+
+/// The town in version 3, with this power on link 0.
+fn town_of_power(power: u16) -> Versioned {
+    Draft::town().with_powers(vec![power, 4])
+}
+
+#[test]
+fn the_file_of_version_3() {
+    let file = town_of_power(3).file();
+    assert_eq!(file.len(), 72);
+    #[rustfmt::skip]
+    let header = [
+        3, 0, 2, 0, 2, 0, 1, 0,
+        40, 0, 0, 0, 24, 0, 0, 0,
+        64, 0, 0, 0, 2, 0, 0, 0,
+        66, 0, 0, 0, 4, 0, 0, 0,
+        70, 0, 0, 0, 2, 0, 0, 0,
+    ];
+    assert_eq!(file[..40], header);
+    #[rustfmt::skip]
+    let rest = [
+        0, 0, 1, 0, 10, 0, 10, 0, 2, 0, 3, 0,
+        0, 0, 1, 0, 15, 0, 0, 0, 1, 0, 4, 0,
+        1, 0,
+        2, 0, 0, 0,
+        0, 0,
+    ];
+    assert_eq!(file[40..], rest);
+    assert_eq!(check(&file), 0);
+    // In any order.
+    let open = Draft::town().closing(&[]).with_powers(vec![3, 4]);
+    assert_eq!(open.file(), file);
+    assert_eq!(open.packed_length(), 72);
+    let closed = Draft::town().with_powers(vec![3, 4]).closing(&[0]);
+    assert_eq!(closed, Draft::town().closing(&[0]).with_powers(vec![3, 4]));
+    assert_eq!(closed.file()[70..], [1, 0]);
+}
+
+/// Times of link 0 with each power, by the road, by the page and by the gap.
+#[test]
+fn times_of_each_power() {
+    for (power, times) in [
+        (1, [10, 10, 19, 20, 20, 49, 50]),
+        (2, [10, 10, 19, 20, 20, 168, 170]),
+        (3, [10, 10, 19, 20, 20, 642, 650]),
+        (4, [10, 10, 19, 20, 20, 2_530, 2_570]),
+    ] {
+        let road = Road { power, ..LINK_0 };
+        let mut study = town_of_power(power);
+        study.draft.trips[0][0] = 9;
+        let file = study.file();
+        // At share 32 a step is one of the table's numbers.
+        for (step, time) in [0, 1, 63, 64, 65, 255, 256].into_iter().zip(times) {
+            assert_eq!(road.time_on(step), time);
+            assert_eq!(road.time(u64::from(step), 32), time);
+            let table = [step, 288 - step];
+            let mut bytes = [0; 60];
+            assert_eq!(page(&file, &table, 32, &mut bytes), 0);
+            let hundredths = format!("{}.{:02}", time / 100, time % 100);
+            assert_eq!(bytes[21..29], *format!("{hundredths:>8}").as_bytes());
+            let answer = audit(&file, &table, 32);
+            let least = time.min(15) * 288;
+            assert_eq!(
+                answer.gap,
+                u64::from(time * step + 15 * (288 - step) - least)
+            );
+            assert_eq!(
+                answer.over,
+                u32::from(step == 256) + u32::from(288 - step >= 128)
+            );
+        }
+    }
+}
+
+/// P1 to P4 with each power: past the curve the time is a + b·4^q.
+#[test]
+fn flows_of_8_and_9_with_each_power() {
+    for (power, level, below) in [(1, 50, 49), (2, 170, 168), (3, 650, 642), (4, 2_570, 2_530)] {
+        let road = Road { power, ..LINK_0 };
+        assert_eq!(road.time(2, 1), 20);
+        assert_eq!(road.time(8, 1), level);
+        assert_eq!(road.time(9, 1), level);
+        assert_eq!(road.time(511, 64), below);
+        let mut study = town_of_power(power);
+        study.draft.trips[0][0] = 9;
+        let file = study.file();
+        assert_eq!(audit(&file, &[8, 1], 1).over, 1);
+        assert_eq!(audit(&file, &[7, 2], 1).over, 0);
+        assert_eq!(audit(&file, &[511, 65], 64).over, 0);
+    }
+}
+
+/// P5 and P6 with each power. The cost is two wide treads up to capacity.
+#[test]
+fn the_start_with_each_power() {
+    for (power, cost) in [(1, 1_848), (2, 1_640), (3, 1_546), (4, 1_488)] {
+        let file = town_of_power(power).file();
+        let mut table = [7, 9, 11];
+        assert_eq!(start(&file, &mut table), 0);
+        assert_eq!(table, [2, 0, 11]);
+        let answer = audit(&file, &table, 1);
+        let rises = (0..64_u64).map(|step| 10 * step.pow(power.into()) / 64_u64.pow(power.into()));
+        assert_eq!(answer.cost, 2 * (640 + rises.sum::<u64>()));
+        assert_eq!((answer.gap, answer.cost), (10, cost));
+    }
+}
+
+/// P7 and P8 with each power: the gentler the rise, the more trips go the other
+/// way before both take 15.
+#[test]
+fn the_pass_of_each_power() {
+    for (power, taken) in [(1, 8), (2, 3), (3, 2), (4, 1)] {
+        let file = town_of_power(power).file();
+        let mut table = [16, 0];
+        let answer = pass(&file, &mut table, 8);
+        assert_eq!((answer.outcome, answer.gap), (MOVED, 80));
+        assert_eq!((answer.share, table), (8 + taken, [16, 2 * taken]));
+        let mut bytes = [0; 60];
+        assert_eq!(page(&file, &table, answer.share, &mut bytes), 0);
+        assert_eq!(bytes[21..29], *b"    0.15");
+        assert_eq!(audit(&file, &table, answer.share).gap, 0);
+    }
+}
+
+#[test]
+fn a_run_with_power_1() {
+    let file = town_of_power(1).file();
+    let mut table = [3, 4, 5];
+    let answer = run(&file, &mut table, 10, 0);
+    let expected = RunAnswer {
+        refusal: 0,
+        ending: REACHED,
+        judged: 2,
+        share: 2,
+        gap: 0,
+        cost: 3_448,
+        over: 0,
+    };
+    assert_eq!((answer, table), (expected, [2, 2, 5]));
+    let expected = "reached\njudged 2\nshare 2\ngap 0\ncost 3448\nover 0\n\
+        link 0 2 15\nlink 1 2 15\n";
+    assert_eq!(listed(&input(10, 0, &file)), expected);
+    let expected = "  0   0   1     1.00     0.15\n  1   0   1     1.00     0.15\n";
+    assert_eq!(page_listed(&input(10, 0, &file)), expected);
+}
+
+/// With power 4 all is as in version 1, and the power of a road without a rise
+/// does not matter.
+#[test]
+fn the_listing_of_version_3() {
+    for other in 1..=4 {
+        let file = Draft::town().with_powers(vec![4, other]).file();
+        assert_eq!(listed(&input(10, 0, &file)), listed(&input(10, 0, &town())));
+        assert_eq!(page_listed(&input(10, 0, &file)), PAGE);
+    }
+    for power in [0, 5, 65_535] {
+        let file = town_of_power(power).file();
+        assert_eq!(listed(&input(10, 0, &file)), "refused 7\n");
+    }
+    let file = town_of_power(2).file();
+    assert_eq!(listed(&input(10, 0, &file[..39])), "refused 4\n");
+}
+
+#[test]
+fn packing_version_3() {
+    let study = middle().closing(&[1]).with_powers(vec![1, 2, 3]);
+    let file = study.file_with_gaps(&[&[1], &[2; 9], &[3; 4], &[4; 2], &[5; 3]]);
+    assert_eq!(file.len(), 87 + 19);
+    let mut output = [0xAB; 89];
+    assert_eq!(pack(&file, &mut output), 0);
+    assert_eq!(output[..87], study.file());
+    assert_eq!(output[87..], [0xAB; 2]);
+    let mut again = [0; 87];
+    assert_eq!(pack(&output[..87], &mut again), 0);
+    assert_eq!(again[..], study.file());
+    for (length, number) in [(81, 17), (86, 17), (87, 0)] {
+        assert_eq!(pack(&file, &mut vec![0; length]), number);
     }
 }

@@ -3,7 +3,7 @@
 //! Check answers with a number; here that number's first culprit is found, so
 //! that a modeller knows which link, destination or node to look at.
 
-use crate::format::{CAPACITIES, CLOSED_BYTES, FREE_TIMES, Link, MOST_TRIPS, RISES, Study};
+use crate::format::{CAPACITIES, CLOSED_BYTES, FREE_TIMES, Link, MOST_TRIPS, POWERS, RISES, Study};
 use crate::words::{count, grouped, range};
 
 /// The first culprit for a refusal of question 6 to 11 or 19, in words.
@@ -54,6 +54,7 @@ fn wrong_figure(_: &Study, link: &Link) -> Option<String> {
         ("free time", link.free, FREE_TIMES),
         ("rise", link.rise, RISES),
         ("capacity", link.capacity, CAPACITIES),
+        ("power", link.power, POWERS),
     ]
     .into_iter()
     .find(|(_, figure, limits)| !limits.contains(figure))
@@ -87,7 +88,7 @@ fn own_trips(study: &Study) -> Option<String> {
 }
 
 fn wrong_closed_byte(study: &Study) -> Option<String> {
-    let bytes = study.closed.iter().flatten();
+    let bytes = study.closed.iter();
     bytes
         .map(|&byte| u16::from(byte))
         .enumerate()

@@ -1,20 +1,80 @@
-//! The bytes of a study file, versions 1 and 2.
+//! The bytes of a study file, in every version.
 //!
 //! Reading puts questions 1 to 5 and reports the figures that fail them.
 //! What the numbers inside the sections mean is not judged here.
 
+use std::fmt;
 use std::ops::RangeInclusive;
 
 use crate::words::{count, grouped, range};
 
-/// The first version.
-pub const VERSION: u16 = 1;
-/// The version with closed nodes.
-pub const CLOSED_VERSION: u16 = 2;
-/// The versions there are.
-pub const VERSIONS: RangeInclusive<u16> = VERSION..=CLOSED_VERSION;
-/// Bytes of one link.
-pub const LINK_BYTES: usize = 10;
+/// A version, and what it fixes of the format.
+#[derive(Clone, Copy, Debug, PartialEq, Eq)]
+pub struct Version {
+    number: u16,
+    /// Numbers of a link; the sixth is its power.
+    link_numbers: usize,
+    /// Sections of the file; the fourth is that of the closed bytes.
+    sections: usize,
+}
+
+/// All versions, by number.
+#[rustfmt::skip]
+const VERSIONS: [Version; 3] = [
+    Version { number: 1, link_numbers: 5, sections: 3 },
+    Version { number: 2, link_numbers: 5, sections: 4 },
+    Version { number: 3, link_numbers: 6, sections: 4 },
+];
+
+impl Version {
+    /// The numbers of the versions.
+    pub const NUMBERS: RangeInclusive<u16> =
+        VERSIONS[0].number..=VERSIONS[VERSIONS.len() - 1].number;
+
+    /// The version with this number, if there is one.
+    pub fn numbered(number: u16) -> Option<Self> {
+        VERSIONS
+            .into_iter()
+            .find(|version| version.number == number)
+    }
+
+    /// The first version of which this is so; it must be so of one.
+    pub fn first(fits: impl Fn(&Version) -> bool) -> Self {
+        let version = VERSIONS.into_iter().find(fits);
+        version.expect("there is such a version")
+    }
+
+    /// Can nodes be closed? If not, all are open.
+    pub fn has_closed(&self) -> bool {
+        self.sections >= 4
+    }
+
+    /// Have links powers? If not, all are [`DEFAULT_POWER`].
+    pub fn has_powers(&self) -> bool {
+        self.link_numbers >= 6
+    }
+
+    /// Numbers of a link.
+    pub fn link_numbers(&self) -> usize {
+        self.link_numbers
+    }
+
+    fn link_bytes(&self) -> usize {
+        2 * self.link_numbers
+    }
+
+    /// Bytes of the header: four numbers, then offset and length of each
+    /// section.
+    fn header_bytes(&self) -> usize {
+        8 + 8 * self.sections
+    }
+}
+
+impl fmt::Display for Version {
+    fn fmt(&self, out: &mut fmt::Formatter<'_>) -> fmt::Result {
+        write!(out, "{}", self.number)
+    }
+}
 
 /// Bytes a study file may have.
 pub const FILE_BYTES: RangeInclusive<u32> = 32..=65_536;
@@ -31,6 +91,10 @@ pub const FREE_TIMES: RangeInclusive<u16> = 1..=16_383;
 pub const RISES: RangeInclusive<u16> = 0..=16_383;
 /// Capacities a link may have, in trips.
 pub const CAPACITIES: RangeInclusive<u16> = 1..=u16::MAX;
+/// Powers a link may have.
+pub const POWERS: RangeInclusive<u16> = 1..=4;
+/// The power of every link in a version without powers.
+pub const DEFAULT_POWER: u16 = 4;
 /// Trips of one node to one destination.
 pub const TRIPS: RangeInclusive<u16> = 0..=u16::MAX;
 /// The largest total of trips.
@@ -51,6 +115,40 @@ pub struct Link {
     pub rise: u16,
     /// Capacity, in trips.
     pub capacity: u16,
+    /// The power with which its time rises.
+    pub power: u16,
+}
+
+impl Link {
+    /// The link in the bytes of its version.
+    fn read(bytes: &[u8]) -> Self {
+        let mut numbers = numbers(bytes);
+        let mut number = || numbers.next().expect("every version has five");
+        Link {
+            tail: number(),
+            head: number(),
+            free: number(),
+            rise: number(),
+            capacity: number(),
+            power: numbers.next().unwrap_or(DEFAULT_POWER),
+        }
+    }
+
+    /// Its bytes in a version.
+    fn bytes(&self, version: Version) -> impl Iterator<Item = u8> {
+        let Link {
+            tail,
+            head,
+            free,
+            rise,
+            capacity,
+            power,
+        } = *self;
+        [tail, head, free, rise, capacity, power]
+            .into_iter()
+            .take(version.link_numbers)
+            .flat_map(u16::to_le_bytes)
+    }
 }
 
 /// One destination of a study.
@@ -69,18 +167,21 @@ impl Destination {
     }
 }
 
-/// A study. Its counts pass question 3; its figures may be any.
+/// A study. Its counts pass question 3; its figures may be any. In a version
+/// without closed bytes they are all 0, and in one without powers these are all
+/// [`DEFAULT_POWER`].
 #[derive(Clone, Debug, PartialEq, Eq)]
 pub struct Study {
+    /// The version of its file.
+    pub version: Version,
     /// Number of nodes.
     pub nodes: u16,
     /// The links, by number from 0.
     pub links: Vec<Link>,
     /// The destinations, in the order of the file.
     pub destinations: Vec<Destination>,
-    /// The closed bytes, by node from 0, for every node of the study; none in
-    /// version 1.
-    pub closed: Option<Vec<u8>>,
+    /// The closed bytes, by node from 0, for every node of the study.
+    pub closed: Vec<u8>,
 }
 
 /// A file that one of questions 1 to 5 refuses.
@@ -106,52 +207,30 @@ impl Study {
         })?;
 
         let counts = Counts::read(file);
-        let version = counts.version;
-        ask(2, VERSIONS.contains(&version), || {
-            vec![format!("version {version}, limit {}", range(&VERSIONS))]
-        })?;
+        let version = counts.ask_version()?;
         counts.ask()?;
-        ask(4, file.len() >= header_bytes(version), || {
-            let (found, due) = (count(length, "byte"), header_bytes(version));
+        let header = version.header_bytes();
+        ask(4, file.len() >= header, || {
+            let found = count(length, "byte");
             vec![format!(
-                "{found}, but the header of version {version} has {due}"
+                "{found}, but the header of version {version} has {header}"
             )]
         })?;
         let places = places(file, version);
-        ask_places(&places, header_bytes(version), length)?;
-        counts.ask_lengths(&places)?;
+        ask_places(&places, header, length)?;
+        counts.ask_lengths(version, &places)?;
 
-        let section = |number: usize| {
-            let (offset, length) = places[number];
-            // Within the file, by question 4.
-            &file[offset as usize..(offset + length) as usize]
-        };
-        Ok(Study {
-            nodes: counts.nodes,
-            links: section(0).chunks_exact(LINK_BYTES).map(read_link).collect(),
-            destinations: numbers(section(1))
-                .zip(section(2).chunks_exact(2 * usize::from(counts.nodes)))
-                .map(|(node, trips)| Destination {
-                    node,
-                    trips: numbers(trips).collect(),
-                })
-                .collect(),
-            closed: (version == CLOSED_VERSION).then(|| section(3).to_vec()),
-        })
-    }
-
-    /// The version of its file.
-    pub fn version(&self) -> u16 {
-        match self.closed {
-            None => VERSION,
-            Some(_) => CLOSED_VERSION,
-        }
+        // Within the file, by question 4.
+        let sections: Vec<&[u8]> = places
+            .iter()
+            .map(|&(offset, length)| &file[offset as usize..(offset + length) as usize])
+            .collect();
+        Ok(counts.study(version, &sections))
     }
 
     /// Is this node closed?
     pub fn is_closed(&self, node: u16) -> bool {
-        let bytes = self.closed.as_deref().unwrap_or_default();
-        bytes.get(usize::from(node)) == Some(&1)
+        self.closed.get(usize::from(node)) == Some(&1)
     }
 
     /// How many nodes are closed.
@@ -164,37 +243,16 @@ impl Study {
     /// The file without gaps, sections in order after the header.
     pub fn packed(&self) -> Vec<u8> {
         let number = |count: usize| u16::try_from(count).expect("counts pass question 3");
-
-        let mut links = Vec::new();
-        for link in &self.links {
-            for field in [link.tail, link.head, link.free, link.rise, link.capacity] {
-                links.extend(field.to_le_bytes());
-            }
-        }
-        let mut destinations = Vec::new();
-        let mut trips = Vec::new();
-        for destination in &self.destinations {
-            destinations.extend(destination.node.to_le_bytes());
-            trips.extend(
-                destination
-                    .trips
-                    .iter()
-                    .flat_map(|trips| trips.to_le_bytes()),
-            );
-        }
-
-        let mut sections = vec![links, destinations, trips];
-        sections.extend(self.closed.clone());
-
-        let mut file = Vec::new();
         let counts = [
-            self.version(),
+            self.version.number,
             self.nodes,
             number(self.links.len()),
             number(self.destinations.len()),
         ];
-        file.extend(counts.iter().flat_map(|count| count.to_le_bytes()));
-        let mut offset = header_bytes(self.version());
+        let sections = self.sections();
+
+        let mut file: Vec<u8> = counts.into_iter().flat_map(u16::to_le_bytes).collect();
+        let mut offset = self.version.header_bytes();
         for section in &sections {
             file.extend((offset as u32).to_le_bytes());
             file.extend((section.len() as u32).to_le_bytes());
@@ -204,40 +262,44 @@ impl Study {
         file
     }
 
+    /// The sections of its version, in the order of the file.
+    fn sections(&self) -> Vec<Vec<u8>> {
+        let links = self.links.iter();
+        let destinations = self.destinations.iter();
+        let trips = destinations
+            .clone()
+            .flat_map(|destination| &destination.trips);
+        let mut sections = vec![
+            links.flat_map(|link| link.bytes(self.version)).collect(),
+            destinations
+                .flat_map(|destination| destination.node.to_le_bytes())
+                .collect(),
+            trips.flat_map(|trips| trips.to_le_bytes()).collect(),
+            self.closed.clone(),
+        ];
+        sections.truncate(self.version.sections);
+        sections
+    }
+
     /// All trips.
     pub fn total(&self) -> u32 {
         self.destinations.iter().map(Destination::total).sum()
     }
 }
 
-/// The sections' names, in the order of the file; version 1 has no closed
-/// bytes.
+/// The sections' names, in the order of the file; a version has the first ones.
 const SECTIONS: [&str; 4] = ["links", "destinations", "trips", "closed bytes"];
-
-/// How many sections a version has.
-fn section_count(version: u16) -> usize {
-    match version {
-        CLOSED_VERSION => 4,
-        _ => 3,
-    }
-}
-
-/// Bytes in the header of a version: four numbers, then offset and length of
-/// each section.
-fn header_bytes(version: u16) -> usize {
-    8 + 8 * section_count(version)
-}
 
 /// Offset and length of a section: numbers of 32 bits, kept in 64 so that
 /// their sums fit.
 type Place = (u64, u64);
 
 /// The sections' places as they stand in the header, whatever they say.
-fn places(file: &[u8], version: u16) -> Vec<Place> {
+fn places(file: &[u8], version: Version) -> Vec<Place> {
     let long = |place: usize| {
         u64::from(number_at(file, place)) | u64::from(number_at(file, place + 2)) << 16
     };
-    (0..section_count(version))
+    (0..version.sections)
         .map(|section| 8 + 8 * section)
         .map(|place| (long(place), long(place + 4)))
         .collect()
@@ -291,6 +353,15 @@ impl Counts {
         }
     }
 
+    /// Question 2.
+    fn ask_version(&self) -> Result<Version, Refusal> {
+        let number = self.version;
+        Version::numbered(number).ok_or_else(|| Refusal {
+            number: 2,
+            found: format!("version {number}, limit {}", range(&Version::NUMBERS)),
+        })
+    }
+
     /// Question 3.
     fn ask(&self) -> Result<(), Refusal> {
         let mut found = Vec::new();
@@ -315,16 +386,17 @@ impl Counts {
     }
 
     /// The length of each section by the counts, and how it comes about.
-    fn lengths(&self) -> [(u64, String); 4] {
+    fn lengths(&self, version: Version) -> [(u64, String); SECTIONS.len()] {
         let (nodes, links, destinations) = (
             u64::from(self.nodes),
             u64::from(self.links),
             u64::from(self.destinations),
         );
+        let link_bytes = version.link_bytes() as u64;
         [
             (
-                LINK_BYTES as u64 * links,
-                format!("10 × {}", count(links, "link")),
+                link_bytes * links,
+                format!("{link_bytes} × {}", count(links, "link")),
             ),
             (
                 2 * destinations,
@@ -343,10 +415,10 @@ impl Counts {
     }
 
     /// Question 5.
-    fn ask_lengths(&self, places: &[Place]) -> Result<(), Refusal> {
+    fn ask_lengths(&self, version: Version, places: &[Place]) -> Result<(), Refusal> {
         let mut found = Vec::new();
-        for ((name, &(_, length)), (due, product)) in
-            SECTIONS.into_iter().zip(places).zip(self.lengths())
+        let lengths = self.lengths(version);
+        for ((name, &(_, length)), (due, product)) in SECTIONS.into_iter().zip(places).zip(lengths)
         {
             if length != due {
                 found.push(format!(
@@ -357,6 +429,28 @@ impl Counts {
             }
         }
         ask(5, found.is_empty(), || found)
+    }
+
+    /// The study in these sections, whose lengths pass question 5.
+    fn study(&self, version: Version, sections: &[&[u8]]) -> Study {
+        let nodes = usize::from(self.nodes);
+        let links = sections[0].chunks_exact(version.link_bytes());
+        let trips = sections[2].chunks_exact(2 * nodes);
+        Study {
+            version,
+            nodes: self.nodes,
+            links: links.map(Link::read).collect(),
+            destinations: numbers(sections[1])
+                .zip(trips)
+                .map(|(node, trips)| Destination {
+                    node,
+                    trips: numbers(trips).collect(),
+                })
+                .collect(),
+            closed: sections
+                .get(3)
+                .map_or_else(|| vec![0; nodes], |bytes| bytes.to_vec()),
+        }
     }
 }
 
@@ -377,15 +471,4 @@ fn number_at(bytes: &[u8], place: usize) -> u16 {
 /// The numbers of a section, one after the other.
 fn numbers(section: &[u8]) -> impl Iterator<Item = u16> {
     section.chunks_exact(2).map(|bytes| number_at(bytes, 0))
-}
-
-/// The link in ten bytes.
-fn read_link(bytes: &[u8]) -> Link {
-    Link {
-        tail: number_at(bytes, 0),
-        head: number_at(bytes, 2),
-        free: number_at(bytes, 4),
-        rise: number_at(bytes, 6),
-        capacity: number_at(bytes, 8),
-    }
 }

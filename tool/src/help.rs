@@ -20,8 +20,8 @@ and where, and no file is written), 2 the command line makes no sense.
 
 /// `study from-tntp --help`.
 pub const FROM_TNTP: &str = "\
-Makes a study file from a TNTP net file and trips file: version 2 where nodes
-are closed, version 1 where none is.
+Makes a study file from a TNTP net file and trips file: version 3 where a power
+is not 4, else version 2 where nodes are closed, else version 1.
 
 Usage: study from-tntp NET TRIPS --out FILE
                        [--vehicles-per-trip N] [--time-unit UNIT]
@@ -38,7 +38,7 @@ What becomes of the figures:
   links                     in the order of the net file
   free flow time            free time, in hundredths of a minute, 1 to 16,383
   free flow time x b        rise, in hundredths of a minute, 0 to 16,383
-  power                     must be 4, or b must be 0
+  power                     power, 1 to 4 (any figure where b is 0)
   capacity / N              capacity, in trips, 1 to 65,535
   flow / N                  trips, 0 to 65,535, at most 65,535 in all
   nodes that receive trips  destinations, ascending, at most 32
@@ -51,7 +51,12 @@ Figures are read exactly. Where one has to be rounded, to the nearest whole
 number and halves up, standard error tells how many of each kind were, and the
 largest rounding; so it does with figures that are not 0 and became 0, and with
 what a study has no place for (tolls, factors of tolls and distances). It also
-tells which nodes are closed. A net file without <FIRST THRU NODE> closes none.
+tells which nodes are closed, and the first power that makes version 3. A net
+file without <FIRST THRU NODE> closes none.
+
+Where b is 0 the power makes no difference. It may be any figure of 0 or more
+then and does not make version 3; in a version 3 study it is as in the net file,
+or 4 where that is not one of 1 to 4.
 
 A figure that does not fit, a row that is cut short, metadata that disagree
 with the rows, trips without a path, or with none but through closed nodes: a
@@ -85,13 +90,14 @@ The text, for a town of two roads:
   check: accepted
 
 - The four lines of the header come first, in this order: the file's version, 1
-  or 2, then the counts of what follows (2 to 128 nodes, 1 to 512 links, 1 to 32
+  to 3, then the counts of what follows (2 to 128 nodes, 1 to 512 links, 1 to 32
   destinations and no more than nodes).
-- In version 2 the closed nodes come next, in lines such as `closed 0 1 2`.
-  Nodes that are not mentioned are open. `closed 0 1:7` gives node 1 the closed
-  byte 7, which check refuses.
+- In versions 2 and 3 the closed nodes come next, in lines such as
+  `closed 0 1 2`. Nodes that are not mentioned are open. `closed 0 1:7` gives
+  node 1 the closed byte 7, which check refuses.
 - A `link` line for each link, in order: number, tail, head, free time and rise
-  in hundredths of a minute, capacity in trips.
+  in hundredths of a minute, capacity in trips. In version 3 the power, 1 to 4,
+  comes last, as in `link 0 0 1 10 10 2 3`; in versions 1 and 2 it is always 4.
 - A `destination` line for each destination, in order, each followed by a
   `from` line for every node with trips to it: node and trips. Nodes that are
   not mentioned have none.
@@ -107,8 +113,9 @@ fault is a message with file and line, exit status 1, and no file is written.
 
 /// `study show --help`.
 pub const SHOW: &str = "\
-Prints a study file as text: version, counts, closed nodes, links, destinations
-with their trips, the total, and what check answers, in words.
+Prints a study file as text: version, counts, closed nodes, links (in version 3
+with their powers), destinations with their trips, the total, and what check
+answers, in words.
 
 Usage: study show FILE
 

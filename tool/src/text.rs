@@ -21,11 +21,12 @@
 //!
 //! - The four lines of the header come first, in this order: the file's
 //!   version, then the counts of what follows.
-//! - In version 2 the closed nodes come next, in lines such as `closed 0 1 2`;
-//!   nodes not mentioned are open. Where a node's closed byte is neither 0 nor
-//!   1, it stands behind the node: `closed 0 1 2:255`.
+//! - From version 2 on the closed nodes come next, in lines such as
+//!   `closed 0 1 2`; nodes not mentioned are open. Where a node's closed byte is
+//!   neither 0 nor 1, it stands behind the node: `closed 0 1 2:255`.
 //! - A `link` line for each link, in order: number, tail, head, free time and
-//!   rise in hundredths of a minute, capacity in trips.
+//!   rise in hundredths of a minute, capacity in trips and, in version 3, the
+//!   power.
 //! - A `destination` line for each destination, in order, each followed by a
 //!   `from` line for every node with trips to it: node and trips. Nodes not
 //!   mentioned have none.
@@ -43,9 +44,7 @@ use std::iter::Peekable;
 use std::ops::RangeInclusive;
 
 use crate::culprit::culprit;
-use crate::format::{
-    CLOSED_VERSION, DESTINATIONS, Destination, LINKS, Link, NODES, Study, VERSIONS,
-};
+use crate::format::{DEFAULT_POWER, DESTINATIONS, Destination, LINKS, Link, NODES, Study, Version};
 use crate::source::{Problem, Source};
 use crate::words::{answer, count};
 
@@ -62,21 +61,14 @@ fn try_write(study: &Study, refusal: u8) -> Result<String, std::fmt::Error> {
         "# Times in hundredths of a minute, capacities in trips."
     )?;
     writeln!(out, "# Nodes and links count from 0.")?;
-    writeln!(out, "study {}", study.version())?;
+    writeln!(out, "study {}", study.version)?;
     writeln!(out, "nodes {}", study.nodes)?;
     writeln!(out, "links {}", study.links.len())?;
     writeln!(out, "destinations {}", study.destinations.len())?;
     out.push_str(&closed_lines(study));
 
     writeln!(out)?;
-    writeln!(out, "#    number  tail  head   free   rise  capacity")?;
-    for (number, link) in study.links.iter().enumerate() {
-        writeln!(
-            out,
-            "link {number:6} {:5} {:5} {:6} {:6} {:9}",
-            link.tail, link.head, link.free, link.rise, link.capacity
-        )?;
-    }
+    out.push_str(&link_lines(study));
 
     for destination in &study.destinations {
         let total = count(destination.total(), "trip");
@@ -103,7 +95,7 @@ const CLOSED_ON_A_LINE: usize = 16;
 
 /// The lines of closed nodes, with a blank line before them if there are any.
 fn closed_lines(study: &Study) -> String {
-    let bytes = study.closed.iter().flatten().enumerate();
+    let bytes = study.closed.iter().enumerate();
     let nodes: Vec<String> = bytes
         .filter_map(|(node, byte)| match byte {
             0 => None,
@@ -116,6 +108,24 @@ fn closed_lines(study: &Study) -> String {
         .map(|nodes| format!("closed {}\n", nodes.join(" ")));
     let blank = if nodes.is_empty() { "" } else { "\n" };
     blank.to_owned() + &lines.collect::<String>()
+}
+
+/// The lines of the links, below the names of their columns.
+fn link_lines(study: &Study) -> String {
+    let with_powers = study.version.has_powers();
+    let name = if with_powers { "  power" } else { "" };
+    let mut lines = format!("#    number  tail  head   free   rise  capacity{name}\n");
+    for (number, link) in study.links.iter().enumerate() {
+        lines += &format!(
+            "link {number:6} {:5} {:5} {:6} {:6} {:9}",
+            link.tail, link.head, link.free, link.rise, link.capacity
+        );
+        if with_powers {
+            lines += &format!(" {:6}", link.power);
+        }
+        lines.push('\n');
+    }
+    lines
 }
 
 /// The line that gives the total of trips.
@@ -164,7 +174,8 @@ pub fn read(source: &Source) -> Result<Reading, Problem> {
         lines: source.lines('#').peekable(),
     };
 
-    let version = reader.header("study", &VERSIONS)?;
+    let version = reader.header("study", &Version::NUMBERS)?;
+    let version = Version::numbered(version).expect("one of the numbers");
     let nodes = reader.header("nodes", &NODES)?;
     let link_count = reader.header("links", &LINKS)?;
     let most = nodes.min(*DESTINATIONS.end());
@@ -172,7 +183,7 @@ pub fn read(source: &Source) -> Result<Reading, Problem> {
     let closed = reader.closed(version, nodes)?;
 
     let links = (0..link_count)
-        .map(|number| reader.link(number, link_count))
+        .map(|number| reader.link(version, number, link_count))
         .collect::<Result<_, _>>()?;
     if let Some((line, _)) = reader.next("link") {
         let what = format!("a link beyond the header's `links {link_count}`");
@@ -184,6 +195,7 @@ pub fn read(source: &Source) -> Result<Reading, Problem> {
     let stated = reader.notes(destination_count)?;
 
     let study = Study {
+        version,
         nodes,
         links,
         destinations,
@@ -192,8 +204,16 @@ pub fn read(source: &Source) -> Result<Reading, Problem> {
     Ok(Reading { study, stated })
 }
 
-/// The fields of a link line.
-const LINK_FIELDS: [&str; 6] = ["number", "tail", "head", "free time", "rise", "capacity"];
+/// The fields of a link line: its number, then the numbers of its version.
+const LINK_FIELDS: [&str; 7] = [
+    "number",
+    "tail",
+    "head",
+    "free time",
+    "rise",
+    "capacity",
+    "power",
+];
 
 /// Takes the lines of a text one after the other.
 struct Reader<'a, Lines: Iterator<Item = (usize, &'a str)>> {
@@ -238,14 +258,15 @@ impl<'a, Lines: Iterator<Item = (usize, &'a str)>> Reader<'a, Lines> {
         self.source.whole(line, name, text, &(0..=u16::MAX))
     }
 
-    /// The lines of closed nodes: the closed bytes of version 2, none in
-    /// version 1.
-    fn closed(&mut self, version: u16, nodes: u16) -> Result<Option<Vec<u8>>, Problem> {
+    /// The lines of closed nodes, which some versions may have: the closed
+    /// bytes.
+    fn closed(&mut self, version: Version, nodes: u16) -> Result<Vec<u8>, Problem> {
         let mut bytes: Vec<Option<u8>> = vec![None; usize::from(nodes)];
         while let Some((line, text)) = self.next("closed") {
-            if version != CLOSED_VERSION {
+            if !version.has_closed() {
+                let first = Version::first(Version::has_closed);
                 let what = format!(
-                    "closed nodes in a study of version {version}, must be {CLOSED_VERSION}"
+                    "closed nodes in a study of version {version}, must be {first} or later"
                 );
                 return Err(self.source.problem(line, what));
             }
@@ -263,8 +284,7 @@ impl<'a, Lines: Iterator<Item = (usize, &'a str)>> Reader<'a, Lines> {
                 *place = Some(byte);
             }
         }
-        let bytes = bytes.into_iter().map(Option::unwrap_or_default).collect();
-        Ok((version == CLOSED_VERSION).then_some(bytes))
+        Ok(bytes.into_iter().map(Option::unwrap_or_default).collect())
     }
 
     /// A closed node, and its closed byte if that is not 1.
@@ -278,25 +298,26 @@ impl<'a, Lines: Iterator<Item = (usize, &'a str)>> Reader<'a, Lines> {
     }
 
     /// The line of a link.
-    fn link(&mut self, number: u16, of: u16) -> Result<Link, Problem> {
+    fn link(&mut self, version: Version, number: u16, of: u16) -> Result<Link, Problem> {
         let Some((line, text)) = self.next("link") else {
             return Err(self.not_due(&format!("link {number} of {of} (they count from 0)")));
         };
+        let names = &LINK_FIELDS[..=version.link_numbers()];
         let texts: Vec<&str> = text.split_whitespace().collect();
-        if texts.len() != LINK_FIELDS.len() {
+        if texts.len() != names.len() {
             let what = format!(
                 "{} after `link`, must be {}: {}",
                 count(texts.len() as u64, "field"),
-                LINK_FIELDS.len(),
-                LINK_FIELDS.join(", ")
+                names.len(),
+                names.join(", ")
             );
             return Err(self.source.problem(line, what));
         }
-        let mut fields = [0; LINK_FIELDS.len()];
-        for ((field, name), text) in fields.iter_mut().zip(LINK_FIELDS).zip(texts) {
+        let mut fields = [0, 0, 0, 0, 0, 0, DEFAULT_POWER];
+        for ((field, name), text) in fields.iter_mut().zip(names).zip(texts) {
             *field = self.any_number(line, &format!("link {name}"), text)?;
         }
-        let [found, tail, head, free, rise, capacity] = fields;
+        let [found, tail, head, free, rise, capacity, power] = fields;
         if found != number {
             let what = format!("link number {found}, must be {number}: links stand in order");
             return Err(self.source.problem(line, what));
@@ -307,6 +328,7 @@ impl<'a, Lines: Iterator<Item = (usize, &'a str)>> Reader<'a, Lines> {
             free,
             rise,
             capacity,
+            power,
         })
     }
 

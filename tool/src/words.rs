@@ -7,15 +7,16 @@ use std::ops::RangeInclusive;
 /// What is wrong when a call is refused, by number: number 1 comes first.
 pub const REFUSALS: [&str; 20] = [
     "the file is not 32 to 65,536 bytes long",
-    "the version is not 1 or 2",
+    "the version is not 1, 2 or 3",
     "nodes are not 2 to 128, links not 1 to 512, destinations not 1 to 32, \
      or there are more destinations than nodes",
     "a section begins inside the header, runs into the next one or past the end of the file, \
-     or the file is shorter than its version's header (32 bytes, 40 in version 2)",
-    "the length of a section does not fit the counts: 10 bytes a link, 2 a destination, \
-     2 for each destination and node and, in version 2, 1 a node",
+     or the file is shorter than its version's header (32 bytes, 40 from version 2 on)",
+    "the length of a section does not fit the counts: 10 bytes a link (12 in version 3), \
+     2 a destination, 2 for each destination and node and, from version 2 on, 1 a node",
     "a link's tail or head is not a node, or both are the same node",
-    "a link's free time is not 1 to 16,383, its rise not 0 to 16,383, or its capacity is 0",
+    "a link's free time is not 1 to 16,383, its rise not 0 to 16,383, its capacity is 0, \
+     or its power is not 1 to 4",
     "a destination is not a node, or the destinations are not strictly ascending",
     "a destination has trips to itself",
     "the trips add up to more than 65,535",

@@ -19,6 +19,12 @@ fn refusals() {
         lines[10],
         "11  a node with trips to a destination has no path to it that leads through no closed node"
     );
+    assert_eq!(lines[1], " 2  the version is not 1, 2 or 3");
+    assert_eq!(
+        lines[6],
+        " 7  a link's free time is not 1 to 16,383, its rise not 0 to 16,383, its capacity is 0, or \
+         its power is not 1 to 4"
+    );
     assert_eq!(words::refusal(0), None);
     assert_eq!(words::refusal(21), None);
     assert_eq!(words::answer(0), "accepted");
@@ -83,6 +89,46 @@ fn help_on_closed_nodes() {
     let answer = format!("check: {}\n", words::answer(19));
     assert!(said.contains(&answer), "{said}");
     assert_eq!(folder.bytes("out")[66..], [1, 7]);
+}
+
+/// What help says of powers is so.
+#[test]
+fn help_on_powers() {
+    let folder = Folder::new("program-powers");
+    let help = folder.study(&["from-text", "--help"]).ok();
+    assert!(help.contains("`link 0 0 1 10 10 2 3`"), "{help}");
+    folder.put(
+        "town.txt",
+        "study 3\nnodes 2\nlinks 1\ndestinations 1\nlink 0 0 1 10 10 2 3\n\
+         destination 1\nfrom 0: 2\n",
+    );
+    let said = folder
+        .study(&["from-text", "town.txt", "--out", "out"])
+        .ok();
+    assert!(said.ends_with("check: accepted\n"), "{said}");
+    let link = [0, 0, 1, 0, 10, 0, 10, 0, 2, 0, 3, 0];
+    assert_eq!(folder.bytes("out")[40..52], link);
+
+    let help = folder.study(&["from-tntp", "--help"]).ok();
+    let row = "\n  power                     power, 1 to 4 (any figure where b is 0)\n";
+    assert!(help.contains(row), "{help}");
+}
+
+/// No line of help is wider than 80 columns.
+#[test]
+fn help_is_narrow() {
+    let folder = Folder::new("program-narrow");
+    for arguments in [
+        &["--help"][..],
+        &["from-tntp", "--help"],
+        &["from-text", "--help"],
+        &["show", "--help"],
+        &["refusals", "--help"],
+    ] {
+        for line in folder.study(arguments).ok().lines() {
+            assert!(line.chars().count() <= 80, "{line}");
+        }
+    }
 }
 
 #[test]

@@ -2,7 +2,8 @@
 
 mod common;
 
-use common::{Dice, TOWN, ZONE};
+use common::{Dice, POWERS, TOWN, ZONE};
+use study_tool::format::Study;
 use study_tool::source::Source;
 use study_tool::tntp::Options;
 use study_tool::{text, tntp};
@@ -25,7 +26,7 @@ Origin 1
 ";
 
 /// Pieces that mean something in one text or another.
-const PIECES: [&str; 33] = [
+const PIECES: [&str; 35] = [
     "",
     " ",
     "\n",
@@ -52,6 +53,8 @@ const PIECES: [&str; 33] = [
     "from",
     "destination",
     "links 1",
+    "study 3",
+    "4.0",
     "closed",
     "closed 0 1",
     ":2",
@@ -79,7 +82,7 @@ fn spoilt(text: &str, dice: &mut Dice) -> String {
 #[test]
 fn texts() {
     let mut dice = Dice(3);
-    for town in [TOWN, ZONE] {
+    for town in [TOWN, ZONE, POWERS] {
         let (mut read, mut refused) = (0, 0);
         for _ in 0..4_000 {
             let source = Source::new("town.txt", spoilt(town, &mut dice));
@@ -104,8 +107,10 @@ fn texts() {
 fn tntp_files() {
     let mut dice = Dice(4);
     let (mut made, mut refused) = (0, 0);
-    for turn in 0..4_000 {
-        let (mut net, mut trips) = (NET.to_owned(), TRIPS.to_owned());
+    let with_powers = NET.replace(" 0.15 4 ", " 0.15 2.0 ");
+    for turn in 0..6_000 {
+        let net = if turn % 3 == 0 { &with_powers } else { NET };
+        let (mut net, mut trips) = (net.to_owned(), TRIPS.to_owned());
         if turn % 2 == 0 {
             net = spoilt(&net, &mut dice);
         } else {
@@ -115,7 +120,9 @@ fn tntp_files() {
         match tntp::convert(&net, &trips, &Options::default()) {
             Ok(conversion) => {
                 made += 1;
-                assert_eq!(second::check(&conversion.study.packed()), 0);
+                let file = conversion.study.packed();
+                assert_eq!(second::check(&file), 0);
+                assert_eq!(Study::read(&file), Ok(conversion.study));
                 assert!(!conversion.report.is_empty());
             }
             Err(problem) => {

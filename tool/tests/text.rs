@@ -2,7 +2,7 @@
 
 mod common;
 
-use common::{Folder, TOWN, TOWN_FILE, ZONE, ZONE_FILE, with};
+use common::{Folder, POWERS, POWERS_FILE, TOWN, TOWN_FILE, ZONE, ZONE_FILE, with};
 
 const COMMAND: [&str; 4] = ["from-text", "town.txt", "--out", "out"];
 
@@ -22,6 +22,13 @@ fn bad(name: &str, from: &str, to: &str, message: &str) {
 #[track_caller]
 fn bad_zone(name: &str, from: &str, to: &str, message: &str) {
     let folder = folder(&format!("zone-{name}"), &with(ZONE, from, to));
+    folder.fails(&COMMAND, &format!("town.txt: {message}"));
+}
+
+/// The town with powers, and a fault.
+#[track_caller]
+fn bad_powers(name: &str, from: &str, to: &str, message: &str) {
+    let folder = folder(&format!("powers-{name}"), &with(POWERS, from, to));
     folder.fails(&COMMAND, &format!("town.txt: {message}"));
 }
 
@@ -102,6 +109,43 @@ fn a_zone_that_is_open() {
     file.extend(&TOWN_FILE[32..]);
     file.extend([0, 0]);
     goes_round("town-2", &with(TOWN, "study 1", "study 2"), &file);
+}
+
+#[test]
+fn the_town_with_powers() {
+    assert_eq!(
+        goes_round("powers", POWERS, &POWERS_FILE),
+        "out: 102 bytes, 4 nodes (1 closed), 4 links, 1 destination, 3 trips\ncheck: accepted\n"
+    );
+    // With all nodes open.
+    let mut file = POWERS_FILE;
+    file[99] = 0;
+    goes_round("powers-open", &with(POWERS, "closed 1\n\n", ""), &file);
+}
+
+/// Version 3 with power 4 on every link stays version 3.
+#[test]
+fn powers_that_are_all_4() {
+    let mut file = TOWN_FILE[..8].to_vec();
+    file[0] = 3;
+    file.extend([40, 0, 0, 0, 24, 0, 0, 0, 64, 0, 0, 0, 2, 0, 0, 0]);
+    file.extend([66, 0, 0, 0, 4, 0, 0, 0, 70, 0, 0, 0, 2, 0, 0, 0]);
+    for link in TOWN_FILE[32..52].chunks(10) {
+        file.extend(link);
+        file.extend([4, 0]);
+    }
+    file.extend(&TOWN_FILE[52..]);
+    file.extend([0, 0]);
+    let edits = [
+        ("study 1", "study 3"),
+        ("  capacity\n", "  capacity  power\n"),
+        ("     10         2\n", "     10         2      4\n"),
+        ("      0         1\n", "      0         1      4\n"),
+    ];
+    let text = edits
+        .iter()
+        .fold(TOWN.to_owned(), |text, (from, to)| with(&text, from, to));
+    goes_round("town-3", &text, &file);
 }
 
 /// Lines of 16 nodes.
@@ -200,10 +244,12 @@ fn refused_6() {
     );
 }
 
+const ANSWER_7: &str = "7: a link's free time is not 1 to 16,383, its rise not 0 to 16,383, its \
+                        capacity is 0, or its power is not 1 to 4";
+
 #[test]
 fn refused_7() {
-    let answer =
-        "7: a link's free time is not 1 to 16,383, its rise not 0 to 16,383, or its capacity is 0";
+    let answer = ANSWER_7;
     refused(
         "7-free",
         &[("     15      0         1", "      0      0         1")],
@@ -221,6 +267,44 @@ fn refused_7() {
         &[("     15      0         1", "     15      0         0")],
         answer,
         "link 1: capacity 0, limit 1 to 65,535",
+    );
+}
+
+#[test]
+fn refused_7_for_a_power() {
+    for power in ["0", "5", "65535"] {
+        refused_of(
+            POWERS,
+            &format!("7-power-{power}"),
+            &[("1      2\n", &format!("1 {power:>6}\n"))],
+            ANSWER_7,
+            &format!("link 2: power {power}, limit 1 to 4"),
+        );
+    }
+    // The first link at fault is named; of its figures, the first at fault.
+    let edits = [("3      3\n", "3      0\n"), ("2      1\n", "0      9\n")];
+    let culprit = "link 0: capacity 0, limit 1 to 65,535";
+    refused_of(POWERS, "7-power-links", &edits, ANSWER_7, culprit);
+    // Asked after 6, of whichever link, and before 8.
+    refused_of(
+        POWERS,
+        "7-power-after-6",
+        &[
+            ("2      1\n", "2      0\n"),
+            ("3     3     2", "3     2     2"),
+        ],
+        "6: a link's tail or head is not a node, or both are the same node",
+        "link 3: tail and head are both 2",
+    );
+    refused_of(
+        POWERS,
+        "7-power-before-8",
+        &[
+            ("2      1\n", "2      0\n"),
+            ("destination 2 ", "destination 4 "),
+        ],
+        ANSWER_7,
+        "link 0: power 0, limit 1 to 4",
     );
 }
 
@@ -397,6 +481,55 @@ fn wrong_field_count() {
     );
 }
 
+/// Powers belong to version 3, and there to every link.
+#[test]
+fn powers_at_fault() {
+    let seven = "must be 7: number, tail, head, free time, rise, capacity, power";
+    bad_powers(
+        "missing",
+        "1      2\n",
+        "1\n",
+        &format!("line 13: 6 fields after `link`, {seven}"),
+    );
+    bad_powers(
+        "twice",
+        "1      2\n",
+        "1      2      2\n",
+        &format!("line 13: 8 fields after `link`, {seven}"),
+    );
+    bad_powers(
+        "version",
+        "study 3",
+        "study 2",
+        "line 11: 7 fields after `link`, must be 6: number, tail, head, free time, rise, capacity",
+    );
+    for (name, power, message) in [
+        ("u16", "65536", "65536, limit 0 to 65,535"),
+        (
+            "point",
+            "2.0",
+            "`2.0` is not a whole number, limit 0 to 65,535",
+        ),
+        (
+            "minus",
+            "-1",
+            "`-1` is not a whole number, limit 0 to 65,535",
+        ),
+        (
+            "word",
+            "four",
+            "`four` is not a whole number, limit 0 to 65,535",
+        ),
+    ] {
+        bad_powers(
+            name,
+            "1      2\n",
+            &format!("1 {power}\n"),
+            &format!("line 13: link power {message}"),
+        );
+    }
+}
+
 #[test]
 fn number_of_more_than_16_bits() {
     bad(
@@ -449,12 +582,12 @@ fn not_a_whole_number() {
 
 #[test]
 fn counts_out_of_range() {
-    for version in [0, 3] {
+    for version in [0, 4] {
         bad(
             &format!("version-{version}"),
             "study 1",
             &format!("study {version}"),
-            &format!("line 3: study {version}, limit 1 to 2"),
+            &format!("line 3: study {version}, limit 1 to 3"),
         );
     }
     bad(
@@ -550,7 +683,7 @@ fn closed_lines_at_fault() {
         "version",
         "study 2",
         "study 1",
-        "line 8: closed nodes in a study of version 1, must be 2",
+        "line 8: closed nodes in a study of version 1, must be 2 or later",
     );
     bad_zone(
         "node",
@@ -642,6 +775,10 @@ fn zone_with(place: usize, bytes: &[u8]) -> Vec<u8> {
     edited(&ZONE_FILE, place, bytes)
 }
 
+fn powers_with(place: usize, bytes: &[u8]) -> Vec<u8> {
+    edited(&POWERS_FILE, place, bytes)
+}
+
 #[test]
 fn refused_1() {
     let answer = "check: refused 1: the file is not 32 to 65,536 bytes long\n";
@@ -664,13 +801,13 @@ fn refused_1() {
 
 #[test]
 fn refused_2() {
-    for version in [0, 3] {
+    for version in [0, 4] {
         shows_only(
             &format!("2-{version}"),
             &town_with(0, &[version]),
             &format!(
-                "check: refused 2: the version is not 1 or 2\n\
-                 found: version {version}, limit 1 to 2\n"
+                "check: refused 2: the version is not 1, 2 or 3\n\
+                 found: version {version}, limit 1 to 3\n"
             ),
         );
     }
@@ -694,7 +831,7 @@ fn refused_3() {
 
 const ANSWER_4: &str = "check: refused 4: a section begins inside the header, runs into the next \
                         one or past the end of the file, or the file is shorter than its version's \
-                        header (32 bytes, 40 in version 2)\n";
+                        header (32 bytes, 40 from version 2 on)\n";
 
 #[test]
 fn refused_4_in_version_2() {
@@ -739,6 +876,29 @@ fn refused_4_in_version_2() {
 }
 
 #[test]
+fn refused_4_in_version_3() {
+    let answer = ANSWER_4;
+    shows_only(
+        "4-powers-39",
+        &POWERS_FILE[..39],
+        &format!("{answer}found: 39 bytes, but the header of version 3 has 40\n"),
+    );
+    shows_only(
+        "4-powers-links",
+        &powers_with(8, &[39]),
+        &format!("{answer}found: links begin at byte 39, must be 40 or later\n"),
+    );
+    shows_only(
+        "4-powers-end",
+        &POWERS_FILE[..101],
+        &format!(
+            "{answer}found: closed bytes begin at byte 98 and have 4 bytes, so they end at 102, \
+             limit 101, the end of the file\n"
+        ),
+    );
+}
+
+#[test]
 fn refused_4() {
     let answer = ANSWER_4;
     shows_only(
@@ -774,20 +934,39 @@ fn refused_4() {
 
 #[test]
 fn refused_5() {
-    shows_only(
-        "5",
-        &town_with(28, &[2]),
-        "check: refused 5: the length of a section does not fit the counts: 10 bytes a link, \
-         2 a destination, 2 for each destination and node and, in version 2, 1 a node\n\
-         found: trips have 2 bytes, must have 4 = 2 × 1 destination × 2 nodes\n",
-    );
-    shows_only(
-        "5-closed",
-        &zone_with(36, &[3]),
-        "check: refused 5: the length of a section does not fit the counts: 10 bytes a link, \
-         2 a destination, 2 for each destination and node and, in version 2, 1 a node\n\
-         found: closed bytes have 3 bytes, must have 4 = 1 × 4 nodes\n",
-    );
+    let answer = "check: refused 5: the length of a section does not fit the counts: 10 bytes a \
+                  link (12 in version 3), 2 a destination, 2 for each destination and node and, \
+                  from version 2 on, 1 a node\n";
+    for (name, file, found) in [
+        (
+            "5",
+            town_with(28, &[2]),
+            "trips have 2 bytes, must have 4 = 2 × 1 destination × 2 nodes",
+        ),
+        (
+            "5-closed",
+            zone_with(36, &[3]),
+            "closed bytes have 3 bytes, must have 4 = 1 × 4 nodes",
+        ),
+        // Links of each version in the other one.
+        (
+            "5-links",
+            zone_with(0, &[3]),
+            "links have 40 bytes, must have 48 = 12 × 4 links",
+        ),
+        (
+            "5-powers",
+            powers_with(0, &[2]),
+            "links have 48 bytes, must have 40 = 10 × 4 links",
+        ),
+        (
+            "5-powers-closed",
+            powers_with(36, &[3]),
+            "closed bytes have 3 bytes, must have 4 = 1 × 4 nodes",
+        ),
+    ] {
+        shows_only(name, &file, &format!("{answer}found: {found}\n"));
+    }
 }
 
 #[test]
@@ -825,6 +1004,15 @@ fn gaps_are_left_out() {
     file.insert(90, 7);
     file.push(7);
     shown_and_packed("zone-gaps", &file, ZONE, &ZONE_FILE);
+
+    // A byte more after the links with powers, and one at the end.
+    let mut file = POWERS_FILE.to_vec();
+    for place in [16, 24, 32] {
+        file[place] += 1;
+    }
+    file.insert(88, 7);
+    file.push(7);
+    shown_and_packed("powers-gaps", &file, POWERS, &POWERS_FILE);
 }
 
 /// Show prints this text of a file, and from-text makes the packed file of it.

@@ -51,14 +51,18 @@ fn bad_trips(name: &str, from: &str, to: &str, message: &str) {
     folder.fails(&COMMAND, &format!("trips.tntp: {message}"));
 }
 
+/// A file of the test data.
+fn data(name: &str) -> String {
+    let data = Path::new(env!("CARGO_MANIFEST_DIR")).join("tests/data");
+    fs::read_to_string(data.join(name)).expect(name)
+}
+
 #[test]
 fn sioux_falls() {
-    let data = Path::new(env!("CARGO_MANIFEST_DIR")).join("tests/data");
-    let read = |name| fs::read_to_string(data.join(name)).expect(name);
     let folder = folder(
         "sioux-falls",
-        &read("SiouxFalls_net.tntp"),
-        &read("SiouxFalls_trips.tntp"),
+        &data("SiouxFalls_net.tntp"),
+        &data("SiouxFalls_trips.tntp"),
     );
     let outcome = folder.study(&[&COMMAND[..], &["--vehicles-per-trip", "10"]].concat());
     assert_eq!(outcome.status, 0, "{outcome:?}");
@@ -90,6 +94,7 @@ fn sioux_falls() {
         free: 600,
         rise: 90,
         capacity: 2_590,
+        power: 4,
     };
     let last = Link {
         tail: 23,
@@ -97,6 +102,7 @@ fn sioux_falls() {
         free: 200,
         rise: 30,
         capacity: 508,
+        power: 4,
     };
     assert_eq!((study.links[0], study.links[75]), (first, last));
     assert!(
@@ -247,7 +253,8 @@ Origin 2
 1 : 3.0;
 ";
 
-/// The closed bytes of what a net with this first thru node becomes.
+/// The closed bytes of what a net with this first thru node becomes; none in a
+/// version without them.
 #[track_caller]
 fn closed_from(name: &str, net: &str, trips: &str) -> (Option<Vec<u8>>, Folder) {
     let folder = folder(name, net, trips);
@@ -261,7 +268,8 @@ fn closed_from(name: &str, net: &str, trips: &str) -> (Option<Vec<u8>>, Folder) 
     folder.put("text", &shown);
     folder.study(&["from-text", "text", "--out", "again"]).ok();
     assert_eq!(folder.bytes("again"), file);
-    (study.closed, folder)
+    let closed = study.version.has_closed().then_some(study.closed);
+    (closed, folder)
 }
 
 #[test]
@@ -385,6 +393,216 @@ fn trips_without_a_path_but_through_zones() {
     );
 }
 
+// Powers.
+
+/// The triangle with this power on line 8, where b is 0.25.
+fn net_with_power(power: &str) -> String {
+    with(NET, "0.25\t4", &format!("0.25\t{power}"))
+}
+
+/// The study that a net and trips become, which goes round as text, and what
+/// standard error told of it.
+#[track_caller]
+fn converted(name: &str, net: &str, trips: &str) -> (Study, String) {
+    let (_, folder) = closed_from(name, net, trips);
+    let study = Study::read(&folder.bytes("out")).expect("a study");
+    (study, folder.study(&COMMAND).stderr)
+}
+
+fn powers(study: &Study) -> Vec<u16> {
+    study.links.iter().map(|link| link.power).collect()
+}
+
+#[test]
+fn forms_of_power_4() {
+    let folder = folder("power-4", NET, TRIPS);
+    folder.study(&COMMAND).ok();
+    let expected = folder.bytes("out");
+    assert_eq!(expected[0], 1);
+    for power in ["4.0", "4.000", "4.", "+4", "04", "4e0", "40E-1", "0.4e+1"] {
+        folder.put("net.tntp", net_with_power(power));
+        folder.study(&COMMAND).ok();
+        assert_eq!(folder.bytes("out"), expected, "{power}");
+    }
+}
+
+#[test]
+fn powers_make_version_3() {
+    let (plain, _) = converted("power-plain", NET, TRIPS);
+    for (name, text, power) in [
+        ("1", "1", 1),
+        ("2", "2.0", 2),
+        ("3", "3", 3),
+        ("exponent", "20e-1", 2),
+    ] {
+        let net = net_with_power(text);
+        let (study, told) = converted(&format!("power-{name}"), &net, TRIPS);
+        // The power of line 9, where b is 0, comes along.
+        assert_eq!(powers(&study), [4, power, 1]);
+        assert_eq!(study.version.to_string(), "3");
+        assert_eq!(study.closed, [0; 3]);
+        let note = format!("net.tntp: line 8: power {power}, which makes a version 3 study\n");
+        assert!(told.starts_with(&format!("{note}rounded to")), "{told}");
+
+        // Nothing else is different.
+        let mut study = study;
+        study.version = plain.version;
+        study.links.iter_mut().for_each(|link| link.power = 4);
+        assert_eq!(study, plain);
+    }
+}
+
+/// The bytes of a version 3 study.
+#[test]
+fn powers_in_the_file() {
+    let folder = folder("power-bytes", &net_with_power("3"), TRIPS);
+    let said = folder.study(&COMMAND).ok();
+    assert!(said.starts_with("out: 103 bytes, 3 nodes, 3 links, "));
+    let file = folder.bytes("out");
+    assert_eq!(file[..8], [3, 0, 3, 0, 3, 0, 3, 0]);
+    assert_eq!(file[8..16], [40, 0, 0, 0, 36, 0, 0, 0]);
+    // Tail 1, head 2, free time 400, rise 100, capacity 81, power 3.
+    assert_eq!(file[52..64], [1, 0, 2, 0, 144, 1, 100, 0, 81, 0, 3, 0]);
+    assert_eq!(file[100..], [0; 3]);
+    let shown = folder.study(&["show", "out"]).ok();
+    for line in [
+        "\nstudy 3\n",
+        "\n#    number  tail  head   free   rise  capacity  power\n",
+        "\nlink      0     0     1    600     90       120      4\n",
+        "\nlink      1     1     2    400    100        81      3\n",
+        "\nlink      2     2     0    500      0        60      1\n",
+    ] {
+        assert!(shown.contains(line), "{line} in {shown}");
+    }
+}
+
+/// One power on every link that is not 4.
+#[test]
+fn sioux_falls_with_powers() {
+    let net = data("SiouxFalls_net.tntp");
+    let trips = data("SiouxFalls_trips.tntp");
+    let told = |power: u16, net: &str| {
+        let folder = folder(&format!("sioux-falls-{power}"), net, &trips);
+        let outcome = folder.study(&[&COMMAND[..], &["--vehicles-per-trip", "10"]].concat());
+        assert!(outcome.stdout.ends_with("check: accepted\n"));
+        (folder.bytes("out"), outcome.stderr)
+    };
+    let (plain, report) = told(4, &net);
+    let plain = Study::read(&plain).expect("a study");
+    for power in 1..4 {
+        let net = net.replace("\t0.15\t4\t", &format!("\t0.15\t{power}\t"));
+        let (file, told) = told(power, &net);
+        assert_eq!(file.len(), 40 + 76 * 12 + 24 * 2 + 24 * 24 * 2 + 24);
+        assert_eq!(
+            told,
+            format!("net.tntp: line 9: power {power}, which makes a version 3 study\n{report}")
+        );
+        let mut study = Study::read(&file).expect("a study");
+        assert_eq!(powers(&study), [power; 76]);
+        study.version = plain.version;
+        study.links.iter_mut().for_each(|link| link.power = 4);
+        assert_eq!(study, plain);
+    }
+}
+
+#[test]
+fn powers_and_closed_zones() {
+    let net = with(
+        ZONED_NET,
+        "\t4\t5\t10\t1\t1\t0\t4",
+        "\t4\t5\t10\t1\t1\t0.5\t2",
+    );
+    let (study, told) = converted("power-zoned", &net, ZONED_TRIPS);
+    assert_eq!(study.version.to_string(), "3");
+    assert_eq!(study.closed, [1, 1, 0, 0, 0, 0]);
+    assert_eq!(powers(&study), [4, 4, 2, 4, 4, 4, 4, 4, 4]);
+    assert_eq!(
+        told,
+        "net.tntp: line 3: <FIRST THRU NODE> 3: nodes 1 to 2 are closed\n\
+         net.tntp: line 8: power 2, which makes a version 3 study\n\
+         no figure was rounded\n"
+    );
+}
+
+/// Where b is 0 the power makes no difference, and no version 3.
+#[test]
+fn powers_where_b_is_0() {
+    let with_last =
+        |net: &str, power: &str| with(net, "\t0\t1\t0\t0", &format!("\t0\t{power}\t0\t0"));
+    let (plain, told) = converted("power-b-0", NET, TRIPS);
+    for (number, power) in ["0", "2", "4", "4.5", "5", "1e30"].into_iter().enumerate() {
+        let net = with_last(NET, power);
+        let found = converted(&format!("power-b-0-{number}"), &net, TRIPS);
+        assert_eq!(found, (plain.clone(), told.clone()), "{power}");
+    }
+    // Beside a power that makes version 3, what fits is kept.
+    for (number, (power, kept)) in [("0", 4), ("2.0", 2), ("4.5", 4), ("5", 4)]
+        .into_iter()
+        .enumerate()
+    {
+        let net = with_last(&net_with_power("3"), power);
+        let (study, _) = converted(&format!("power-b-0-kept-{number}"), &net, TRIPS);
+        assert_eq!(powers(&study), [4, 3, kept], "{power}");
+    }
+    // A rise that only rounds to 0 is one.
+    let net = with(NET, "0.25\t4", "0.000001\t2");
+    let (study, _) = converted("power-b-small", &net, TRIPS);
+    assert_eq!((powers(&study), study.links[1].rise), (vec![4, 2, 1], 0));
+    // It must be a figure all the same.
+    for (name, power, message) in [
+        ("word", "none", "power `none` is not a figure"),
+        ("minus", "-1", "power -1, limit 0 or more"),
+    ] {
+        let folder = folder(&format!("power-b-0-{name}"), &with_last(NET, power), TRIPS);
+        folder.fails(&COMMAND, &format!("net.tntp: line 9: {message}"));
+    }
+}
+
+#[test]
+fn powers_at_fault() {
+    let not_whole = "is not a whole number, limit 1 to 4";
+    for (number, (power, message)) in [
+        ("0", "power 0, limit 1 to 4".to_owned()),
+        ("0.0", "power 0.0, limit 1 to 4".to_owned()),
+        ("5", "power 5, limit 1 to 4".to_owned()),
+        ("5.00", "power 5.00, limit 1 to 4".to_owned()),
+        ("65540", "power 65540, limit 1 to 4".to_owned()),
+        ("4e1", "power 4e1, limit 1 to 4".to_owned()),
+        ("-1", "power -1, limit 1 to 4".to_owned()),
+        ("-4.5", "power -4.5, limit 1 to 4".to_owned()),
+        ("4.5", format!("power `4.5` {not_whole}")),
+        ("0.9", format!("power `0.9` {not_whole}")),
+        (
+            "3.9999999999999999",
+            format!("power `3.9999999999999999` {not_whole}"),
+        ),
+        ("4e-1", format!("power `4e-1` {not_whole}")),
+        ("four", format!("power `four` {not_whole}")),
+        ("4,0", format!("power `4,0` {not_whole}")),
+        (
+            "1e40",
+            "power 1e40 cannot be kept exactly, limit about 37 digits".to_owned(),
+        ),
+    ]
+    .into_iter()
+    .enumerate()
+    {
+        let folder = folder(
+            &format!("power-bad-{number}"),
+            &net_with_power(power),
+            TRIPS,
+        );
+        folder.fails(&COMMAND, &format!("net.tntp: line 8: {message}"));
+    }
+    bad_net(
+        "power-missing",
+        "0.25\t4",
+        "0.25",
+        "line 8: 9 columns, a row has 10: init node, term node, capacity, length, free flow time, \
+         b, power, speed, toll, link type",
+    );
+}
+
 #[test]
 fn forms_of_text_that_make_no_difference() {
     let folder = folder("forms", NET, TRIPS);
@@ -420,16 +638,6 @@ fn the_stated_total_counts_to_its_places() {
 }
 
 // Bad net files.
-
-#[test]
-fn power_3() {
-    bad_net(
-        "power",
-        "0.25\t4",
-        "0.25\t3",
-        "line 8: power 3 where b is 0.25, must be 4 (or b 0)",
-    );
-}
 
 #[test]
 fn capacity_0() {

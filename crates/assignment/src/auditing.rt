@@ -1,37 +1,45 @@
 ghost use mathlib.Core.Path.{_≡_};
 ghost use lib.ListN.{length};
 ghost use Rattle.network.specs.Decoded.{Room};
+ghost use Rattle.assignment.specs.Places.{curvePlaces};
 ghost use Rattle.calls.specs.Calls.{auditAnswer};
 use crate::answers::refused_audit;
+use crate::places::curve_places;
+use crate::places::is_small;
 use crate::refusals::totals_refusal;
 use calls::AuditAnswer;
-use network::SHORT;
 use network::SHORT_ENTRIES;
 use network::SHORT_LINKS;
+use travel::ALL_LISTS;
+use travel::ONE_LIST;
 
 // Audit: the gap and cost of a lent table, whoever made it, and how many of its links are over.
 pub fn audit(file: &[u8], table: &[u32], share: u32) -> AuditAnswer
     ensures { λ r. ⌜ r ≡ auditAnswer (now (file .entry)) (now (table .entry)) share ⌝ }
 {
-    if file.len() <= SHORT {
+    if is_small(file) {
         let mut rows = [[0u16, 0, 0, 0, 0, 0]; SHORT_LINKS];
         let mut entries = [0u16; SHORT_ENTRIES];
-        return audit_in(file, table, share, &mut rows, &mut entries);
+        let mut curves = [0u64; ONE_LIST];
+        return audit_in(file, table, share, &mut rows, &mut entries, &mut curves);
     }
     let mut rows = [[0u16, 0, 0, 0, 0, 0]; 512];
     let mut entries = [0u16; 4096];
-    audit_in(file, table, share, &mut rows, &mut entries)
+    let mut curves = [0u64; ALL_LISTS];
+    let curves = &mut curves[..curve_places(file)];
+    audit_in(file, table, share, &mut rows, &mut entries, curves)
 }
 
-// The same, in places that are lent for the rows of its links and trips.
+// The same, in places that are lent for the rows of its links and trips and for the links' curves.
 fn audit_in(
     file: &[u8],
     table: &[u32],
     share: u32,
     rows: &mut [[u16; 6]],
     entries: &mut [u16],
+    curves: &mut [u64],
 ) -> AuditAnswer
-    requires { ⌜ Room (now file) (length (now rows)) (length (now entries)) ⌝ }
+    requires { ⌜ Room (now file) (length (now rows)) (length (now entries)) × (length (now curves) ≡ curvePlaces (now file)) ⌝ }
     ensures { λ r. ⌜ r ≡ auditAnswer (now (file .entry)) (now (table .entry)) share ⌝ }
 {
     let mut places = [0u16; 32];
@@ -57,7 +65,7 @@ fn audit_in(
     if refusal != 0 {
         return refused_audit(refusal);
     }
-    let sums = judging::audit_table(n, links, destinations, trips, table, share, &totals);
+    let sums = judging::audit_table(n, links, destinations, trips, table, share, &totals, curves);
     AuditAnswer {
         refusal: 0,
         gap: sums.gap,

@@ -1,15 +1,19 @@
 ghost use mathlib.Core.Path.{_≡_};
 ghost use lib.ListN.{length};
 ghost use Rattle.network.specs.Decoded.{Room};
+ghost use Rattle.assignment.specs.Places.{curvePlaces};
 ghost use Rattle.calls.specs.Calls.{passAnswer, passTable};
 ghost use Rattle.assignment.specs.Answers.{outcomeOf};
 use crate::answers::refused_pass;
+use crate::places::curve_places;
+use crate::places::is_small;
 use crate::refusals::totals_refusal;
 use calls::Outcome;
 use calls::PassAnswer;
-use network::SHORT;
 use network::SHORT_ENTRIES;
 use network::SHORT_LINKS;
+use travel::ALL_LISTS;
+use travel::ONE_LIST;
 use travel::TOTAL;
 
 // Pass: judges the table, then moves it.
@@ -17,25 +21,29 @@ pub fn pass(file: &[u8], table: &mut [u32], share: u32) -> PassAnswer
     ensures { λ r. ⌜ r ≡ passAnswer (now (file .entry)) (now (table .entry)) share ⌝ }
     ensures { λ r. ⌜ now (table .exit) ≡ passTable (now (file .entry)) (now (table .entry)) share ⌝ }
 {
-    if file.len() <= SHORT {
+    if is_small(file) {
         let mut rows = [[0u16, 0, 0, 0, 0, 0]; SHORT_LINKS];
         let mut entries = [0u16; SHORT_ENTRIES];
-        return pass_in(file, table, share, &mut rows, &mut entries);
+        let mut curves = [0u64; ONE_LIST];
+        return pass_in(file, table, share, &mut rows, &mut entries, &mut curves);
     }
     let mut rows = [[0u16, 0, 0, 0, 0, 0]; 512];
     let mut entries = [0u16; 4096];
-    pass_in(file, table, share, &mut rows, &mut entries)
+    let mut curves = [0u64; ALL_LISTS];
+    let curves = &mut curves[..curve_places(file)];
+    pass_in(file, table, share, &mut rows, &mut entries, curves)
 }
 
-// The same, in places that are lent for the rows of its links and trips.
+// The same, in places that are lent for the rows of its links and trips and for the links' curves.
 fn pass_in(
     file: &[u8],
     table: &mut [u32],
     share: u32,
     rows: &mut [[u16; 6]],
     entries: &mut [u16],
+    curves: &mut [u64],
 ) -> PassAnswer
-    requires { ⌜ Room (now file) (length (now rows)) (length (now entries)) ⌝ }
+    requires { ⌜ Room (now file) (length (now rows)) (length (now entries)) × (length (now curves) ≡ curvePlaces (now file)) ⌝ }
     ensures { λ r. ⌜ r ≡ passAnswer (now (file .entry)) (now (table .entry)) share ⌝ }
     ensures { λ r. ⌜ now (table .exit) ≡ passTable (now (file .entry)) (now (table .entry)) share ⌝ }
 {
@@ -62,7 +70,16 @@ fn pass_in(
     if refusal != 0 {
         return refused_pass(refusal);
     }
-    let passed = judging::pass_table(n, links, destinations, trips, table, share, &mut flows);
+    let passed = judging::pass_table(
+        n,
+        links,
+        destinations,
+        trips,
+        table,
+        share,
+        &mut flows,
+        curves,
+    );
     let outcome = outcome_of(passed.moved);
     PassAnswer {
         refusal: 0,

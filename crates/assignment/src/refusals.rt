@@ -1,4 +1,4 @@
-// The questions of each call, in order, over a file whose fields are decoded. Of the file itself only the closed bytes are read.
+// The questions of each call, in order, over a file whose fields are decoded. Of the file itself only the closed bytes and the version are read.
 ghost use mathlib.Core.Path.{_≡_};
 ghost use lib.ListN.{replicate};
 ghost use Rattle.calls.specs.Questions.{budgetFits};
@@ -23,7 +23,8 @@ pub fn start_refusal(
         return opening;
     }
     let closed = study::accepted_section(file, study::CLOSED);
-    let refusal = questions::study_refusal(nodes, links, destinations, closed, trips);
+    let all_fourth = study::link_size(file) < 12;
+    let refusal = questions::study_refusal(nodes, links, destinations, closed, trips, all_fourth);
     if refusal != 0 {
         return refusal;
     }

@@ -1,18 +1,22 @@
 ghost use mathlib.Core.Path.{_≡_};
 ghost use lib.ListN.{length};
 ghost use Rattle.network.specs.Decoded.{Room};
+ghost use Rattle.assignment.specs.Places.{curvePlaces};
 ghost use Rattle.calls.specs.Calls.{runNumber, runAnswer, runTable};
 ghost use Rattle.assignment.specs.Answers.{endingOf, endedAnswer};
 ghost use Rattle.assignment.specs.Parts.{PartsOf};
 use crate::answers::refused_run;
+use crate::places::curve_places;
+use crate::places::is_small;
 use crate::refusals::run_refusal;
 use calls::Ending;
 use calls::RunAnswer;
 use judging::Standing;
 use judging::Step;
-use network::SHORT;
 use network::SHORT_ENTRIES;
 use network::SHORT_LINKS;
+use travel::ALL_LISTS;
+use travel::ONE_LIST;
 use travel::TOTAL;
 
 // Run: a start, and then turns of one judged table each.
@@ -20,17 +24,28 @@ pub fn run(file: &[u8], table: &mut [u32], budget: u32, excess: u16) -> RunAnswe
     ensures { λ r. ⌜ r ≡ runAnswer (now (file .entry)) (now (table .entry)) budget excess ⌝ }
     ensures { λ r. ⌜ now (table .exit) ≡ runTable (now (file .entry)) (now (table .entry)) budget excess ⌝ }
 {
-    if file.len() <= SHORT {
+    if is_small(file) {
         let mut rows = [[0u16, 0, 0, 0, 0, 0]; SHORT_LINKS];
         let mut entries = [0u16; SHORT_ENTRIES];
-        return run_in(file, table, budget, excess, &mut rows, &mut entries);
+        let mut curves = [0u64; ONE_LIST];
+        return run_in(
+            file,
+            table,
+            budget,
+            excess,
+            &mut rows,
+            &mut entries,
+            &mut curves,
+        );
     }
     let mut rows = [[0u16, 0, 0, 0, 0, 0]; 512];
     let mut entries = [0u16; 4096];
-    run_in(file, table, budget, excess, &mut rows, &mut entries)
+    let mut curves = [0u64; ALL_LISTS];
+    let curves = &mut curves[..curve_places(file)];
+    run_in(file, table, budget, excess, &mut rows, &mut entries, curves)
 }
 
-// The same, in places that are lent for the rows of its links and trips.
+// The same, in places that are lent for the rows of its links and trips and for the links' curves.
 fn run_in(
     file: &[u8],
     table: &mut [u32],
@@ -38,8 +53,9 @@ fn run_in(
     excess: u16,
     rows: &mut [[u16; 6]],
     entries: &mut [u16],
+    curves: &mut [u64],
 ) -> RunAnswer
-    requires { ⌜ Room (now file) (length (now rows)) (length (now entries)) ⌝ }
+    requires { ⌜ Room (now file) (length (now rows)) (length (now entries)) × (length (now curves) ≡ curvePlaces (now file)) ⌝ }
     ensures { λ r. ⌜ r ≡ runAnswer (now (file .entry)) (now (table .entry)) budget excess ⌝ }
     ensures { λ r. ⌜ now (table .exit) ≡ runTable (now (file .entry)) (now (table .entry)) budget excess ⌝ }
 {
@@ -64,7 +80,17 @@ fn run_in(
     if refusal != 0 {
         return refused_run(refusal);
     }
-    turns(file, n, links, destinations, trips, table, budget, excess)
+    turns(
+        file,
+        n,
+        links,
+        destinations,
+        trips,
+        table,
+        budget,
+        excess,
+        curves,
+    )
 }
 
 // The turns of an accepted run, from the table that a start leaves until one ends it. Each guesses the j that the turn before the last
@@ -78,8 +104,10 @@ fn turns(
     table: &mut [u32],
     budget: u32,
     excess: u16,
+    curves: &mut [u64],
 ) -> RunAnswer
     requires { ⌜ PartsOf (now file) 0 nodes (now links) (now destinations) (now trips) × (runNumber (now file) (now table) budget ≡ 0) ⌝ }
+    requires { ⌜ length (now curves) ≡ curvePlaces (now file) ⌝ }
     ensures { λ r. ⌜ r ≡ runAnswer (now (file .entry)) (now (table .entry)) budget excess ⌝ }
     ensures { λ _. ⌜ now (table .exit) ≡ runTable (now (file .entry)) (now (table .entry)) budget excess ⌝ }
 {
@@ -88,9 +116,8 @@ fn turns(
     let mut next = [[0u16; 128]; 32];
     let mut volumes = [[0u16; 128]; 32];
     let mut flows = [[0u64; 512]; 2];
-    let mut curves = [0u64; 769];
-    travel::put_powers(&mut curves);
-    travel::put_reciprocals(&mut curves, links);
+    travel::put_powers(curves);
+    travel::put_reciprocals(curves, links);
     let chains = search::link_chains(links);
     judging::start_table(
         nodes,
@@ -98,7 +125,7 @@ fn turns(
         destinations,
         trips,
         &chains,
-        &curves,
+        curves,
         table,
         &mut times,
         &mut next,
@@ -126,7 +153,7 @@ fn turns(
             destinations,
             trips,
             &chains,
-            &curves,
+            curves,
             &mut times,
             &mut next,
             &mut volumes,
@@ -136,7 +163,7 @@ fn turns(
         );
         let step = turn.step;
         let Step::Moved = step else {
-            let costs = travel::cost(links, &flows[TOTAL], share, &curves);
+            let costs = travel::cost(links, &flows[TOTAL], share, curves);
             return ended(step, judged, share, turn.gap, costs.cost, costs.over);
         };
         guess = latest;

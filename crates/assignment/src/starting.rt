@@ -1,30 +1,43 @@
 ghost use mathlib.Core.Path.{_≡_};
 ghost use lib.ListN.{length};
 ghost use Rattle.network.specs.Decoded.{Room};
+ghost use Rattle.assignment.specs.Places.{curvePlaces};
 ghost use Rattle.calls.specs.Calls.{startNumber, startTable};
+use crate::places::curve_places;
+use crate::places::is_small;
 use crate::refusals::start_refusal;
-use network::SHORT;
 use network::SHORT_ENTRIES;
 use network::SHORT_LINKS;
+use travel::ALL_LISTS;
+use travel::ONE_LIST;
 
 // Start: W = 1, the table is the loading at empty roads.
 pub fn start(file: &[u8], table: &mut [u32]) -> u8
     ensures { λ r. ⌜ r ≡ startNumber (now (file .entry)) (now (table .entry)) ⌝ }
     ensures { λ r. ⌜ now (table .exit) ≡ startTable (now (file .entry)) (now (table .entry)) ⌝ }
 {
-    if file.len() <= SHORT {
+    if is_small(file) {
         let mut rows = [[0u16, 0, 0, 0, 0, 0]; SHORT_LINKS];
         let mut entries = [0u16; SHORT_ENTRIES];
-        return start_in(file, table, &mut rows, &mut entries);
+        let mut curves = [0u64; ONE_LIST];
+        return start_in(file, table, &mut rows, &mut entries, &mut curves);
     }
     let mut rows = [[0u16, 0, 0, 0, 0, 0]; 512];
     let mut entries = [0u16; 4096];
-    start_in(file, table, &mut rows, &mut entries)
+    let mut curves = [0u64; ALL_LISTS];
+    let curves = &mut curves[..curve_places(file)];
+    start_in(file, table, &mut rows, &mut entries, curves)
 }
 
-// The same, in places that are lent for the rows of its links and trips.
-fn start_in(file: &[u8], table: &mut [u32], rows: &mut [[u16; 6]], entries: &mut [u16]) -> u8
-    requires { ⌜ Room (now file) (length (now rows)) (length (now entries)) ⌝ }
+// The same, in places that are lent for the rows of its links and trips and for the links' curves.
+fn start_in(
+    file: &[u8],
+    table: &mut [u32],
+    rows: &mut [[u16; 6]],
+    entries: &mut [u16],
+    curves: &mut [u64],
+) -> u8
+    requires { ⌜ Room (now file) (length (now rows)) (length (now entries)) × (length (now curves) ≡ curvePlaces (now file)) ⌝ }
     ensures { λ r. ⌜ r ≡ startNumber (now (file .entry)) (now (table .entry)) ⌝ }
     ensures { λ r. ⌜ now (table .exit) ≡ startTable (now (file .entry)) (now (table .entry)) ⌝ }
 {
@@ -44,8 +57,7 @@ fn start_in(file: &[u8], table: &mut [u32], rows: &mut [[u16; 6]], entries: &mut
     let mut next = [[0u16; 128]; 32];
     let mut volumes = [[0u16; 128]; 32];
     let mut flows = [[0u64; 512]; 2];
-    let mut curves = [0u64; 769];
-    travel::put_powers(&mut curves);
+    travel::put_powers(curves);
     let chains = search::link_chains(links);
     judging::start_table(
         n,
@@ -53,7 +65,7 @@ fn start_in(file: &[u8], table: &mut [u32], rows: &mut [[u16; 6]], entries: &mut
         destinations,
         trips,
         &chains,
-        &curves,
+        curves,
         table,
         &mut times,
         &mut next,

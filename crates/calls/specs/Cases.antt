@@ -12,8 +12,8 @@ use Rattle.study.specs.Bytes.{u16, u32}
 use Rattle.study.specs.Versions.{versions, formOf}
 use Rattle.study.specs.Header.{version, nodeField, linkField, destinationField, hasSection, offset, size, closedField}
 use Rattle.study.specs.Questions.{lengthFits, versionKnown, countsFit, sectionsApart, sectionsInOrder, sizesFit, opening, refusal}
-use Rattle.study.specs.Sections.{nodes, links, destinations, closedCount, part, closedPart}
-use Rattle.study.specs.Fields.{tail, head, freeTime, rise, capacity, destination, trips, closedByte}
+use Rattle.study.specs.Sections.{nodes, links, destinations, closedCount, part, linkPart, closedPart}
+use Rattle.study.specs.Fields.{tail, head, freeTime, rise, capacity, power as powerOf, destination, trips, closedByte}
 use Rattle.theory.specs.Finite.{sum, all, first, largest, tabulate, rows}
 use Rattle.theory.specs.Network.{Network, totalTrips}
 use Rattle.theory.specs.Flows.{linkTotal, total, sumAt, balances, conserves, permits, totalsFit, step, stepTime, timeAt, times, overAt, over}
@@ -107,6 +107,17 @@ zoneOnly closed =
     ++ (1 ∷ 0 ∷ 0 ∷ 0 ∷ 0 ∷ 0 ∷ [])
     ++ (0 ∷ closed ∷ 0 ∷ [])
 
+-- A.5: the town in version 3. Road 0 has the power whose two bytes are said, and road 1 has power 4. File 72 bytes.
+unfoldable pub curvedTown : ℕ → ℕ → List ℕ
+curvedTown low high =
+    3 ∷ 0 ∷ 2 ∷ 0 ∷ 2 ∷ 0 ∷ 1 ∷ 0 ∷ []
+    ++ (40 ∷ 0 ∷ 0 ∷ 0 ∷ 24 ∷ 0 ∷ 0 ∷ 0 ∷ 64 ∷ 0 ∷ 0 ∷ 0 ∷ 2 ∷ 0 ∷ 0 ∷ 0 ∷ 66 ∷ 0 ∷ 0 ∷ 0 ∷ 4 ∷ 0 ∷ 0 ∷ 0 ∷ 70 ∷ 0 ∷ 0 ∷ 0 ∷ 2 ∷ 0 ∷ 0 ∷ 0 ∷ [])
+    ++ (0 ∷ 0 ∷ 1 ∷ 0 ∷ 10 ∷ 0 ∷ 10 ∷ 0 ∷ 2 ∷ 0 ∷ low ∷ high ∷ [])
+    ++ (0 ∷ 0 ∷ 1 ∷ 0 ∷ 15 ∷ 0 ∷ 0 ∷ 0 ∷ 1 ∷ 0 ∷ 4 ∷ 0 ∷ [])
+    ++ (1 ∷ 0 ∷ [])
+    ++ (2 ∷ 0 ∷ 0 ∷ 0 ∷ [])
+    ++ (0 ∷ 0 ∷ [])
+
 -- A case: what the definitions give, and what the paper says.
 pub record Case : Type 0 where
   pub found : List ℕ
@@ -141,6 +152,18 @@ abbrev pub ran : ℕ → ℕ → List ℕ
 ran budget excess =
     let a = runAnswer town (7 ∷ 7 ∷ []) budget excess in
     endingNumber (a .ending) ∷ a .judged ∷ a .share ∷ a .gap ∷ runTable town (7 ∷ 7 ∷ []) budget excess
+
+-- The same of the town in version 3, with a power on road 0.
+abbrev pub curvedRan : ℕ → List ℕ
+curvedRan q =
+    let a = runAnswer (curvedTown q 0) (7 ∷ 7 ∷ []) 10 0 in
+    endingNumber (a .ending) ∷ a .judged ∷ a .share ∷ a .gap ∷ runTable (curvedTown q 0) (7 ∷ 7 ∷ []) 10 0
+
+-- There, the times of road 0 at steps 0, 1, 63, 64, 65, 255 and 256: at share 64, whose steps are two parts of a trip.
+abbrev pub curve : ℕ → List ℕ
+curve q =
+    let time : ℕ → ℕ = λ flow. timeAt (networkOf (curvedTown q 0)) 64 (λ l. flow) 0 in
+    time 0 ∷ time 2 ∷ time 126 ∷ time 128 ∷ time 130 ∷ time 510 ∷ time 512 ∷ []
 
 -- The gap and cost that an audit answers.
 abbrev pub audited : List ℕ → List ℕ → ℕ → List ℕ
@@ -216,8 +239,8 @@ cases =
     -- A closed byte of 2 is refused 19, before 9. The zone with no way round it: 11 where it is closed.
     ∷ case (checkNumber (zoneTown 0 2) ∷ checkNumber (zoneTown 1 2) ∷ checkNumber (zoneTown 1 1) ∷ []) (19 ∷ 19 ∷ 9 ∷ [])
     ∷ case (checkNumber (zoneOnly 0) ∷ checkNumber (zoneOnly 1) ∷ []) (0 ∷ 11 ∷ [])
-    -- A version 2 file of 39 bytes is refused 4; so is one whose header is there, but not its sections. Version 3 is refused 2.
-    ∷ case (checkNumber (take 39 (zoneTown 0 1)) ∷ checkNumber (take 40 (zoneTown 0 1)) ∷ checkNumber (3 ∷ drop 1 (zoneTown 0 1)) ∷ []) (4 ∷ 4 ∷ 2 ∷ [])
+    -- A version 2 file of 39 bytes is refused 4; so is one whose header is there, but not its sections. Version 4 is refused 2.
+    ∷ case (checkNumber (take 39 (zoneTown 0 1)) ∷ checkNumber (take 40 (zoneTown 0 1)) ∷ checkNumber (4 ∷ drop 1 (zoneTown 0 1)) ∷ []) (4 ∷ 4 ∷ 2 ∷ [])
     -- Pack keeps the version and wants its whole packed size.
     ∷ case (packOutput (zoneTown 0 1) (replicate 95 7)) (zoneTown 0 1 ++ (7 ∷ []))
     ∷ case (packNumber (zoneTown 0 1) (replicate 93 7) ∷ packNumber (zoneTown 0 1) (replicate 94 7) ∷ []) (17 ∷ 0 ∷ [])
@@ -239,6 +262,21 @@ cases =
     ∷ case (runAnswer busyTown (7 ∷ 7 ∷ []) 1 0 .over ∷ runAnswer town (7 ∷ 7 ∷ []) 10 0 .over ∷ []) (1 ∷ 0 ∷ [])
     -- A refusal has 0, though link 0 would count: 16 at flows 8, 1.
     ∷ case (auditAnswer busyTown (8 ∷ 1 ∷ []) 1 .refusal ∷ auditAnswer busyTown (8 ∷ 1 ∷ []) 1 .over ∷ []) (16 ∷ 0 ∷ [])
+    -- A.5: times of road 0 with each power at steps 0, 1, 63, 64, 65, 255 and 256. Those of power 4 are P1's, P4's and P2's.
+    ∷ case (curve 1) (10 ∷ 10 ∷ 19 ∷ 20 ∷ 20 ∷ 49 ∷ 50 ∷ [])
+    ∷ case (curve 2) (10 ∷ 10 ∷ 19 ∷ 20 ∷ 20 ∷ 168 ∷ 170 ∷ [])
+    ∷ case (curve 3) (10 ∷ 10 ∷ 19 ∷ 20 ∷ 20 ∷ 642 ∷ 650 ∷ [])
+    ∷ case (curve 4) (10 ∷ 10 ∷ 19 ∷ 20 ∷ 20 ∷ 2530 ∷ 2570 ∷ [])
+    -- P8's table with each power: gap and cost. Runs as the listing's; power 4 gives version 1's numbers.
+    ∷ case (audited (curvedTown 1 0) (16 ∷ 2 ∷ []) 9 ++ audited (curvedTown 2 0) (16 ∷ 2 ∷ []) 9) (48 ∷ 16140 ∷ 32 ∷ 14342 ∷ [])
+    ∷ case (audited (curvedTown 3 0) (16 ∷ 2 ∷ []) 9 ++ audited (curvedTown 4 0) (16 ∷ 2 ∷ []) 9) (16 ∷ 13552 ∷ 0 ∷ 13104 ∷ [])
+    ∷ case (curvedRan 1 ++ curvedRan 2) (1 ∷ 2 ∷ 2 ∷ 0 ∷ 2 ∷ 2 ∷ 1 ∷ 6 ∷ 11 ∷ 0 ∷ 16 ∷ 6 ∷ [])
+    ∷ case (curvedRan 3 ++ curvedRan 4) (1 ∷ 4 ∷ 5 ∷ 0 ∷ 8 ∷ 2 ∷ 1 ∷ 5 ∷ 9 ∷ 0 ∷ 16 ∷ 2 ∷ [])
+    -- Powers 0, 5, 256 and 260 are refused 7. A version 2 file that is numbered 3 is refused 5, a version 3 file of 39 bytes 4.
+    ∷ case (checkNumber (curvedTown 0 0) ∷ checkNumber (curvedTown 5 0) ∷ checkNumber (curvedTown 0 1) ∷ checkNumber (curvedTown 4 1) ∷ []) (7 ∷ 7 ∷ 7 ∷ 7 ∷ [])
+    ∷ case (checkNumber (3 ∷ drop 1 (zoneTown 0 1)) ∷ checkNumber (take 39 (curvedTown 1 0)) ∷ checkNumber (curvedTown 1 0) ∷ []) (5 ∷ 4 ∷ 0 ∷ [])
+    -- Pack keeps the powers.
+    ∷ case (packOutput (curvedTown 2 0) (replicate 73 7)) (curvedTown 2 0 ++ (7 ∷ []))
     ∷ []
 
 -- One lemma, by computation: the test holds of every case; and what the theorems ask of a study, a table, a share and a budget can be
@@ -272,11 +310,14 @@ pub record Computed : Type 0 where
   pub busy-roads : links busyTown ≡ 2
   pub busy-road : (networkOf busyTown .capacity 0 ≡ 2) × (total (networkOf busyTown) (8 ∷ 0 ∷ []) 0 ≡ 8)
   pub empty-roads : (total g (0 ∷ 0 ∷ []) 0 ≡ 0) × (total g (0 ∷ 0 ∷ []) 1 ≡ 0)
+  pub curved : checkNumber (curvedTown 2 0) ≡ 0
+  pub curved-table : tableNumber (curvedTown 2 0) (16 ∷ 6 ∷ []) 11 ≡ 0
+  pub curved-roads : (links (curvedTown 2 0) ≡ 2) × (version (curvedTown 2 0) ≡ 3)
   pub next-node : found wordEnds (0 ∷ 63 ∷ []) ≡ 64
   pub next-none : found wordEnds wordEnds ≡ 128
 
 pub computed : Computed
-unfolding cases case town strandedTown fullTown busyTown zoneTown zoneServed zoneOnly townLines fullLine digitsWithin decimal hundredths aligned u16 u32 versions formOf version nodeField linkField destinationField hasSection offset size closedField lengthFits versionKnown countsFit sectionsApart sectionsInOrder sizesFit opening refusal nodes links destinations closedCount part tail head freeTime rise capacity destination trips closedByte sum all first largest tabulate rows totalTrips linkTotal sumAt balances conserves permits totalsFit step stepTime times over leastOf fromHead round rounds distances fitsNext nextLinks walk loadingRow loading staircase linkCost cost leastTimes spentTimes gap started movedTimes qualifies chosen added doubled move afterMoves reaches stops judged lastJudged linkRow linkRows destinationNodes tripEntries mayUse network networkOf endsFit timesFit destinationsFit closedFit noTripsWithin totalFits hasPath tripsReach tableHolds budgetFits shareFits packedSize outputHolds studyQuestions shareQuestions checkQuestions packQuestions startQuestions runQuestions tableQuestions bytes16 bytes32 packedHeader packed packNumber packOutput overwritten checkNumber startNumber startTable tableNumber auditAnswer passAnswer passTable runNumber endingAt runAnswer runTable pageHolds pageQuestions pageLine lineOf pageOf pageNumber pageSlice bit marked onlyNode nodesBelow union lowest unvisited lowestUnvisited
+unfolding cases case town strandedTown fullTown busyTown curvedTown zoneTown zoneServed zoneOnly townLines fullLine digitsWithin decimal hundredths aligned u16 u32 versions formOf version nodeField linkField destinationField hasSection offset size closedField lengthFits versionKnown countsFit sectionsApart sectionsInOrder sizesFit opening refusal nodes links destinations closedCount part tail head freeTime rise capacity powerOf destination trips closedByte sum all first largest tabulate rows totalTrips linkTotal sumAt balances conserves permits totalsFit step stepTime times over leastOf fromHead round rounds distances fitsNext nextLinks walk loadingRow loading staircase linkCost cost leastTimes spentTimes gap started movedTimes qualifies chosen added doubled move afterMoves reaches stops judged lastJudged linkRow linkRows destinationNodes tripEntries mayUse network networkOf endsFit timesFit destinationsFit closedFit noTripsWithin totalFits hasPath tripsReach tableHolds budgetFits shareFits packedSize outputHolds studyQuestions shareQuestions checkQuestions packQuestions startQuestions runQuestions tableQuestions bytes16 bytes32 packedHeader packed packNumber packOutput overwritten checkNumber startNumber startTable tableNumber auditAnswer passAnswer passTable runNumber endingAt runAnswer runTable pageHolds pageQuestions pageLine lineOf pageOf pageNumber pageSlice bit marked onlyNode nodesBelow union lowest unvisited lowestUnvisited
 computed =
     record {
       every-case-holds = refl;
@@ -307,6 +348,9 @@ computed =
       busy-roads = refl;
       busy-road = (refl, refl);
       empty-roads = (refl, refl);
+      curved = refl;
+      curved-table = refl;
+      curved-roads = (refl, refl);
       next-node = refl;
       next-none = refl;
     }

@@ -16,17 +16,18 @@ use Rattle.theory.specs.Network.{Network, totalTrips}
 use Rattle.theory.specs.Flows.{totalsFit, conserves, permits}
 use Rattle.theory.specs.Routes.{routing, distances, isSome}
 use Rattle.theory.specs.Moves.{tableSize}
-use Rattle.theory.specs.Study.{freeTime, rise, capacity, network}
+use Rattle.theory.specs.Study.{freeTime, rise, capacity, power, network}
 use Rattle.calls.specs.Study.{linkRows, destinationNodes, tripEntries, networkOf}
 
 -- 6. Are each link's tail and head below n and different?
 unfoldable pub endsFit : Network → Bool
 endsFit g = all (g .links) (λ l. ltb (g .tail l) (g .nodes) && ltb (g .head l) (g .nodes) && not (eqb (g .tail l) (g .head l)))
 
--- 7. Are a 1 to 16,383, b 0 to 16,383, c at least 1 on every link?
+-- 7. Are a 1 to 16,383, b 0 to 16,383, c at least 1 and (A.5) q 1 to 4 on every link?
 unfoldable pub timesFit : List (List ℕ) → Bool
 timesFit rows =
-    all (length rows) (λ l. within 1 16383 (freeTime rows l) && within 0 16383 (rise rows l) && leb 1 (capacity rows l))
+    all (length rows) (λ l.
+    within 1 16383 (freeTime rows l) && within 0 16383 (rise rows l) && leb 1 (capacity rows l) && within 1 4 (power rows l))
 
 -- 8. Are the destinations below n and strictly ascending?
 unfoldable pub destinationsFit : Network → Bool
@@ -71,7 +72,7 @@ budgetFits budget = within 1 1024 budget
 unfoldable pub shareFits : ℕ → Bool
 shareFits share = within 1 1024 share
 
--- The packed size: 32 + 10m + 2p + 2pn bytes in version 1, 40 + 10m + 2p + 2pn + n in version 2.
+-- The packed size: 32 + 10m + 2p + 2pn bytes in version 1, 40 + 10m + 2p + 2pn + n in version 2, 40 + 12m + 2p + 2pn + n in version 3.
 unfoldable pub packedSize : List ℕ → ℕ
 packedSize file =
     formOf (version file) .header

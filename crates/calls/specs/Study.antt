@@ -1,27 +1,32 @@
 -- The study that a file of any version holds, as rows of numbers, and the network that it describes. Fields are read through the promises of
 -- `study`.
-use Prim.Native.Nat.{ℕ}
+use Prim.Native.Nat.{ℕ, _+_, _*_, min}
 use mathlib.Core.List.{List, [], _∷_}
-use Rattle.study.specs.Sections.{nodes, links, destinations, linkPart, destinationPart, tripPart, closedPart}
-use Rattle.study.specs.Fields.{tail, head, freeTime, rise, capacity, destination, trips, closedByte}
+use Rattle.study.specs.Sections.{nodes, links, destinations, linkSize, linkPart, destinationPart, tripPart, closedPart}
+use Rattle.study.specs.Fields.{tail, head, freeTime, rise, capacity, power, destination, trips, closedByte}
 use Rattle.theory.specs.Finite.{tabulate, rows}
 use Rattle.theory.specs.Network.{Network}
 use Rattle.theory.specs.Study.{network}
 
--- The fields of a link, in the order of the columns of a row. The last is the closed byte of its head (A.2): 0 where the file has none.
-unfoldable pub linkRow : List ℕ → List ℕ → ℕ → List ℕ
-linkRow linkBytes closedBytes l =
-    tail linkBytes l
-    ∷ head linkBytes l
-    ∷ freeTime linkBytes l
-    ∷ rise linkBytes l
-    ∷ capacity linkBytes l
-    ∷ closedByte closedBytes (head linkBytes l)
+-- A power (A.5) as a byte: 255 stands for every number that is too large for one.
+abbrev pub powerByte : ℕ → ℕ
+powerByte q = min 255 q
+
+-- The fields of a link, in the order of the columns of a row. The last is two bytes: the closed byte of its head (A.2), 0 where the file has
+-- none, and its power (A.5).
+unfoldable pub linkRow : List ℕ → ℕ → List ℕ → ℕ → List ℕ
+linkRow linkBytes linkSize closedBytes l =
+    tail linkBytes linkSize l
+    ∷ head linkBytes linkSize l
+    ∷ freeTime linkBytes linkSize l
+    ∷ rise linkBytes linkSize l
+    ∷ capacity linkBytes linkSize l
+    ∷ (256 * closedByte closedBytes (head linkBytes linkSize l) + powerByte (power linkBytes linkSize l))
     ∷ []
 
 -- The rows of all links, in link order.
 unfoldable pub linkRows : List ℕ → List (List ℕ)
-linkRows file = tabulate (links file) (linkRow (linkPart file) (closedPart file))
+linkRows file = tabulate (links file) (linkRow (linkPart file) (linkSize file) (closedPart file))
 
 -- The node of every destination, in order.
 unfoldable pub destinationNodes : List ℕ → List ℕ

@@ -1,6 +1,6 @@
--- The hypotheses of the demands and of the requests' theorems can be met: the town of two roads, the busy town, the town with a zone and some
--- marked nodes meet each of them.
-use Prim.Native.Nat.{ℕ, zero, suc, _*_, _≤_, _<_}
+-- The hypotheses of the demands and of the requests' theorems can be met: the town of two roads, the busy town, the town with a zone, the
+-- town with powers and some marked nodes meet each of them.
+use Prim.Native.Nat.{ℕ, zero, suc, _+_, _*_, _/_, _^_, _≤_, _<_}
 use native.Mathlib.Omega.{arith}
 use mathlib.Core.Path.{_≡_}
 use mathlib.Core.Bool.{true, false}
@@ -8,24 +8,28 @@ use mathlib.Core.List.{[], _∷_}
 use lib.ListN.{getD, take, replicate}
 use Rattle.study.specs.Header.{version}
 use Rattle.study.specs.Sections.{links}
-use Rattle.theory.specs.Flows.{entry, Carries, total, overAt, over}
+use Rattle.theory.specs.Network.{Network}
+use Rattle.theory.specs.Flows.{entry, Carries, timeAt, total, overAt, over}
+use Rattle.theory.specs.Cost.{cost, gap}
 use Rattle.theory.specs.Marks.{bit, marked, unvisited}
 use Rattle.theory.specs.Laws.Finite.{Lowest}
 use Rattle.calls.specs.Study.{networkOf}
 use Rattle.calls.specs.Sequence.{Call, afterStart, afterCalls}
-use Rattle.calls.specs.Cases.{town, busyTown, zoneTown, setOf, wordEnds, computed}
+use Rattle.calls.specs.Cases.{town, busyTown, curvedTown, zoneTown, setOf, wordEnds, computed}
 use Rattle.calls.specs.Page.{pageOf}
 use Rattle.calls.specs.Questions.{packedSize}
 use Rattle.calls.specs.Calls.{packOutput, auditAnswer, passAnswer, runAnswer, runTable, pageSlice}
 use Rattle.calls.specs.Laws.Questions.{Described, check-passed, table-both}
 use Rattle.calls.specs.Laws.Reach.{passed-carries}
+use Rattle.calls.specs.Laws.Networks.{sound}
 use Rattle.calls.specs.Laws.Page.{LineFits}
 use Rattle.demands.specs.Demands.{Certified, demand-3}
 use Rattle.demands.specs.Results.{Fresh}
 use Rattle.demands.specs.Pages.{OfLine}
 use Rattle.demands.specs.Zones.{Closed, Avoids}
 use Rattle.demands.specs.PastCurves.{CountsOver}
-use Rattle.demands.specs.Requests.{request-A1, request-A2, request-A3, request-A4}
+use Rattle.demands.specs.Powers.{freeOf, riseOf, powerOf, withCurves, curves-carry}
+use Rattle.demands.specs.Requests.{request-A1, request-A2, request-A3, request-A4, request-A5}
 
 -- A study that passes questions 1 to 11.
 pub town-described : Described town
@@ -107,3 +111,30 @@ town-empty = request-A4 .empty town (0 ∷ 0 ∷ []) 1 (λ l h. none l (rw (comp
     none zero h = computed .empty-roads .0
     none (suc zero) h = computed .empty-roads .1
     none (suc (suc l)) h = omega arith
+
+-- A version 3 study: the power of road 0, its curve, and its time with more flow. Its table at share 11 is certified by demand 3 as it stands.
+pub curved-range : (1 ≤ powerOf (curvedTown 2 0) 0) × (powerOf (curvedTown 2 0) 0 ≤ 4)
+curved-range = request-A5 .range (curvedTown 2 0) (computed .curved) 0 (omega (arith, computed .curved-roads .0))
+
+pub curved-curve : (r : ℕ)
+    → networkOf (curvedTown 2 0) .height 0 r ≡ freeOf (curvedTown 2 0) 0 + riseOf (curvedTown 2 0) 0 * r ^ powerOf (curvedTown 2 0) 0 / 64 ^ powerOf (curvedTown 2 0) 0
+curved-curve = request-A5 .curve (curvedTown 2 0) (computed .curved) 0 (omega (arith, computed .curved-roads .0))
+
+pub curved-flow : timeAt (networkOf (curvedTown 2 0)) 11 (λ l. 16) 0 ≤ timeAt (networkOf (curvedTown 2 0)) 11 (λ l. 22) 0
+curved-flow = request-A5 .flow (curvedTown 2 0) (computed .curved) 0 (omega (arith, computed .curved-roads .0)) 11 (λ l. 16) (λ l. 22) (omega arith) (omega arith)
+
+pub curved-table : Certified (curvedTown 2 0) (record { table = 16 ∷ 6 ∷ []; share = 11 })
+curved-table = demand-3 .table (curvedTown 2 0) (16 ∷ 6 ∷ []) 11 (computed .curved-table)
+
+-- A version 1 file.
+pub town-fourth : (r : ℕ) → networkOf town .height 0 r ≡ freeOf town 0 + riseOf town 0 * r ^ 4 / 16777216
+town-fourth r = request-A5 .fourth town (omega (arith, computed .first-version)) 0 r (omega (arith, computed .roads))
+
+-- The town with curves of power 7, which no version has, and the same rival.
+abbrev seventh : Network
+seventh = withCurves (networkOf town) (λ l. 10) (λ l. 10) (λ l. 7)
+
+pub seventh-bound : 9 * cost seventh 1 (2 ∷ 0 ∷ []) ≤ 1 * cost seventh 9 (16 ∷ 2 ∷ []) + 64 * 9 * gap seventh 1 (2 ∷ 0 ∷ [])
+seventh-bound =
+    request-A5 .bound (networkOf town) (sound town town-described) (λ l. 10) (λ l. 10) (λ l. 7) (λ l h. omega arith) 1 (2 ∷ 0 ∷ []) (omega arith) 9 (16 ∷ 2 ∷ [])
+    (curves-carry (networkOf town) (λ l. 10) (λ l. 10) (λ l. 7) 9 (16 ∷ 2 ∷ []) town-rival)

@@ -12,4 +12,5 @@ pub mod Pages
 pub mod Zones
 pub mod NextNodes
 pub mod PastCurves
+pub mod Powers
 pub mod Instances

@@ -1,6 +1,6 @@
 -- The theorems that document 02's requests ask for, beside the demands and in the vocabulary of the same definitions. Each proof is a
 -- citation. The demands themselves speak of all calls and all versions, and stand in `Demands`.
-use Prim.Native.Nat.{ℕ, _*_, _+_, _/_, _%_, _≤_, _<_}
+use Prim.Native.Nat.{ℕ, _*_, _+_, _/_, _%_, _^_, _≤_, _<_}
 use mathlib.Core.Path.{_≡_}
 use mathlib.Core.Bool.{true, false}
 use mathlib.Core.List.{List}
@@ -9,19 +9,23 @@ use lib.ListN.{length, getD, take}
 use Rattle.study.specs.Header.{version}
 use Rattle.study.specs.Sections.{links}
 use Rattle.text.specs.Decimal.{decimal, hundredths}
-use Rattle.theory.specs.Flows.{entry, total, overAt, over}
+use Rattle.theory.specs.Network.{Network, Sound}
+use Rattle.theory.specs.Flows.{entry, Carries, stepTime, timeAt, total, overAt, over}
+use Rattle.theory.specs.Cost.{cost, gap}
 use Rattle.theory.specs.Routes.{routing, IsPath}
 use Rattle.theory.specs.Marks.{bit, marked, unvisited, lowestUnvisited}
 use Rattle.theory.specs.Laws.Finite.{Lowest}
+use Rattle.theory.specs.Laws.Times.{stepTime-mono}
 use Rattle.calls.specs.Study.{networkOf}
 use Rattle.calls.specs.Questions.{packedSize}
 use Rattle.calls.specs.Page.{lineOf, pageOf}
-use Rattle.calls.specs.Calls.{packNumber, packOutput, tableNumber, auditAnswer, passAnswer, runNumber, runAnswer, runTable, pageNumber, pageSlice}
+use Rattle.calls.specs.Calls.{checkNumber, packNumber, packOutput, tableNumber, auditAnswer, passAnswer, runNumber, runAnswer, runTable, pageNumber, pageSlice}
 use Rattle.calls.specs.Laws.Page.{LineRange, LineFits}
 use Rattle.demands.specs.Results.{Fresh}
 use Rattle.demands.specs.Zones.{Closed, Avoids, OnlyClosed, permitted-exactly, version-1-open, path-avoids, flow-avoids, pack-version, only-closed}
 use Rattle.demands.specs.NextNodes.{word-of, found-exactly, none-exactly}
 use Rattle.demands.specs.PastCurves.{CountsOver, over-when, over-when-fourfold, audit-counts, pass-counts, run-counts, empty-counts}
+use Rattle.demands.specs.Powers.{freeOf, riseOf, powerOf, power-range, curve-exactly, versions-fourth, time-rises, withCurves, curves-bound}
 use Rattle.demands.specs.Pages.{Plain, Pointed, OfLine, Largest, decimal-plain, hundredths-pointed, full-road, numbers-range, numbers-fit, line-length, line-place, page-length, page-fresh}
 
 -- A.1, volumes on paper. Whatever table the audit accepts, every number fits its columns (3, 3, 3, 8 and 8), so each line has exactly 30
@@ -116,4 +120,32 @@ request-A4 =
       pass = pass-counts;
       run = run-counts;
       empty = empty-counts;
+    }
+
+-- A.5, a power for each road. In an accepted study a link's power q is 1 to 4, and its time at step r is a + floor(b·r^q / 64^q); versions 1
+-- and 2 have power 4, and document 01's times. A link's time does not fall as its flow grows. The law behind it holds of any power, and so does
+-- the bound: with any curves of this form in place of its own, a network's gap bounds every rival. The demands, A.1's widths and A.4's count
+-- hold of version 3 as they stand.
+pub record RequestA5 : Type 0 where
+  pub range : (file : List ℕ) → checkNumber file ≡ 0 → (l : ℕ) → l < links file → (1 ≤ powerOf file l) × (powerOf file l ≤ 4)
+  pub curve : (file : List ℕ) → checkNumber file ≡ 0 → (l : ℕ) → l < links file → (r : ℕ)
+      → networkOf file .height l r ≡ freeOf file l + riseOf file l * r ^ powerOf file l / 64 ^ powerOf file l
+  pub fourth : (file : List ℕ) → version file < 3 → (l r : ℕ) → l < links file
+      → networkOf file .height l r ≡ freeOf file l + riseOf file l * r ^ 4 / 16777216
+  pub flow : (file : List ℕ) → checkNumber file ≡ 0 → (l : ℕ) → l < links file → (share : ℕ) (flow more : ℕ → ℕ) → 1 ≤ share → flow l ≤ more l
+      → timeAt (networkOf file) share flow l ≤ timeAt (networkOf file) share more l
+  pub rising : (a b q : ℕ) {r s : ℕ} → r ≤ s → stepTime a b q r ≤ stepTime a b q s
+  pub bound : (g : Network) → Sound g → (a b q : ℕ → ℕ) → ((l : ℕ) → l < g .links → 1 ≤ a l)
+      → (share : ℕ) (table : List ℕ) → 1 ≤ share → (other : ℕ) (rival : List ℕ) → Carries (withCurves g a b q) other rival
+      → other * cost (withCurves g a b q) share table ≤ share * cost (withCurves g a b q) other rival + 64 * other * gap (withCurves g a b q) share table
+
+pub request-A5 : RequestA5
+request-A5 =
+    record {
+      range = power-range;
+      curve = curve-exactly;
+      fourth = versions-fourth;
+      flow = time-rises;
+      rising = stepTime-mono;
+      bound = curves-bound;
     }

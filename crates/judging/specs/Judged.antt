@@ -10,7 +10,7 @@ use Rattle.theory.specs.Cost.{cost, gap}
 use Rattle.theory.specs.Moves.{moves}
 use Rattle.calls.specs.Calls.{shareAfter, tableAfter}
 use Rattle.travel.specs.Links.{padded, listTime, listProduct, totalOf, loadOf}
-use Rattle.travel.specs.Ranges.{Powers, Within, Clear, TimesFit, mostTime, mostFlow}
+use Rattle.travel.specs.Ranges.{LinkPowers, Within, Clear, TimesFit, mostTime, mostFlow}
 use Rattle.search.specs.Chains.{Linked}
 use Rattle.routes.specs.Table.{Nexts}
 use Rattle.judging.specs.declared.Step.{Step}
@@ -21,10 +21,10 @@ use Rattle.judging.specs.declared.Turn.{Turn}
 use Rattle.judging.specs.Study.{Study, linkCount, destinationCount, moveOf, stepOf, shareAfterStep, tableAfterStep}
 use Rattle.moves.specs.Loading.{loadingAlong, volumeRows}
 
--- What a call computes once: the chains of a study's links, and the fourth powers of the steps.
+-- What a call computes once: the chains of a study's links, and the powers of the steps.
 pub record Prepared (links chains : List (List ℕ)) (curves : List ℕ) : Type 0 where
   pub chains-are : Linked links chains
-  pub powers-are : Powers curves
+  pub powers-are : LinkPowers links curves
 
 -- The arrays that are lent for judging a study of m links: times and loads are 0 past the links, next links and volumes have 32 rows, and
 -- totals S and loads Y are two arrays.

@@ -10,7 +10,7 @@ use Rattle.theory.specs.Network.{Network, Sound, totalTrips}
 use Rattle.theory.specs.Flows.{totalsFit, Carries}
 use Rattle.theory.specs.Cost.{gap}
 use Rattle.theory.specs.Moves.{Shared, tableSize, move, moves}
-use Rattle.theory.specs.Study.{freeTime, rise, network}
+use Rattle.theory.specs.Study.{freeTime, rise, power, network}
 use Rattle.theory.specs.Laws.Routings.{AllServed}
 use Rattle.calls.specs.Calls.{shareAfter, tableAfter}
 use Rattle.judging.specs.declared.Step.{Step}
@@ -47,6 +47,8 @@ pub record Ready (d : Study) : Type 0 where
   pub sound : Sound (networkIn d)
   pub free-most : (l : ℕ) → l < linkCount d → freeTime (d .links) l ≤ 16383
   pub rise-most : (l : ℕ) → l < linkCount d → rise (d .links) l ≤ 16383
+  pub power-least : (l : ℕ) → l < linkCount d → 1 ≤ power (d .links) l
+  pub power-most : (l : ℕ) → l < linkCount d → power (d .links) l ≤ 4
   pub served : AllServed (networkIn d) (replicate (linkCount d) 1)
   pub few-trips : totalTrips (networkIn d) ≤ 65535
 

@@ -1,7 +1,9 @@
 // An audit. Data flows once: totals, which the questions need already, times and least times are computed once. No next link is needed.
 ghost use mathlib.Core.Path.{_≡_};
+ghost use lib.ListN.{length};
 ghost use Rattle.theory.specs.Study.{network};
 ghost use Rattle.travel.specs.Links.{tableTotals};
+ghost use Rattle.travel.specs.Ranges.{CurveRoom};
 ghost use Rattle.judging.specs.Study.{studyOf, Judgeable};
 ghost use Rattle.judging.specs.Judged.{Audited};
 use crate::Sums;
@@ -16,19 +18,20 @@ pub fn audit_table(
     table: &[u32],
     share: u32,
     totals: &[u64; 512],
+    curves: &mut [u64],
 ) -> Sums
     requires { ⌜ Judgeable (studyOf nodes (now links) (now destinations) (now trips)) (now table) share ⌝ }
     requires { ⌜ now totals ≡ tableTotals (now links) (now destinations) (now table) ⌝ }
+    requires { ⌜ CurveRoom (now links) (length (now curves)) ⌝ }
     ensures { λ r. ⌜ Audited (network nodes (now (links .entry)) (now (destinations .entry)) (now (trips .entry))) (now (table .entry)) share r ⌝ }
 {
     let mut times = [0u32; 512];
-    let mut curves = [0u64; 769];
-    travel::put_powers(&mut curves);
-    travel::times(links, totals, share, &curves, &mut times);
+    travel::put_powers(curves);
+    travel::times(links, totals, share, curves, &mut times);
     let into = search::into_chain(links);
     let least = search::least_times(nodes, links, destinations, trips, &times, &into);
     let gap = travel::product(&times, totals, links.len()) - share as u64 * least;
-    let costs = travel::cost(links, totals, share, &curves);
+    let costs = travel::cost(links, totals, share, curves);
     Sums {
         gap,
         cost: costs.cost,

@@ -16,7 +16,7 @@ pub fn judge(
     destinations: &[u16],
     trips: &[u16],
     chains: &[[u16; 768]; 2],
-    curves: &[u64; 769],
+    curves: &[u64],
     share: u32,
     known: bool,
     times: &mut [u32; 512],

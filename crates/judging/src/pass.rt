@@ -1,9 +1,10 @@
 // A pass. Data flows once: totals, which the questions need already, times, next links and the loading are computed once.
 ghost use mathlib.Core.Path.{_≡_};
 ghost use mathlib.Core.List.{[], _∷_};
-ghost use lib.ListN.{replicate};
+ghost use lib.ListN.{length, replicate};
 ghost use Rattle.theory.specs.Study.{network};
 ghost use Rattle.travel.specs.Links.{tableTotals};
+ghost use Rattle.travel.specs.Ranges.{CurveRoom};
 ghost use Rattle.judging.specs.Study.{studyOf, Judgeable};
 ghost use Rattle.judging.specs.Judged.{PassedOn};
 use crate::Passed;
@@ -21,9 +22,11 @@ pub fn pass_table(
     table: &mut [u32],
     share: u32,
     flows: &mut [[u64; 512]; 2],
+    curves: &mut [u64],
 ) -> Passed
     requires { ⌜ Judgeable (studyOf nodes (now links) (now destinations) (now trips)) (now table) share ⌝ }
     requires { ⌜ now flows ≡ tableTotals (now links) (now destinations) (now table) ∷ replicate 512 0 ∷ [] ⌝ }
+    requires { ⌜ CurveRoom (now links) (length (now curves)) ⌝ }
     ensures { λ r. ⌜ PassedOn (network nodes (now (links .entry)) (now (destinations .entry)) (now (trips .entry))) (now (table .entry)) share r (now (table .exit)) ⌝ }
 {
     let mut times = [0u32; 512];
@@ -32,16 +35,15 @@ pub fn pass_table(
     let m = links.len();
     let p = destinations.len();
     let chains = search::link_chains(links);
-    let mut curves = [0u64; 769];
-    travel::put_powers(&mut curves);
-    travel::put_reciprocals(&mut curves, links);
+    travel::put_powers(curves);
+    travel::put_reciprocals(curves, links);
     judge(
         nodes,
         links,
         destinations,
         trips,
         &chains,
-        &curves,
+        curves,
         share,
         false,
         &mut times,
@@ -50,10 +52,10 @@ pub fn pass_table(
         flows,
     );
     let gap = gap_of(&times, flows, m, share);
-    let j = travel::chosen(links, flows, share, share / 8, gap, &curves);
+    let j = travel::chosen(links, flows, share, share / 8, gap, curves);
     let moved = moves::can_move(share, j);
     let after = moves::move_table(table, nodes, m, p, &next, &volumes, share, j);
-    let costs = travel::cost(links, &flows[TOTAL], share, &curves);
+    let costs = travel::cost(links, &flows[TOTAL], share, curves);
     Passed {
         moved,
         share: after,

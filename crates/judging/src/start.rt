@@ -17,7 +17,7 @@ pub fn start_table(
     destinations: &[u16],
     trips: &[u16],
     chains: &[[u16; 768]; 2],
-    curves: &[u64; 769],
+    curves: &[u64],
     table: &mut [u32],
     times: &mut [u32; 512],
     next: &mut [[u16; 128]; 32],

@@ -20,7 +20,7 @@ pub fn turn_table(
     destinations: &[u16],
     trips: &[u16],
     chains: &[[u16; 768]; 2],
-    curves: &[u64; 769],
+    curves: &[u64],
     times: &mut [u32; 512],
     next: &mut [[u16; 128]; 32],
     volumes: &mut [[u16; 128]; 32],

@@ -16,13 +16,13 @@ pub record Holds {A : Type 0} (size : ℕ) (list array : List A) : Type 0 where
   pub front : take (length list) array ≡ list
 
 -- The rows of the first m links.
-unfoldable pub linkRowsIn : List ℕ → List ℕ → ℕ → List (List ℕ)
-linkRowsIn linkBytes closedBytes m = tabulate m (linkRow linkBytes closedBytes)
+unfoldable pub linkRowsIn : List ℕ → ℕ → List ℕ → ℕ → List (List ℕ)
+linkRowsIn linkBytes linkSize closedBytes m = tabulate m (linkRow linkBytes linkSize closedBytes)
 
 -- The rows of m links, of which the first l have the closed bytes of their heads.
-pub record ClosedBelow (size : ℕ) (linkBytes closedBytes : List ℕ) (m l : ℕ) (array : List (List ℕ)) : Type 0 where
-  pub held : Holds size (linkRowsIn linkBytes closedBytes l) array
-  pub rest : (i : ℕ) → l ≤ i → i < m → getD array i [] ≡ linkRow linkBytes [] i
+pub record ClosedBelow (size : ℕ) (linkBytes : List ℕ) (linkSize : ℕ) (closedBytes : List ℕ) (m l : ℕ) (array : List (List ℕ)) : Type 0 where
+  pub held : Holds size (linkRowsIn linkBytes linkSize closedBytes l) array
+  pub rest : (i : ℕ) → l ≤ i → i < m → getD array i [] ≡ linkRow linkBytes linkSize [] i
 
 -- The nodes of the first p destinations.
 unfoldable pub nodesIn : List ℕ → ℕ → List ℕ
@@ -33,8 +33,8 @@ unfoldable pub entriesIn : List ℕ → ℕ → ℕ → List ℕ
 entriesIn tripBytes n p = rows p (λ k. tabulate n (trips tripBytes n k))
 
 -- What decoding asks of a section: the bytes of so many links, destinations or rows of trips are there.
-unfoldable pub HasLinks : List ℕ → ℕ → Type 0
-HasLinks linkBytes m = (l : ℕ) → l < m → HasLink linkBytes l
+unfoldable pub HasLinks : List ℕ → ℕ → ℕ → Type 0
+HasLinks linkBytes linkSize m = (l : ℕ) → l < m → HasLink linkBytes linkSize l
 
 unfoldable pub HasDestinations : List ℕ → ℕ → Type 0
 HasDestinations destinationBytes p = (k : ℕ) → k < p → HasDestination destinationBytes k

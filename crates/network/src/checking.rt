@@ -43,5 +43,6 @@ fn check_in(file: &[u8], links: &mut [[u16; 6]], trips: &mut [u16]) -> u8
         &destinations[..p],
         study::accepted_section(file, study::CLOSED),
         &trips[..entries],
+        study::link_size(file) < 12,
     )
 }

@@ -4,11 +4,12 @@ ghost use mathlib.Core.Path.{_≡_};
 ghost use mathlib.Core.List.{[]};
 ghost use lib.ListN.{length, getD, set};
 ghost use Rattle.study.specs.Fields.{closedByte};
+ghost use Rattle.calls.specs.Study.{powerByte};
 ghost use Rattle.network.specs.Decoded.{Room, Decoded, Holds, linkRowsIn, nodesIn, entriesIn, HasLinks, HasDestinations, HasRow, HasRows};
-use theory::CLOSED;
+use theory::CLOSED_POWER;
 use theory::HEAD;
 
-// A file is short that has at most so many bytes. It has at most so many links, of ten bytes each, and entries of trips, of two: fewer places
+// A file is short that has at most so many bytes. It has at most so many links, of ten bytes or more, and entries of trips, of two: fewer places
 // are lent for it, since they are cleared first.
 pub const SHORT: usize = 2048;
 
@@ -51,8 +52,9 @@ pub fn decode(
     let destination_bytes = study::accepted_section(file, study::DESTINATIONS);
     let trip_bytes = study::accepted_section(file, study::TRIPS);
     let closed_bytes = study::accepted_section(file, study::CLOSED);
-    decode_links(link_bytes, m, links);
-    decode_closed(link_bytes, closed_bytes, m, links);
+    let size = study::link_size(file);
+    decode_links(link_bytes, size, m, links);
+    decode_closed(link_bytes, size, closed_bytes, m, links);
     decode_destinations(destination_bytes, p, destinations);
     decode_trips(trip_bytes, n, p, trips);
     Opening {
@@ -64,28 +66,38 @@ pub fn decode(
 }
 
 // The fields of the links, as if every node were open.
-fn decode_links(bytes: &[u8], m: usize, links: &mut [[u16; 6]])
-    requires { ⌜ (m ≤ length (now links)) × HasLinks (now bytes) m ⌝ }
-    ensures { λ _. ⌜ Holds (length (now (links .entry))) (linkRowsIn (now (bytes .entry)) [] m) (now (links .exit)) ⌝ }
+fn decode_links(bytes: &[u8], size: usize, m: usize, links: &mut [[u16; 6]])
+    requires { ⌜ (m ≤ length (now links)) × HasLinks (now bytes) size m ⌝ }
+    ensures { λ _. ⌜ Holds (length (now (links .entry))) (linkRowsIn (now (bytes .entry)) size [] m) (now (links .exit)) ⌝ }
 {
     let mut l = 0;
     while l < m {
         links[l] = [
-            study::tail(bytes, l),
-            study::head(bytes, l),
-            study::free_time(bytes, l),
-            study::rise(bytes, l),
-            study::capacity(bytes, l),
-            0,
+            study::tail(bytes, size, l),
+            study::head(bytes, size, l),
+            study::free_time(bytes, size, l),
+            study::rise(bytes, size, l),
+            study::capacity(bytes, size, l),
+            power_byte(study::power(bytes, size, l)),
         ];
         l += 1;
     }
 }
 
+// A power as a byte: 255 stands for every number that is too large for one.
+fn power_byte(power: u16) -> u16
+    ensures { λ r. ⌜ r ≡ powerByte power ⌝ }
+{
+    if power < 255 {
+        return power;
+    }
+    255
+}
+
 // Writes the closed byte of each link's head into its row, where there are closed bytes.
-fn decode_closed(bytes: &[u8], closed: &[u8], m: usize, links: &mut [[u16; 6]])
-    requires { ⌜ (m ≤ length (now links)) × Holds (length (now links)) (linkRowsIn (now bytes) [] m) (now links) ⌝ }
-    ensures { λ _. ⌜ Holds (length (now (links .entry))) (linkRowsIn (now (bytes .entry)) (now (closed .entry)) m) (now (links .exit)) ⌝ }
+fn decode_closed(bytes: &[u8], size: usize, closed: &[u8], m: usize, links: &mut [[u16; 6]])
+    requires { ⌜ (m ≤ length (now links)) × Holds (length (now links)) (linkRowsIn (now bytes) size [] m) (now links) ⌝ }
+    ensures { λ _. ⌜ Holds (length (now (links .entry))) (linkRowsIn (now (bytes .entry)) size (now (closed .entry)) m) (now (links .exit)) ⌝ }
 {
     if closed.len() == 0 {
         return;
@@ -99,10 +111,12 @@ fn decode_closed(bytes: &[u8], closed: &[u8], m: usize, links: &mut [[u16; 6]])
 
 // A link's row with the closed byte of its head.
 fn with_closed(row: [u16; 6], closed: &[u8]) -> [u16; 6]
-    ensures { λ r. ⌜ r ≡ set row 5 (closedByte (now (closed .entry)) (getD row 1 0)) ⌝ }
+    requires { ⌜ getD row 5 0 ≤ 255 ⌝ }
+    ensures { λ r. ⌜ r ≡ set row 5 (getD row 5 0 + 256 * closedByte (now (closed .entry)) (getD row 1 0)) ⌝ }
 {
+    let byte = study::closed_byte(closed, row[HEAD] as usize) as u16;
     let mut link = row;
-    link[CLOSED] = study::closed_byte(closed, row[HEAD] as usize);
+    link[CLOSED_POWER] = row[CLOSED_POWER] + 256 * byte;
     link
 }
 

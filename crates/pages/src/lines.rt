@@ -3,7 +3,7 @@ ghost use Prim.Native.Nat.{_+_, _*_, _≤_, _<_};
 ghost use mathlib.Core.Path.{_≡_};
 ghost use lib.ListN.{length};
 ghost use Rattle.text.specs.Put.{Put};
-ghost use Rattle.travel.specs.Ranges.{Powers, mostFlow};
+ghost use Rattle.travel.specs.Ranges.{LinkPowers, mostFlow};
 ghost use Rattle.calls.specs.Page.{volume, pageLine};
 ghost use Rattle.calls.specs.Laws.Page.{LineRange};
 ghost use Rattle.pages.specs.Lines.{ends, rowLines, Printable};
@@ -18,10 +18,10 @@ pub fn put_lines(
     links: &[[u16; 6]],
     flows: &[u64; 512],
     share: u32,
-    curves: &[u64; 769],
+    curves: &[u64],
     page: &mut [u8],
 ) -> usize
-    requires { ⌜ Printable (now links) share (now flows) × Powers (now curves) × (30 * length (now links) ≤ length (now page)) ⌝ }
+    requires { ⌜ Printable (now links) share (now flows) × LinkPowers (now links) (now curves) × (30 * length (now links) ≤ length (now page)) ⌝ }
     ensures { λ r. ⌜ Put (now (page .entry)) 0 (rowLines (now (links .entry)) share (now (flows .entry))) (now (page .exit)) r ⌝ }
 {
     let mut at = 0;

@@ -2,28 +2,43 @@ ghost use mathlib.Core.Path.{_≡_};
 ghost use lib.ListN.{length};
 ghost use Rattle.calls.specs.Calls.{pageNumber, pageSlice};
 ghost use Rattle.network.specs.Decoded.{Room};
+ghost use Rattle.assignment.specs.Places.{curvePlaces};
 ghost use Rattle.pages.specs.Lines.{afterAudit};
 use crate::lines::put_lines;
-use network::SHORT;
+use assignment::curve_places;
+use assignment::is_small;
 use network::SHORT_ENTRIES;
 use network::SHORT_LINKS;
+use travel::ALL_LISTS;
+use travel::ONE_LIST;
 
 // Page: writes the page of a lent table that the audit accepts into the first bytes of a page slice.
 pub fn page(file: &[u8], table: &[u32], share: u32, page: &mut [u8]) -> u8
     ensures { λ r. ⌜ r ≡ pageNumber (now (file .entry)) (now (table .entry)) share (now (page .entry)) ⌝ }
     ensures { λ _. ⌜ now (page .exit) ≡ pageSlice (now (file .entry)) (now (table .entry)) share (now (page .entry)) ⌝ }
 {
-    if file.len() <= SHORT {
+    if is_small(file) {
         let mut rows = [[0u16, 0, 0, 0, 0, 0]; SHORT_LINKS];
         let mut entries = [0u16; SHORT_ENTRIES];
-        return page_in(file, table, share, page, &mut rows, &mut entries);
+        let mut curves = [0u64; ONE_LIST];
+        return page_in(
+            file,
+            table,
+            share,
+            page,
+            &mut rows,
+            &mut entries,
+            &mut curves,
+        );
     }
     let mut rows = [[0u16, 0, 0, 0, 0, 0]; 512];
     let mut entries = [0u16; 4096];
-    page_in(file, table, share, page, &mut rows, &mut entries)
+    let mut curves = [0u64; ALL_LISTS];
+    let curves = &mut curves[..curve_places(file)];
+    page_in(file, table, share, page, &mut rows, &mut entries, curves)
 }
 
-// The same, in places that are lent for the rows of its links and trips.
+// The same, in places that are lent for the rows of its links and trips and for the links' curves.
 fn page_in(
     file: &[u8],
     table: &[u32],
@@ -31,8 +46,9 @@ fn page_in(
     page: &mut [u8],
     rows: &mut [[u16; 6]],
     entries: &mut [u16],
+    curves: &mut [u64],
 ) -> u8
-    requires { ⌜ Room (now file) (length (now rows)) (length (now entries)) ⌝ }
+    requires { ⌜ Room (now file) (length (now rows)) (length (now entries)) × (length (now curves) ≡ curvePlaces (now file)) ⌝ }
     ensures { λ r. ⌜ r ≡ pageNumber (now (file .entry)) (now (table .entry)) share (now (page .entry)) ⌝ }
     ensures { λ _. ⌜ now (page .exit) ≡ pageSlice (now (file .entry)) (now (table .entry)) share (now (page .entry)) ⌝ }
 {
@@ -60,9 +76,8 @@ fn page_in(
     if refusal != 0 {
         return refusal;
     }
-    let mut curves = [0u64; 769];
-    travel::put_powers(&mut curves);
-    put_lines(links, &flows, share, &curves, page);
+    travel::put_powers(curves);
+    put_lines(links, &flows, share, curves, page);
     0
 }
 

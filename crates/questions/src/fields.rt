@@ -7,12 +7,14 @@ ghost use lib.Dec.{eqb, leb, ltb};
 ghost use lib.ListN.{length, getD};
 ghost use Rattle.study.specs.Questions.{within as withinOf};
 ghost use Rattle.theory.specs.Finite.{sum};
-ghost use Rattle.theory.specs.Study.{network};
+ghost use Rattle.theory.specs.Study.{AllFourth, network};
 ghost use Rattle.calls.specs.Questions.{endsFit, timesFit, destinationsFit, closedFit, noTripsWithin};
+ghost use Rattle.questions.specs.Fields.{roadsFit, powersFit};
 ghost use Rattle.questions.specs.Destinations.{allNodes, allAscending};
 use crate::numbers::amount;
 use crate::numbers::node;
 use theory::CAPACITY;
+use theory::CLOSED_POWER;
 use theory::FREE_TIME;
 use theory::HEAD;
 use theory::RISE;
@@ -38,13 +40,28 @@ fn link_ends_fit(n: usize, tail: usize, head: usize) -> bool
     tail < n && head < n && tail != head
 }
 
-// 7. Are a 1 to 16,383, b 0 to 16,383, c at least 1 on every link?
-pub fn times_fit(links: &[[u16; 6]]) -> bool
+// 7. Are a 1 to 16,383, b 0 to 16,383, c at least 1 and q 1 to 4 on every link? `all_fourth` may be true where every power is 4: none is then
+// looked at.
+pub fn times_fit(links: &[[u16; 6]], all_fourth: bool) -> bool
+    requires { ⌜ («all_fourth» ≡ true → AllFourth (now links)) ⌝ }
     ensures { λ r. ⌜ r ≡ timesFit (now (links .entry)) ⌝ }
+{
+    if !roads_fit(links) {
+        return false;
+    }
+    if all_fourth {
+        return true;
+    }
+    powers_fit(links)
+}
+
+// Question 7 of the powers.
+fn powers_fit(links: &[[u16; 6]]) -> bool
+    ensures { λ r. ⌜ r ≡ powersFit (now (links .entry)) ⌝ }
 {
     let mut l = 0;
     while l < links.len() {
-        if !link_times_fit(links[l][FREE_TIME], links[l][RISE], links[l][CAPACITY]) {
+        if !within(1, 4, links[l][CLOSED_POWER] % 256) {
             return false;
         }
         l += 1;
@@ -52,7 +69,21 @@ pub fn times_fit(links: &[[u16; 6]]) -> bool
     true
 }
 
-fn link_times_fit(free_time: u16, rise: u16, capacity: u16) -> bool
+// Question 7 of the other fields.
+fn roads_fit(links: &[[u16; 6]]) -> bool
+    ensures { λ r. ⌜ r ≡ roadsFit (now (links .entry)) ⌝ }
+{
+    let mut l = 0;
+    while l < links.len() {
+        if !road_fits(links[l][FREE_TIME], links[l][RISE], links[l][CAPACITY]) {
+            return false;
+        }
+        l += 1;
+    }
+    true
+}
+
+fn road_fits(free_time: u16, rise: u16, capacity: u16) -> bool
     ensures { λ r. ⌜ r ≡ (withinOf 1 16383 «free_time» && withinOf 0 16383 rise && leb 1 capacity) ⌝ }
 {
     let a = within(1, 16383, free_time);

@@ -18,7 +18,7 @@ use crate::marks::nodes_below;
 use crate::marks::only_node;
 use crate::marks::shared;
 use crate::numbers::node;
-use theory::CLOSED;
+use theory::CLOSED_POWER;
 use theory::HEAD;
 use theory::TAIL;
 
@@ -96,7 +96,12 @@ fn mark_tails(nodes: usize, links: &[[u16; 6]], all_open: bool, rows: &mut [[u64
 {
     let mut l = 0;
     while l < links.len() {
-        let i = row_place(nodes, node(links[l][HEAD]), links[l][CLOSED], all_open);
+        let i = row_place(
+            nodes,
+            node(links[l][HEAD]),
+            links[l][CLOSED_POWER] / 256,
+            all_open,
+        );
         mark(i, node(links[l][TAIL]), rows);
         l += 1;
     }

@@ -1,6 +1,8 @@
 // Questions 6 to 11 of a study in rows, with 19 after 8.
+ghost use mathlib.Core.Bool.{true};
 ghost use mathlib.Core.Path.{_≡_};
 ghost use Rattle.study.specs.Questions.{firstNo};
+ghost use Rattle.theory.specs.Study.{AllFourth};
 ghost use Rattle.calls.specs.Questions.{studyQuestions};
 ghost use Rattle.questions.specs.Sized.{Sized, ClosedHeads};
 use crate::fields::closed_fit;
@@ -11,21 +13,24 @@ use crate::fields::times_fit;
 use crate::fields::total_fits;
 use crate::reach::trips_reach;
 
-// The number of the first of questions 6, 7, 8, 19, 9, 10, 11 that refuses a study, or 0. `closed` has its closed bytes, none in version 1.
+// The number of the first of questions 6, 7, 8, 19, 9, 10, 11 that refuses a study, or 0. `closed` has its closed bytes, none in version 1;
+// `all_fourth` may be true where every power is 4.
 pub fn study_refusal(
     nodes: usize,
     links: &[[u16; 6]],
     destinations: &[u16],
     closed: &[u8],
     trips: &[u16],
+    all_fourth: bool,
 ) -> u8
     requires { ⌜ Sized nodes (now links) (now destinations) (now trips) × ClosedHeads (now links) (now closed) ⌝ }
+    requires { ⌜ («all_fourth» ≡ true → AllFourth (now links)) ⌝ }
     ensures { λ r. ⌜ r ≡ firstNo (studyQuestions nodes (now (links .entry)) (now (destinations .entry)) (now (closed .entry)) (now (trips .entry))) ⌝ }
 {
     if !ends_fit(nodes, links) {
         return 6;
     }
-    if !times_fit(links) {
+    if !times_fit(links, all_fourth) {
         return 7;
     }
     if !destinations_fit(nodes, destinations) {

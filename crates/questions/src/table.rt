@@ -11,7 +11,7 @@ ghost use Rattle.calls.specs.Questions.{shareFits, shareQuestions};
 ghost use Rattle.travel.specs.Links.{tableTotals};
 ghost use Rattle.questions.specs.Rows.{rowsConserve, linkPermits, rowsPermit, TableFits};
 use crate::numbers::node;
-use theory::CLOSED;
+use theory::CLOSED_POWER;
 use theory::HEAD;
 
 // The number of the first of questions 14, 15, 16, 20 that refuses, or 0. `total` is T. Where none refuses, the links' totals stand in `totals`,
@@ -101,7 +101,7 @@ fn rows_permit(links: &[[u16; 6]], destinations: &[u16], table: &[u32]) -> bool
 {
     let mut l = 0;
     while l < links.len() {
-        if links[l][CLOSED] == 1 && !link_permits(links, l, destinations, table) {
+        if links[l][CLOSED_POWER] / 256 == 1 && !link_permits(links, l, destinations, table) {
             return false;
         }
         l += 1;

@@ -92,7 +92,7 @@ fn write_accepted(file: &[u8], table: &[u32], answer: RunAnswer, out: &mut [u8])
     let opening = network::decode(file, &mut rows, &mut places, &mut entries);
     let m = opening.links;
     let flows = travel::totals(table, opening.destinations, m);
-    let mut curves = [0u64; 769];
+    let mut curves = [0u64; travel::ALL_LISTS];
     travel::put_powers(&mut curves);
     let mut times = [0u32; 512];
     travel::times(&rows[..m], &flows, answer.share, &curves, &mut times);

@@ -6,7 +6,7 @@ ghost use lib.ListN.{replicate};
 ghost use Rattle.theory.specs.Study.{column, noLink};
 ghost use Rattle.search.specs.Chains.{endOf, Chainable, Linked, chainOf};
 use crate::numbers::index;
-use theory::CLOSED;
+use theory::CLOSED_POWER;
 use theory::HEAD;
 use theory::NO_LINK;
 use theory::TAIL;
@@ -58,5 +58,9 @@ fn end_of(link: [u16; 6], end: usize) -> usize
     ensures { λ r. ⌜ r ≡ endOf (link ∷ []) end 0 ⌝ }
 {
     let node = index(link[end]);
-    if link[CLOSED] == 1 { 128 + node } else { node }
+    if link[CLOSED_POWER] / 256 == 1 {
+        128 + node
+    } else {
+        node
+    }
 }

@@ -1,5 +1,5 @@
 -- The header: u16 version, u16 nodes, u16 links, u16 destinations, then a pair of u32 offset and u32 length for each section of the version:
--- 32 bytes in version 1, 40 in version 2.
+-- 32 bytes in version 1, 40 in versions 2 and 3.
 use Prim.Native.Nat.{ℕ, _+_, _*_, _≤_}
 use mathlib.Core.Bool.{Bool, cond}
 use mathlib.Core.List.{List}
@@ -34,7 +34,7 @@ size file section = cond (hasSection file section) (u32 file (12 + 8 * section))
 -- What a reader of the header asks of a file: that its version is known and that its header is there.
 pub record Headed (file : List ℕ) : Type 0 where
   pub version-least : 1 ≤ version file
-  pub version-most : version file ≤ 2
+  pub version-most : version file ≤ 3
   pub header-there : formOf (version file) .header ≤ length file
   pub length-least : 32 ≤ length file
   pub length-most : length file ≤ 65536

@@ -3,6 +3,7 @@ use Prim.Native.Nat.{ℕ, zero, suc, _+_, _*_, _<_, _≤_, _^_}
 use mathlib.Core.Bool.{Bool, true, false, _&&_, cond, and-eq-true-iff}
 use mathlib.Core.List.{List, [], _∷_, _++_}
 use mathlib.Core.Path.{_≡_, refl, sym, ap, _∙_}
+use native.Mathlib.Nat.{mul-le-mul-left, mul-le-mul-right}
 use native.Mathlib.Omega.{arith}
 use lib.Arith.{digits-lt}
 use lib.Dec.{leb, ltb, eqb}
@@ -13,7 +14,7 @@ use Rattle.study.specs.Bytes.{byte, u16, u32}
 use Rattle.study.specs.Versions.{versions, formOf, closedOf}
 use Rattle.study.specs.Header.{version, nodeField, linkField, destinationField, hasSection, offset, size, Headed, closedField}
 use Rattle.study.specs.Questions.{Question, firstNo, within, lengthFits, versionKnown, countsFit, sectionEnd, sectionsApart, sectionsInOrder, sizesFit, opening, refusal}
-use Rattle.study.specs.Sections.{ifAccepted, nodes, links, destinations, closedCount, part, linkPart, destinationPart, tripPart, closedPart}
+use Rattle.study.specs.Sections.{ifAccepted, nodes, links, destinations, closedCount, linkSize, part, linkPart, destinationPart, tripPart, closedPart}
 use Rattle.study.specs.Fields.{tail, head, freeTime, rise, capacity, destination, trips, HasLink, HasDestination, HasTrips}
 
 both : (a b : Bool) → a && b ≡ true → (a ≡ true) × (b ≡ true)
@@ -85,20 +86,29 @@ length-fits file e = within-true 32 65536 (length file) e
 -- What the table of versions says of a version.
 pub record Known (version : ℕ) : Type 0 where
   pub least : 1 ≤ version
-  pub most : version ≤ 2
+  pub most : version ≤ 3
   -- version and counts, and a pair for each section
   pub pairs : formOf version .header ≡ 8 + 8 * formOf version .sections
   pub some-sections : (3 ≤ formOf version .sections) × (formOf version .sections ≤ 4)
-  pub link-bytes : formOf version .link ≡ 10
+  pub link-bytes : (10 ≤ formOf version .link) × (formOf version .link ≤ 12)
 
-pub known : (v : ℕ) → 1 ≤ v → v ≤ 2 → Known v
+pub known : (v : ℕ) → 1 ≤ v → v ≤ 3 → Known v
 unfolding versions formOf
 known zero least most = absurd (omega arith)
-known (suc zero) least most = record { least = least; most = most; pairs = refl; some-sections = (omega arith, omega arith); link-bytes = refl }
-known (suc (suc zero)) least most = record { least = least; most = most; pairs = refl; some-sections = (omega arith, omega arith); link-bytes = refl }
-known (suc (suc (suc v))) least most = absurd (omega arith)
+known (suc zero) least most = record { least = least; most = most; pairs = refl; some-sections = (omega arith, omega arith); link-bytes = (omega arith, omega arith) }
+known (suc (suc zero)) least most = record { least = least; most = most; pairs = refl; some-sections = (omega arith, omega arith); link-bytes = (omega arith, omega arith) }
+known (suc (suc (suc zero))) least most = record { least = least; most = most; pairs = refl; some-sections = (omega arith, omega arith); link-bytes = (omega arith, omega arith) }
+known (suc (suc (suc (suc v)))) least most = absurd (omega arith)
 
--- So a file that has its header has the pair of each of its sections.
+-- (A.5) A link of versions 1 and 2 has no room for a power.
+pub no-powers : (v : ℕ) → v < 3 → formOf v .link < 12
+unfolding versions formOf
+no-powers zero h = omega arith
+no-powers (suc zero) h = omega arith
+no-powers (suc (suc zero)) h = omega arith
+no-powers (suc (suc (suc v))) h = absurd (omega arith)
+
+-- A file that has its header has the pair of each of its sections.
 pub pair-there : (file : List ℕ) (section : ℕ) → Headed file → hasSection file section ≡ true → 16 + 8 * section ≤ length file
 unfolding hasSection
 pair-there file section h e =
@@ -106,7 +116,7 @@ pair-there file section h e =
 
 pub version-known : (file : List ℕ) → versionKnown file ≡ true → Known (version file)
 unfolding versionKnown versions
-version-known file e = let range = within-true 1 2 (version file) e in known (version file) (range .0) (range .1)
+version-known file e = let range = within-true 1 3 (version file) e in known (version file) (range .0) (range .1)
 
 -- A file that questions 1 and 2 pass is one that a reader of the header asks for, once the header is there; question 4 asks that first.
 pub headed-by : (file : List ℕ) → lengthFits file ≡ true → versionKnown file ≡ true → formOf (version file) .header ≤ length file → Headed file
@@ -326,10 +336,16 @@ module _ (file : List ℕ) where
       by-answer (λ e. rw (part-accepted file e section) (simp (length-take, length-drop) (omega arith)))
       (λ refused. rw (part-refused section refused) (omega arith))
 
-  pub link-length : length (linkPart file) ≡ 10 * links file
+  pub link-length : length (linkPart file) ≡ linkSize file * links file
   link-length =
-      by-answer (λ e. omega (arith, part-size file e 0 (omega arith), (rw (known-version file e .link-bytes) at (sizes file e .links)), links-field file e))
-      (λ refused. omega (arith, ap length (part-refused 0 refused), links-refused refused))
+      by-answer (λ e. part-size file e 0 (omega arith) ∙ sizes file e .links ∙ ap (λ m. linkSize file * m) (sym (links-field file e)))
+      (λ refused. rw (part-refused 0 refused, links-refused refused) (omega arith))
+
+  -- A link has at least ten bytes.
+  pub link-bytes-least : 10 * links file ≤ length (linkPart file)
+  link-bytes-least =
+      by-answer (λ e. rw link-length (mul-le-mul-right (links file) (known-version file e .link-bytes .0)))
+      (λ refused. omega (arith, links-refused refused))
 
   pub destination-length : length (destinationPart file) ≡ 2 * destinations file
   destination-length =
@@ -367,9 +383,11 @@ module _ (file : List ℕ) where
       swap false true = refl
       swap false false = refl
 
-  pub has-link : (link : ℕ) → link < links file → HasLink (linkPart file) link
+  pub has-link : (link : ℕ) → link < links file → HasLink (linkPart file) (linkSize file) link
   unfolding HasLink
-  has-link link h = omega (arith, link-length)
+  has-link link h =
+      by-answer (λ e. (known-version file e .link-bytes .0, omega (arith, link-length, mul-le-mul-left {m = link + 1} {n = links file} (linkSize file) (omega arith))))
+      (λ refused. absurd (omega (arith, links-refused refused)))
 
   pub has-destination : (k : ℕ) → k < destinations file → HasDestination (destinationPart file) k
   unfolding HasDestination
@@ -408,23 +426,23 @@ unfolding u32
 u32-range bytes h at = omega (arith, u16-range bytes h at, u16-range bytes h (at + 2))
 
 -- So each field of a section of bytes is below 65536.
-pub record LinkRanges (linkBytes : List ℕ) (link : ℕ) : Type 0 where
-  pub tail-range : tail linkBytes link < 65536
-  pub head-range : head linkBytes link < 65536
-  pub freeTime-range : freeTime linkBytes link < 65536
-  pub rise-range : rise linkBytes link < 65536
-  pub capacity-range : capacity linkBytes link < 65536
+pub record LinkRanges (linkBytes : List ℕ) (linkSize link : ℕ) : Type 0 where
+  pub tail-range : tail linkBytes linkSize link < 65536
+  pub head-range : head linkBytes linkSize link < 65536
+  pub freeTime-range : freeTime linkBytes linkSize link < 65536
+  pub rise-range : rise linkBytes linkSize link < 65536
+  pub capacity-range : capacity linkBytes linkSize link < 65536
 
 module _ (bytes : List ℕ) (h : AreBytes bytes) where
-  pub link-ranges : (link : ℕ) → LinkRanges bytes link
+  pub link-ranges : (linkSize link : ℕ) → LinkRanges bytes linkSize link
   unfolding tail head freeTime rise capacity
-  link-ranges link =
+  link-ranges linkSize link =
       record {
-        tail-range = u16-range bytes h (10 * link);
-        head-range = u16-range bytes h (10 * link + 2);
-        freeTime-range = u16-range bytes h (10 * link + 4);
-        rise-range = u16-range bytes h (10 * link + 6);
-        capacity-range = u16-range bytes h (10 * link + 8);
+        tail-range = u16-range bytes h (linkSize * link);
+        head-range = u16-range bytes h (linkSize * link + 2);
+        freeTime-range = u16-range bytes h (linkSize * link + 4);
+        rise-range = u16-range bytes h (linkSize * link + 6);
+        capacity-range = u16-range bytes h (linkSize * link + 8);
       }
 
   pub destination-range : (k : ℕ) → destination bytes k < 65536

@@ -24,7 +24,7 @@ within least most x = leb least x && leb x most
 unfoldable pub lengthFits : List ℕ → Bool
 lengthFits file = within 32 65536 (length file)
 
--- 2. Is the version one of the table: 1, or 2 (A.2)?
+-- 2. Is the version one of the table: 1, 2 (A.2) or 3 (A.5)?
 unfoldable pub versionKnown : List ℕ → Bool
 versionKnown file = within 1 (length versions) (version file)
 
@@ -56,7 +56,7 @@ sectionsInOrder file =
     && leb (formOf (version file) .header) (offset file 0)
     && sectionsApart file
 
--- 5. Are the lengths 10m (the version's bytes a link × m), 2p, 2pn and, from version 2 on, n?
+-- 5. Are the lengths 10m, or 12m in version 3 (the version's bytes a link × m), 2p, 2pn and, from version 2 on, n?
 unfoldable pub sizesFit : List ℕ → Bool
 sizesFit file =
     eqb (size file 0) (formOf (version file) .link * linkField file)

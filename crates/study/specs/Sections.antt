@@ -5,7 +5,8 @@ use mathlib.Core.Bool.{cond}
 use mathlib.Core.List.{List, []}
 use lib.ListN.{take, drop}
 use lib.Dec.{eqb}
-use Rattle.study.specs.Header.{nodeField, linkField, destinationField, closedField, offset, size}
+use Rattle.study.specs.Versions.{formOf}
+use Rattle.study.specs.Header.{version, nodeField, linkField, destinationField, closedField, offset, size}
 use Rattle.study.specs.Questions.{refusal}
 
 -- A value of an accepted file, and the other value of a refused one.
@@ -25,6 +26,10 @@ destinations file = ifAccepted file (destinationField file) 0
 -- How many nodes have a closed byte: n, or none in version 1.
 unfoldable pub closedCount : List ℕ → ℕ
 closedCount file = ifAccepted file (closedField file) 0
+
+-- The bytes of a link in the file's version.
+abbrev pub linkSize : List ℕ → ℕ
+linkSize file = formOf (version file) .link
 
 -- The part of the file at a section's offset, of its length.
 unfoldable pub part : List ℕ → ℕ → List ℕ

@@ -8,11 +8,12 @@ use lib.ListN.{getD}
 use Rattle.study.specs.declared.versions.Form.{Form}
 
 -- By version from 1 on: the bytes of the header, the bytes of a link, and how many sections there are, of the four links, destinations, trips
--- and closed nodes (A.2).
+-- and closed nodes (A.2). A link of 12 bytes has a power (A.5).
 unfoldable pub versions : List Form
 versions =
     record { header = 32; link = 10; sections = 3 }
     ∷ record { header = 40; link = 10; sections = 4 }
+    ∷ record { header = 40; link = 12; sections = 4 }
     ∷ []
 
 unfoldable pub formOf : ℕ → Form

@@ -3,44 +3,54 @@ ghost use Prim.Native.Nat.{_+_, _*_, _≤_};
 ghost use mathlib.Core.Path.{_≡_};
 ghost use Rattle.study.specs.Bytes.{u16 as u16Of};
 ghost use Rattle.study.specs.Fields.{HasLink, HasDestination, HasTrips, freeTime};
-ghost use Rattle.study.specs.Fields.{tail as tailOf, head as headOf, rise as riseOf, capacity as capacityOf};
+ghost use Rattle.study.specs.Fields.{tail as tailOf, head as headOf, rise as riseOf, capacity as capacityOf, power as powerOf};
 ghost use Rattle.study.specs.Fields.{destination as destinationOf, trips as tripsOf, closedByte};
 use crate::bytes::u16_at;
-use crate::bytes::wide;
 
-pub fn tail(links: &[u8], link: usize) -> u16
-    requires { ⌜ HasLink (now links) link ⌝ }
-    ensures { λ r. ⌜ r ≡ tailOf (now (links .entry)) link ⌝ }
+pub fn tail(links: &[u8], size: usize, link: usize) -> u16
+    requires { ⌜ HasLink (now links) size link ⌝ }
+    ensures { λ r. ⌜ r ≡ tailOf (now (links .entry)) size link ⌝ }
 {
-    link_field(links, link, 0)
+    link_field(links, size, link, 0)
 }
 
-pub fn head(links: &[u8], link: usize) -> u16
-    requires { ⌜ HasLink (now links) link ⌝ }
-    ensures { λ r. ⌜ r ≡ headOf (now (links .entry)) link ⌝ }
+pub fn head(links: &[u8], size: usize, link: usize) -> u16
+    requires { ⌜ HasLink (now links) size link ⌝ }
+    ensures { λ r. ⌜ r ≡ headOf (now (links .entry)) size link ⌝ }
 {
-    link_field(links, link, 2)
+    link_field(links, size, link, 2)
 }
 
-pub fn free_time(links: &[u8], link: usize) -> u16
-    requires { ⌜ HasLink (now links) link ⌝ }
-    ensures { λ r. ⌜ r ≡ freeTime (now (links .entry)) link ⌝ }
+pub fn free_time(links: &[u8], size: usize, link: usize) -> u16
+    requires { ⌜ HasLink (now links) size link ⌝ }
+    ensures { λ r. ⌜ r ≡ freeTime (now (links .entry)) size link ⌝ }
 {
-    link_field(links, link, 4)
+    link_field(links, size, link, 4)
 }
 
-pub fn rise(links: &[u8], link: usize) -> u16
-    requires { ⌜ HasLink (now links) link ⌝ }
-    ensures { λ r. ⌜ r ≡ riseOf (now (links .entry)) link ⌝ }
+pub fn rise(links: &[u8], size: usize, link: usize) -> u16
+    requires { ⌜ HasLink (now links) size link ⌝ }
+    ensures { λ r. ⌜ r ≡ riseOf (now (links .entry)) size link ⌝ }
 {
-    link_field(links, link, 6)
+    link_field(links, size, link, 6)
 }
 
-pub fn capacity(links: &[u8], link: usize) -> u16
-    requires { ⌜ HasLink (now links) link ⌝ }
-    ensures { λ r. ⌜ r ≡ capacityOf (now (links .entry)) link ⌝ }
+pub fn capacity(links: &[u8], size: usize, link: usize) -> u16
+    requires { ⌜ HasLink (now links) size link ⌝ }
+    ensures { λ r. ⌜ r ≡ capacityOf (now (links .entry)) size link ⌝ }
 {
-    link_field(links, link, 8)
+    link_field(links, size, link, 8)
+}
+
+// The power is the sixth number of a link of 12 bytes. A link of 10 has none, and power 4.
+pub fn power(links: &[u8], size: usize, link: usize) -> u16
+    requires { ⌜ HasLink (now links) size link ⌝ }
+    ensures { λ r. ⌜ r ≡ powerOf (now (links .entry)) size link ⌝ }
+{
+    if size < 12 {
+        return 4;
+    }
+    u16_at(links, size * link + 10)
 }
 
 pub fn destination(destinations: &[u8], k: usize) -> u16
@@ -59,19 +69,19 @@ pub fn trips_from(trips: &[u8], n: usize, k: usize, node: usize) -> u16
 }
 
 // The closed byte of a node, or 0 where there is none.
-pub fn closed_byte(closed: &[u8], node: usize) -> u16
+pub fn closed_byte(closed: &[u8], node: usize) -> u8
     ensures { λ r. ⌜ r ≡ closedByte (now (closed .entry)) node ⌝ }
 {
     if closed.len() <= node {
         return 0;
     }
-    wide(closed[node])
+    closed[node]
 }
 
-// The field of a link that stands `place` bytes on in its ten.
-fn link_field(links: &[u8], link: usize, place: usize) -> u16
-    requires { ⌜ (HasLink (now links) link) × (place ≤ 8) ⌝ }
-    ensures { λ r. ⌜ r ≡ u16Of (now (links .entry)) (10 * link + place) ⌝ }
+// The field that stands `place` bytes on in a link's first ten.
+fn link_field(links: &[u8], size: usize, link: usize, place: usize) -> u16
+    requires { ⌜ (HasLink (now links) size link) × (place ≤ 8) ⌝ }
+    ensures { λ r. ⌜ r ≡ u16Of (now (links .entry)) (size * link + place) ⌝ }
 {
-    u16_at(links, 10 * link + place)
+    u16_at(links, size * link + place)
 }

@@ -99,7 +99,7 @@ fn sections_apart(file: &[u8]) -> bool
         && closed_end <= file.len() as u64
 }
 
-// 5. Are the lengths 10m, 2p, 2pn and, from version 2 on, n?
+// 5. Are the lengths 10m, or 12m in version 3, 2p, 2pn and, from version 2 on, n?
 fn sizes_fit(file: &[u8]) -> bool
     requires { ⌜ Headed (now file) ⌝ }
     ensures { λ r. ⌜ r ≡ sizesFit (now (file .entry)) ⌝ }

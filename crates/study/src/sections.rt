@@ -4,12 +4,14 @@ ghost use Prim.Native.Nat.{_+_, _*_, _<_};
 ghost use mathlib.Core.Path.{_≡_};
 ghost use Rattle.study.specs.Bytes.{u16 as u16Of};
 ghost use Rattle.study.specs.Questions.{refusal as refusalOf};
-ghost use Rattle.study.specs.Sections.{ifAccepted, nodes, part, linkPart, destinationPart, tripPart, closedPart};
+ghost use Rattle.study.specs.Sections.{ifAccepted, nodes, linkSize, part, linkPart, destinationPart, tripPart, closedPart};
 ghost use Rattle.study.specs.Sections.{links as linksOf, destinations as destinationsOf};
 use crate::bytes::u16_at;
 use crate::header::offset;
 use crate::header::section_end;
+use crate::header::version;
 use crate::questions::refusal;
+use crate::versions::form_of;
 
 // n of document 01.
 pub fn node_count(file: &[u8]) -> usize
@@ -85,6 +87,14 @@ fn section(file: &[u8], number: usize) -> &[u8]
         return &file[..0];
     }
     accepted_section(file, number)
+}
+
+// The bytes of a link in the version of a file that is known to be accepted.
+pub fn link_size(file: &[u8]) -> usize
+    requires { ⌜ refusalOf (now file) ≡ 0 ⌝ }
+    ensures { λ r. ⌜ r ≡ linkSize (now (file .entry)) ⌝ }
+{
+    form_of(version(file)).link as usize
 }
 
 // The bytes from the section's offset on, as many as its length says, of a file that is known to be accepted: a caller that has put the

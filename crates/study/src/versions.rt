@@ -11,10 +11,10 @@ pub struct Form {
 }
 
 // The highest version that there is.
-pub const LATEST: u64 = 2;
+pub const LATEST: u64 = 3;
 
 pub fn form_of(version: u16) -> Form
-    requires { ⌜ (1 ≤ version) × (version ≤ 2) ⌝ }
+    requires { ⌜ (1 ≤ version) × (version ≤ 3) ⌝ }
     ensures { λ r. ⌜ r ≡ formOf version ⌝ }
 {
     if version == 1 {
@@ -24,9 +24,16 @@ pub fn form_of(version: u16) -> Form
             sections: 3,
         };
     }
+    if version == 2 {
+        return Form {
+            header: 40,
+            link: 10,
+            sections: 4,
+        };
+    }
     Form {
         header: 40,
-        link: 10,
+        link: 12,
         sections: 4,
     }
 }

@@ -14,22 +14,26 @@ pub fn all(file: &[u8]) {
 
 // Where the counts say that a link, a destination or an entry is there, its bytes are.
 fn link(file: &[u8], link: usize) {
+    if study::refusal(file) != 0 {
+        return;
+    }
     if link < study::link_count(file) {
-        link_fields(study::links(file), link);
+        link_fields(study::links(file), study::link_size(file), link);
     }
 }
 
-fn link_fields(links: &[u8], link: usize)
-    requires { ⌜ HasLink (now links) link ⌝ }
+fn link_fields(links: &[u8], size: usize, link: usize)
+    requires { ⌜ HasLink (now links) size link ⌝ }
 {
-    let tail = study::tail(links, link) as u64;
-    let head = study::head(links, link) as u64;
-    let free_time = study::free_time(links, link) as u64;
-    let rise = study::rise(links, link) as u64;
-    let capacity = study::capacity(links, link) as u64;
+    let tail = study::tail(links, size, link) as u64;
+    let head = study::head(links, size, link) as u64;
+    let free_time = study::free_time(links, size, link) as u64;
+    let rise = study::rise(links, size, link) as u64;
+    let capacity = study::capacity(links, size, link) as u64;
+    let power = study::power(links, size, link) as u64;
     print(
-        b"link #: tail #, head #, free time #, rise #, capacity #\n",
-        &[link as u64, tail, head, free_time, rise, capacity],
+        b"link #: tail #, head #, free time #, rise #, capacity #, power #\n",
+        &[link as u64, tail, head, free_time, rise, capacity, power],
     );
 }
 

@@ -58,10 +58,10 @@ totalsFit g share table = all (g .links) (λ l. leb (total g table l) (share * t
 unfoldable pub step : ℕ → ℕ → ℕ → ℕ
 step capacity share flow = min 256 (64 * flow / (capacity * share))
 
--- Time t at a step of a link with free time a and rise b: a + floor(b·r⁴ / 16,777,216), 001's a + b·x⁴ with x counted in 64ths of
--- capacity.
-unfoldable pub stepTime : ℕ → ℕ → ℕ → ℕ
-stepTime a b r = a + (b * r ^ 4) / 16777216
+-- Time t at a step of a link with free time a, rise b and power q (A.5): a + floor(b·r^q / 64^q), 001's a + b·x^q with x counted in 64ths of
+-- capacity. Document 01's links have power 4, and 64⁴ is its 16,777,216.
+unfoldable pub stepTime : ℕ → ℕ → ℕ → ℕ → ℕ
+stepTime a b q r = a + (b * r ^ q) / 64 ^ q
 
 -- Time t of a link with a flow, at a share.
 abbrev pub timeAt : Network → ℕ → (ℕ → ℕ) → ℕ → ℕ

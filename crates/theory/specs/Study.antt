@@ -1,7 +1,8 @@
--- A study as rows of numbers, one form for all versions of the file: how many nodes; by link its tail, head, free time a, rise b, capacity c
--- and whether its head is closed; the node of each destination; and D(j,s), destination by destination and node by node.
-use Prim.Native.Nat.{ℕ, _+_, _*_}
+-- A study as rows of numbers, one form for all versions of the file: how many nodes; by link its tail, head, free time a, rise b, capacity c,
+-- whether its head is closed and its power q; the node of each destination; and D(j,s), destination by destination and node by node.
+use Prim.Native.Nat.{ℕ, _+_, _*_, _/_, _%_, _<_}
 use mathlib.Core.Bool.{Bool, not, _||_}
+use mathlib.Core.Path.{_≡_}
 use mathlib.Core.List.{List, []}
 use lib.ListN.{length, getD}
 use lib.Dec.{eqb}
@@ -27,9 +28,17 @@ rise links l = column 3 links l
 abbrev pub capacity : List (List ℕ) → ℕ → ℕ
 capacity links l = column 4 links l
 
--- (A.2) 1 where the link's head is closed.
+-- The last column is two bytes. (A.2) The higher is 1 where the link's head is closed.
 abbrev pub closed : List (List ℕ) → ℕ → ℕ
-closed links l = column 5 links l
+closed links l = column 5 links l / 256
+
+-- (A.5) The lower is the power q.
+abbrev pub power : List (List ℕ) → ℕ → ℕ
+power links l = column 5 links l % 256
+
+-- Links of versions 1 and 2 have power 4.
+abbrev pub AllFourth : List (List ℕ) → Type 0
+AllFourth links = (l : ℕ) → l < length links → power links l ≡ 4
 
 -- (A.2) A link whose head is closed may carry only flow to that head.
 unfoldable pub mayUse : List (List ℕ) → ℕ → ℕ → Bool
@@ -44,7 +53,7 @@ network nodes links destinations trips =
       tail = tail links;
       head = head links;
       capacity = capacity links;
-      height = λ l r. stepTime (freeTime links l) (rise links l) r;
+      height = λ l. stepTime (freeTime links l) (rise links l) (power links l);
       commodities = length destinations;
       destination = λ k. getD destinations k 0;
       trips = λ k j. getD trips (k * nodes + j) 0;

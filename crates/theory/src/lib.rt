@@ -9,8 +9,8 @@ pub const FREE_TIME: usize = 2;
 pub const RISE: usize = 3;
 // capacity c
 pub const CAPACITY: usize = 4;
-// 1 where the link's head is closed
-pub const CLOSED: usize = 5;
+// two bytes: the higher is 1 where the link's head is closed, the lower is the power q
+pub const CLOSED_POWER: usize = 5;
 
 // No link, where link numbers are kept.
 pub const NO_LINK: u16 = 65535;

@@ -1,5 +1,5 @@
 -- Times, costs and sums over the links of a study, which are rows. Numbers by link stand in lists.
-use Prim.Native.Nat.{ℕ, _+_, _*_, _-_, _/_, min}
+use Prim.Native.Nat.{ℕ, _+_, _*_, _-_, _/_, _%_, _^_, min}
 use mathlib.Core.Bool.{Bool, _||_}
 use mathlib.Core.List.{List, [], _++_}
 use lib.ListN.{length, getD, replicate}
@@ -34,9 +34,17 @@ reciprocal p d = p / d + 1
 unfoldable pub stepBy : ℕ → ℕ → ℕ → ℕ
 stepBy byCapacity byShare flow = min 256 (64 * flow * byShare / shareParts * byCapacity / capacityParts)
 
+-- Number r of list i of powers: the power 4 - i of a step, in parts of 64⁴. Divided by 64⁴ it is that power divided by 64^(4 - i).
+abbrev pub scaledPower : ℕ → ℕ → ℕ
+scaledPower i r = r ^ (4 - i) * 64 ^ i
+
+-- (A.5) The power of a link, by its row.
+abbrev pub rowPower : List ℕ → ℕ
+rowPower link = getD link 5 0 % 256
+
 -- The time of a link, by its row, at a step.
 abbrev pub rowTime : List ℕ → ℕ → ℕ
-rowTime link r = stepTime (getD link 2 0) (getD link 3 0) r
+rowTime link r = stepTime (getD link 2 0) (getD link 3 0) (rowPower link) r
 
 -- (A.4) The same with a yes or no: whether that is step 256.
 abbrev pub timed : List ℕ → ℕ → LinkTime

@@ -1,11 +1,12 @@
 -- What the functions of this crate ask of their arguments, and the largest numbers that they meet.
-use Prim.Native.Nat.{ℕ, _+_, _*_, _^_, _≤_, _<_}
+use Prim.Native.Nat.{ℕ, _+_, _*_, _≤_, _<_}
 use mathlib.Core.Path.{_≡_}
 use mathlib.Core.List.{List, []}
+use mathlib.Core.Logic.{_⊎_}
 use lib.ListN.{length, getD}
 use Rattle.theory.specs.Study.{column, tail, head, capacity}
 use Rattle.theory.specs.Flows.{sumAt}
-use Rattle.travel.specs.Links.{capacityParts, reciprocal, totalOf, loadOf}
+use Rattle.travel.specs.Links.{capacityParts, reciprocal, scaledPower, rowPower, totalOf, loadOf}
 
 -- No time is more than 16,383 + 16,383 × 256.
 abbrev pub mostTime : ℕ
@@ -25,24 +26,53 @@ pub record LinkFits (link : List ℕ) : Type 0 where
   pub time-fits : getD link 2 0 ≤ 16383
   pub rise-fits : getD link 3 0 ≤ 16383
   pub some-capacity : 1 ≤ getD link 4 0
+  pub some-power : 1 ≤ rowPower link
+  pub power-fits : rowPower link ≤ 4
 
 -- There are at most 512 links, each of which fits.
 pub record LinksFit (links : List (List ℕ)) : Type 0 where
   pub few : length links ≤ 512
   pub link : (l : ℕ) → l < length links → LinkFits (getD links l [])
 
--- What a call works out once of the curves, in one array: the fourth powers of the steps 0 to 256, and after them the reciprocals of
--- the capacities of the first m links.
+-- What a call works out once of the curves, in one list: in the first 512 places the reciprocals of the links' capacities, and after them
+-- lists of the powers of the steps 0 to 256 (A.5). There is one list, that of power 4, or there are all four, down to that of power 1.
+abbrev pub ListRoom : ℕ → Type 0
+ListRoom places = (places ≡ 769) ⊎ (places ≡ 1540)
+
 pub record Powers (curves : List ℕ) : Type 0 where
-  pub size : length curves ≡ 769
-  pub power : (r : ℕ) → r ≤ 256 → getD curves r 0 ≡ r ^ 4
+  pub lists : ℕ
+  pub some-list : 1 ≤ lists
+  pub few-lists : lists ≤ 4
+  pub size : length curves ≡ 512 + 257 * lists
+  pub power : (i r : ℕ) → i < lists → r ≤ 256 → getD curves (512 + 257 * i + r) 0 ≡ scaledPower i r
+
+-- List i is put, and nothing before it or after it is changed.
+pub record ListPut (i : ℕ) (before after : List ℕ) : Type 0 where
+  pub size : length after ≡ length before
+  pub power : (r : ℕ) → r ≤ 256 → getD after (512 + 257 * i + r) 0 ≡ scaledPower i r
+  pub below : (at : ℕ) → at < 512 + 257 * i → getD after at 0 ≡ getD before at 0
+  pub above : (at : ℕ) → 769 + 257 * i ≤ at → getD after at 0 ≡ getD before at 0
+
+-- Curves of so many places have the list of a link's power: that list ends at 512 + 257 × (5 - q).
+abbrev pub HasList : ℕ → List ℕ → Type 0
+HasList places link = 1797 ≤ places + 257 * rowPower link
+
+-- The lists of the powers of all links.
+pub record LinkPowers (links : List (List ℕ)) (curves : List ℕ) : Type 0 where
+  pub powers : Powers curves
+  pub has-list : (l : ℕ) → l < length links → HasList (length curves) (getD links l [])
+
+-- Room for the curves of links: what is asked of a list that they are put into.
+pub record CurveRoom (links : List (List ℕ)) (places : ℕ) : Type 0 where
+  pub room : ListRoom places
+  pub has-list : (l : ℕ) → l < length links → HasList places (getD links l [])
 
 pub record Reciprocals (m : ℕ) (links : List (List ℕ)) (curves : List ℕ) : Type 0 where
-  pub reciprocal-at : (l : ℕ) → l < m → getD curves (257 + l) 0 ≡ reciprocal capacityParts (capacity links l)
+  pub reciprocal-at : (l : ℕ) → l < m → getD curves l 0 ≡ reciprocal capacityParts (capacity links l)
   pub capacity-fits : (l : ℕ) → l < m → capacity links l ≤ 65535
 
 pub record Curves (links : List (List ℕ)) (curves : List ℕ) : Type 0 where
-  pub powers : Powers curves
+  pub powers : LinkPowers links curves
   pub reciprocals : Reciprocals (length links) links curves
 
 -- A share is 1 to 1,024.

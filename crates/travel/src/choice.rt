@@ -5,7 +5,6 @@ ghost use mathlib.Core.Path.{_≡_};
 ghost use Rattle.theory.specs.Moves.{movedTimes, chosen as chosenOf};
 ghost use Rattle.travel.specs.Links.{roads, totalOf, loadOf};
 ghost use Rattle.travel.specs.Ranges.{Curves, MoveFits};
-use crate::reciprocals::RECIPROCALS;
 use crate::reciprocals::share_reciprocal;
 use crate::reciprocals::step_by;
 use crate::steps::time_at;
@@ -28,7 +27,7 @@ pub fn chosen(
     share: u32,
     guess: u32,
     gap: u64,
-    curves: &[u64; 769],
+    curves: &[u64],
 ) -> u32
     requires { ⌜ MoveFits (now links) (now flows) share × Curves (now links) (now curves) ⌝ }
     ensures { λ r. ⌜ r ≡ chosenOf (roads (now (links .entry))) share (totalOf (now (flows .entry))) (loadOf (now (flows .entry))) ⌝ }
@@ -130,13 +129,7 @@ fn last(share: u32) -> u32
 }
 
 // What decides whether j qualifies. Times are those at flow S + j·Y and share W + j.
-fn sums_at(
-    links: &[[u16; 6]],
-    flows: &[[u64; 512]; 2],
-    share: u32,
-    j: u32,
-    curves: &[u64; 769],
-) -> Sums
+fn sums_at(links: &[[u16; 6]], flows: &[[u64; 512]; 2], share: u32, j: u32, curves: &[u64]) -> Sums
     requires { ⌜ MoveFits (now links) (now flows) share × (share + j ≤ 1024) × Curves (now links) (now curves) ⌝ }
     ensures { λ r. ⌜ r .loaded ≡ share * movedTimes (roads (now (links .entry))) share (totalOf (now (flows .entry))) (loadOf (now (flows .entry))) j (loadOf (now (flows .entry))) ⌝ }
     ensures { λ r. ⌜ r .spent ≡ movedTimes (roads (now (links .entry))) share (totalOf (now (flows .entry))) (loadOf (now (flows .entry))) j (totalOf (now (flows .entry))) ⌝ }
@@ -148,7 +141,7 @@ fn sums_at(
     while l < links.len() {
         let s = flows[TOTAL][l];
         let y = flows[LOAD][l];
-        let step = step_by(curves[RECIPROCALS + l], by_share, s + j as u64 * y);
+        let step = step_by(curves[l], by_share, s + j as u64 * y);
         let link = time_at(links[l], step, curves);
         loaded += y * link.time;
         spent += s * link.time;

@@ -2,13 +2,10 @@
 // which is worked out once, and dropping bits.
 ghost use Prim.Native.Nat.{_*_, _/_, _^_, _≤_, _<_};
 ghost use mathlib.Core.Path.{_≡_};
-ghost use lib.ListN.{getD};
+ghost use lib.ListN.{length, getD};
 ghost use Rattle.travel.specs.Links.{shareParts, capacityParts, reciprocal, stepBy};
-ghost use Rattle.travel.specs.Ranges.{LinksFit, Powers, Curves, mostFlow};
+ghost use Rattle.travel.specs.Ranges.{LinksFit, LinkPowers, Curves, mostFlow};
 use theory::CAPACITY;
-
-// Where the reciprocals of capacities begin, after the powers of the steps 0 to 256.
-pub const RECIPROCALS: usize = 257;
 
 // Reciprocals count parts: those of shares 2⁴²ths, and those of capacities 2³⁸ths.
 const SHARE_PARTS: u64 = 4398046511104;
@@ -46,14 +43,14 @@ fn capacity_reciprocal(link: [u16; 6]) -> u64
     CAPACITY_PARTS / link[CAPACITY] as u64 + 1
 }
 
-// Writes the reciprocals of the links' capacities after the powers.
-pub fn put_reciprocals(curves: &mut [u64; 769], links: &[[u16; 6]])
-    requires { ⌜ LinksFit (now links) × Powers (now curves) ⌝ }
-    ensures { λ _. ⌜ Curves (now (links .entry)) (now (curves .exit)) ⌝ }
+// Writes the reciprocals of the links' capacities before the lists of powers.
+pub fn put_reciprocals(curves: &mut [u64], links: &[[u16; 6]])
+    requires { ⌜ LinksFit (now links) × LinkPowers (now links) (now curves) ⌝ }
+    ensures { λ _. ⌜ Curves (now (links .entry)) (now (curves .exit)) × (length (now (curves .exit)) ≡ length (now (curves .entry))) ⌝ }
 {
     let mut l: usize = 0;
     while l < links.len() {
-        curves[RECIPROCALS + l] = capacity_reciprocal(links[l]);
+        curves[l] = capacity_reciprocal(links[l]);
         l += 1;
     }
 }

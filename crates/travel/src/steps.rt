@@ -4,8 +4,10 @@ ghost use mathlib.Core.Path.{_≡_};
 ghost use lib.ListN.{length, getD};
 ghost use Rattle.theory.specs.Flows.{step};
 ghost use Rattle.travel.specs.Links.{padded, timed, listTime};
-ghost use Rattle.travel.specs.Ranges.{LinkFits, LinksFit, Powers, ShareFits, Within, Clear, TimesFit, mostFlow, mostTime};
+ghost use Rattle.travel.specs.Ranges.{LinkFits, LinksFit, Powers, HasList, LinkPowers, ShareFits, Within, Clear, TimesFit, mostFlow, mostTime};
+use crate::powers::list_start;
 use theory::CAPACITY;
+use theory::CLOSED_POWER;
 use theory::FREE_TIME;
 use theory::RISE;
 
@@ -28,25 +30,13 @@ pub fn step_of(capacity: u16, share: u32, flow: u64) -> u64
     256
 }
 
-// Writes the fourth power of each step, 0 to 256.
-pub fn put_powers(curves: &mut [u64; 769])
-    requires { ⌜ length (now curves) ≡ 769 ⌝ }
-    ensures { λ _. ⌜ Powers (now (curves .exit)) ⌝ }
-{
-    let mut r: usize = 0;
-    while r < 257 {
-        let square = r as u32 * r as u32;
-        curves[r] = square as u64 * square as u64;
-        r += 1;
-    }
-}
-
-// Time at a step, a + floor(b·r⁴ / 2²⁴), and whether that is step 256. No other function makes a `LinkTime`.
-pub fn time_at(link: [u16; 6], step: u64, curves: &[u64; 769]) -> LinkTime
-    requires { ⌜ LinkFits link × (step ≤ 256) × Powers (now curves) ⌝ }
+// Time at a step, a + floor(b·r^q / 64^q), and whether that is step 256. No other function makes a `LinkTime`.
+pub fn time_at(link: [u16; 6], step: u64, curves: &[u64]) -> LinkTime
+    requires { ⌜ LinkFits link × (step ≤ 256) × Powers (now curves) × HasList (length (now curves)) link ⌝ }
     ensures { λ r. ⌜ (r ≡ timed link step) × (r .time ≤ mostTime) ⌝ }
 {
-    let time = link[FREE_TIME] as u64 + link[RISE] as u64 * curves[step as usize] / 16777216;
+    let power = curves[list_start(link[CLOSED_POWER] % 256, curves.len()) + step as usize];
+    let time = link[FREE_TIME] as u64 + link[RISE] as u64 * power / 16777216;
     LinkTime {
         time,
         over: step == 256,
@@ -54,8 +44,8 @@ pub fn time_at(link: [u16; 6], step: u64, curves: &[u64; 769]) -> LinkTime
 }
 
 // Time of a link with a flow, at a share, and whether step 256 was reached.
-pub fn link_time(link: [u16; 6], share: u32, flow: u64, curves: &[u64; 769]) -> LinkTime
-    requires { ⌜ LinkFits link × ShareFits share × (flow ≤ mostFlow) × Powers (now curves) ⌝ }
+pub fn link_time(link: [u16; 6], share: u32, flow: u64, curves: &[u64]) -> LinkTime
+    requires { ⌜ LinkFits link × ShareFits share × (flow ≤ mostFlow) × Powers (now curves) × HasList (length (now curves)) link ⌝ }
     ensures { λ r. ⌜ (r ≡ timed link (step (getD link 4 0) share flow)) × (r .time ≤ mostTime) ⌝ }
 {
     time_at(link, step_of(link[CAPACITY], share, flow), curves)
@@ -67,11 +57,11 @@ pub fn times(
     links: &[[u16; 6]],
     flows: &[u64; 512],
     share: u32,
-    curves: &[u64; 769],
+    curves: &[u64],
     times: &mut [u32; 512],
 )
     requires { ⌜ LinksFit (now links) × ShareFits share × Within (length (now links)) mostFlow (now flows) ⌝ }
-    requires { ⌜ Powers (now curves) × Clear (length (now links)) (now times) ⌝ }
+    requires { ⌜ LinkPowers (now links) (now curves) × Clear (length (now links)) (now times) ⌝ }
     ensures { λ _. ⌜ now (times .exit) ≡ padded (length (now (links .entry))) (listTime (now (links .entry)) share (now (flows .entry))) ⌝ }
     ensures { λ _. ⌜ TimesFit (length (now (links .entry))) (now (times .exit)) ⌝ }
 {

@@ -29,7 +29,7 @@ impl List {
     }
 
     /// Files by check, and every fifth one by another call as well.
-    fn by_check_and_others(&mut self, files: &[Vec<u8>]) {
+    pub(super) fn by_check_and_others(&mut self, files: &[Vec<u8>]) {
         for (turn, file) in files.iter().enumerate() {
             self.check(file);
             if turn % 5 == 1 {
@@ -39,13 +39,13 @@ impl List {
     }
 }
 
-fn with_u16(file: &[u8], place: usize, number: u16) -> Vec<u8> {
+pub(super) fn with_u16(file: &[u8], place: usize, number: u16) -> Vec<u8> {
     let mut other = file.to_vec();
     other[place..place + 2].copy_from_slice(&number.to_le_bytes());
     other
 }
 
-fn with_u32(file: &[u8], place: usize, number: u32) -> Vec<u8> {
+pub(super) fn with_u32(file: &[u8], place: usize, number: u32) -> Vec<u8> {
     let mut other = file.to_vec();
     other[place..place + 4].copy_from_slice(&number.to_le_bytes());
     other
@@ -129,7 +129,11 @@ pub(super) fn offsets_and_lengths(list: &mut List) {
 
 /// The sections in other orders, in the header and in the file.
 pub(super) fn orders_of_sections(list: &mut List) {
-    let file = closed_sample().file();
+    list.by_check_and_others(&orders(&closed_sample().file()));
+}
+
+/// A file of four sections with these in other orders.
+pub(super) fn orders(file: &[u8]) -> Vec<Vec<u8>> {
     let pair = |section: usize| file[8 + 8 * section..16 + 8 * section].to_vec();
     let mut files = Vec::new();
     for order in [
@@ -149,15 +153,15 @@ pub(super) fn orders_of_sections(list: &mut List) {
         let mut rest = Vec::new();
         for section in order {
             let (offset, length) = (
-                u32_at(&file, 8 + 8 * section) as usize,
-                u32_at(&file, 12 + 8 * section) as usize,
+                u32_at(file, 8 + 8 * section) as usize,
+                u32_at(file, 12 + 8 * section) as usize,
             );
             header = with_u32(&header, 8 + 8 * section, 40 + rest.len() as u32);
             rest.extend(&file[offset..offset + length]);
         }
         files.push([header, rest].concat());
     }
-    list.by_check_and_others(&files);
+    files
 }
 
 /// Gaps before each section and behind the last, which are not read.

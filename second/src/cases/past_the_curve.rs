@@ -5,14 +5,14 @@ use crate::draft::{Dice, Draft, DraftLink, Plan, Versioned, grid};
 
 impl List {
     /// A table by audit and by pass, and what the pass leaves by audit.
-    fn judge(&mut self, file: &[u8], table: &[u32], share: u32) {
+    pub(super) fn judge(&mut self, file: &[u8], table: &[u32], share: u32) {
         self.audit(file, table.to_vec(), share);
         self.pass_and_audit(file, share);
     }
 
     /// A pass on the table as the call before left it, and an audit of what
     /// the pass leaves.
-    fn pass_and_audit(&mut self, file: &[u8], mut share: u32) {
+    pub(super) fn pass_and_audit(&mut self, file: &[u8], mut share: u32) {
         self.pass_on(file, &mut share);
         self.audit_on(file, share);
     }
@@ -25,7 +25,7 @@ fn town_with(trips: u16) -> Vec<u8> {
 
 /// A line of nodes, each with these roads to the one after it. All trips go
 /// from the first node to the last.
-fn line(hops: &[&[[u16; 3]]], trips: u16) -> Draft {
+pub(super) fn line(hops: &[&[[u16; 3]]], trips: u16) -> Draft {
     let mut links: Vec<DraftLink> = Vec::new();
     for (tail, roads) in (0..).zip(hops) {
         links.extend(roads.iter().map(|&[a, b, c]| [tail, tail + 1, a, b, c]));

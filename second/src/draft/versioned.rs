@@ -1,16 +1,21 @@
-//! Drafts with a version: without closed bytes of version 1, with them of
-//! version 2.
+//! Drafts with a version: 1 with neither closed bytes nor powers, 2 with closed
+//! bytes only, 3 with powers.
 
-use super::{Dice, Draft, DraftLink, Plan, layout_of};
-use crate::format::{CLOSED_VERSION, VERSION};
+use super::{Dice, Draft, DraftLink, Plan, bytes, layout_of};
+use crate::format::{CLOSED_VERSION, Layout, POWER_VERSION, VERSION};
+use crate::staircase::LARGEST_POWER;
 
 /// A study in the making with its version; it need not be an acceptable one.
 #[derive(Clone, Debug, PartialEq, Eq)]
 pub struct Versioned {
     /// What the study has in every version.
     pub draft: Draft,
-    /// By node, 1 for closed and 0 for open; none in version 1.
+    /// By node, 1 for closed and 0 for open; none in version 1. Version 3
+    /// without them has every node open.
     pub closed: Option<Vec<u8>>,
+    /// Powers by link; none in versions 1 and 2. A link after the last of them
+    /// has power 4.
+    pub powers: Option<Vec<u16>>,
 }
 
 /// A study of version 1.
@@ -19,6 +24,7 @@ impl From<Draft> for Versioned {
         Versioned {
             draft,
             closed: None,
+            powers: None,
         }
     }
 }
@@ -26,44 +32,94 @@ impl From<Draft> for Versioned {
 impl Draft {
     /// This study in version 2, with these closed bytes.
     pub fn with_closed(self, closed: Vec<u8>) -> Versioned {
-        Versioned {
-            draft: self,
-            closed: Some(closed),
-        }
+        Versioned::from(self).with_closed(closed)
     }
 
     /// This study in version 2, with these nodes closed and all others open.
     pub fn closing(self, nodes: &[u16]) -> Versioned {
-        let closed = (0..self.nodes).map(|node| u8::from(nodes.contains(&node)));
-        let closed = closed.collect();
-        self.with_closed(closed)
+        Versioned::from(self).closing(nodes)
     }
 
     /// This study in version 2, with some nodes closed, about so many in ten,
     /// and without the trips that have no path then.
     pub fn closing_some(self, dice: &mut Dice, tenths: u64) -> Versioned {
-        let closed = (0..self.nodes).map(|_| u8::from(dice.below(10) < tenths));
+        Versioned::from(self).closing_some(dice, tenths)
+    }
+
+    /// This study in version 3, with these powers by link and all nodes open.
+    pub fn with_powers(self, powers: Vec<u16>) -> Versioned {
+        Versioned::from(self).with_powers(powers)
+    }
+
+    /// This study in version 3, with powers at random and all nodes open.
+    pub fn with_some_powers(self, dice: &mut Dice) -> Versioned {
+        Versioned::from(self).with_some_powers(dice)
+    }
+}
+
+impl Versioned {
+    /// This study with these closed bytes.
+    pub fn with_closed(self, closed: Vec<u8>) -> Versioned {
+        Versioned {
+            closed: Some(closed),
+            ..self
+        }
+    }
+
+    /// This study with these nodes closed and all others open.
+    pub fn closing(self, nodes: &[u16]) -> Versioned {
+        let closed = (0..self.draft.nodes).map(|node| u8::from(nodes.contains(&node)));
+        let closed = closed.collect();
+        self.with_closed(closed)
+    }
+
+    /// This study with some nodes closed, about so many in ten, and without the
+    /// trips that have no path then.
+    pub fn closing_some(self, dice: &mut Dice, tenths: u64) -> Versioned {
+        let closed = (0..self.draft.nodes).map(|_| u8::from(dice.below(10) < tenths));
         let closed = closed.collect();
         let mut study = self.with_closed(closed);
         study.drop_pathless_trips();
         study
     }
-}
 
-impl Versioned {
+    /// This study in version 3, with these powers by link.
+    pub fn with_powers(self, powers: Vec<u16>) -> Versioned {
+        Versioned {
+            powers: Some(powers),
+            ..self
+        }
+    }
+
+    /// This study in version 3, with powers at random, once in four times the
+    /// same on all links.
+    pub fn with_some_powers(self, dice: &mut Dice) -> Versioned {
+        let power = |dice: &mut Dice| dice.between(1, u64::from(LARGEST_POWER)) as u16;
+        let links = self.draft.links.len();
+        let powers = if dice.once_in(4) {
+            vec![power(dice); links]
+        } else {
+            (0..links).map(|_| power(dice)).collect()
+        };
+        self.with_powers(powers)
+    }
+
     /// The version's number.
     pub fn version(&self) -> u16 {
-        match self.closed {
-            None => VERSION,
-            Some(_) => CLOSED_VERSION,
+        match (&self.closed, &self.powers) {
+            (_, Some(_)) => POWER_VERSION,
+            (Some(_), None) => CLOSED_VERSION,
+            (None, None) => VERSION,
         }
+    }
+
+    fn layout(&self) -> &'static Layout {
+        layout_of(self.version())
     }
 
     /// Bytes of the file without gaps.
     pub fn packed_length(&self) -> usize {
-        self.draft.packed_length() - layout_of(VERSION).header
-            + layout_of(self.version()).header
-            + self.closed.as_ref().map_or(0, Vec::len)
+        self.layout().header + self.sections().iter().map(Vec::len).sum::<usize>()
     }
 
     /// The file without gaps.
@@ -74,11 +130,30 @@ impl Versioned {
     /// The file with these bytes before each section and after the last. Gaps
     /// that are not given are empty.
     pub fn file_with_gaps(&self, gaps: &[&[u8]]) -> Vec<u8> {
+        let mut all_gaps = gaps.to_vec();
+        all_gaps.resize(self.layout().sections + 1, &[]);
+        self.draft
+            .write(self.version(), &self.sections(), &all_gaps)
+    }
+
+    /// The sections of this version.
+    fn sections(&self) -> Vec<Vec<u8>> {
         let mut sections = self.draft.sections().to_vec();
         sections.extend(self.closed.clone());
-        let mut all_gaps = gaps.to_vec();
-        all_gaps.resize(layout_of(self.version()).sections + 1, &[]);
-        self.draft.write(self.version(), &sections, &all_gaps)
+        if self.powers.is_some() {
+            let links = self.draft.links.iter().enumerate();
+            let links = links.map(|(number, link)| [bytes(link), bytes(&[self.power(number)])]);
+            sections[0] = links.flatten().flatten().collect();
+            let open = vec![0; usize::from(self.draft.nodes)];
+            sections.resize(self.layout().sections, open);
+        }
+        sections
+    }
+
+    /// A link's power.
+    pub fn power(&self, link: usize) -> u16 {
+        let powers = self.powers.as_deref().unwrap_or(&[]);
+        powers.get(link).copied().unwrap_or(LARGEST_POWER)
     }
 
     /// Whether a node is closed.

@@ -1,6 +1,6 @@
-//! The definitions of document 01 and of requests A.1, A.2 and A.4 of document
-//! 02, word for word and by brute force, in whole numbers of 128 bits with a
-//! sign.
+//! The definitions of document 01 and of requests A.1, A.2, A.4 and A.5 of
+//! document 02, word for word and by brute force, in whole numbers of 128 bits
+//! with a sign.
 
 use second::stream::Calls;
 use second::{AuditAnswer, PassAnswer, RunAnswer};
@@ -13,10 +13,13 @@ struct Link {
     a: Whole,
     b: Whole,
     c: Whole,
+    /// "the sixth u16 is the power q"; "Versions 1 and 2 have power 4."
+    q: Whole,
 }
 
 /// "Header, 32 bytes ... Links ... Destinations ... Trips"; "A version 2 study
-/// has a 40-byte header and a fourth pair after trips".
+/// has a 40-byte header and a fourth pair after trips"; "A version 3 study is
+/// version 2 with 12-byte links".
 struct Study {
     version: Whole,
     n: Whole,
@@ -56,9 +59,15 @@ fn u32_at(bytes: &[u8], place: usize) -> Whole {
 fn header(version: Whole) -> (usize, usize) {
     match version {
         1 => (32, 3),
-        2 => (40, 4),
+        2 | 3 => (40, 4),
         _ => unreachable!("question 2"),
     }
+}
+
+/// "Links, 10 bytes each, five u16"; "12-byte links; the sixth u16 is the power
+/// q".
+fn link_bytes(version: Whole) -> usize {
+    if version == 3 { 12 } else { 10 }
 }
 
 /// Questions 1 to 5. Hands back version, n, m, p and the sections.
@@ -67,9 +76,10 @@ fn sections(file: &[u8]) -> Result<([Whole; 4], Vec<&[u8]>), u8> {
     if !(file.len() >= 32 && file.len() <= 65_536) {
         return Err(1);
     }
-    // 2. Is the version 1? "Question 2 admits version 2".
+    // 2. Is the version 1? "Question 2 admits version 2, and later each version
+    //    that a request brings."
     let version = u16_at(file, 0);
-    if !(version == 1 || version == 2) {
+    if !(version == 1 || version == 2 || version == 3) {
         return Err(2);
     }
     // 3. Is n 2 to 128, m 1 to 512, p 1 to 32, and p at most n?
@@ -82,8 +92,8 @@ fn sections(file: &[u8]) -> Result<([Whole; 4], Vec<&[u8]>), u8> {
     if file.len() < header {
         return Err(4);
     }
-    // 4. Is the first offset at least 32 (40 in version 2), does each section
-    //    end at or before the next offset, and the last within the file?
+    // 4. Is the first offset at least 32 (40 in versions 2 and 3), does each
+    //    section end at or before the next offset, and the last within the file?
     let offset: Vec<Whole> = (0..pairs).map(|k| u32_at(file, 8 + 8 * k)).collect();
     let length: Vec<Whole> = (0..pairs).map(|k| u32_at(file, 12 + 8 * k)).collect();
     let in_order = (1..pairs).all(|k| offset[k - 1] + length[k - 1] <= offset[k]);
@@ -91,8 +101,9 @@ fn sections(file: &[u8]) -> Result<([Whole; 4], Vec<&[u8]>), u8> {
     if !(offset[0] >= header as Whole && in_order && last <= file.len() as Whole) {
         return Err(4);
     }
-    // 5. Are the lengths 10m, 2p and 2pn? "the fourth length is n (question 5)"
-    if length != [10 * m, 2 * p, 2 * p * n, n][..pairs] {
+    // 5. Are the lengths 10m, 2p and 2pn? "the fourth length is n (question 5)";
+    //    "Question 5 reads 12m"
+    if length != [link_bytes(version) as Whole * m, 2 * p, 2 * p * n, n][..pairs] {
         return Err(5);
     }
     let section = |k: usize| &file[offset[k] as usize..(offset[k] + length[k]) as usize];
@@ -102,13 +113,18 @@ fn sections(file: &[u8]) -> Result<([Whole; 4], Vec<&[u8]>), u8> {
 /// The study that the file has, without questions 6 to 11.
 fn unasked(file: &[u8]) -> Result<Study, u8> {
     let ([version, n, m, p], section) = sections(file)?;
+    let bytes = link_bytes(version);
     let links = (0..m as usize)
         .map(|l| Link {
-            tail: u16_at(section[0], 10 * l),
-            head: u16_at(section[0], 10 * l + 2),
-            a: u16_at(section[0], 10 * l + 4),
-            b: u16_at(section[0], 10 * l + 6),
-            c: u16_at(section[0], 10 * l + 8),
+            tail: u16_at(section[0], bytes * l),
+            head: u16_at(section[0], bytes * l + 2),
+            a: u16_at(section[0], bytes * l + 4),
+            b: u16_at(section[0], bytes * l + 6),
+            c: u16_at(section[0], bytes * l + 8),
+            q: match version {
+                3 => u16_at(section[0], bytes * l + 10),
+                _ => 4,
+            },
         })
         .collect();
     let destinations = (0..p as usize)
@@ -149,8 +165,10 @@ fn study(file: &[u8]) -> Result<Study, u8> {
         }
     }
     // 7. Are a 1 to 16,383, b 0 to 16,383, c at least 1 on every link?
+    //    "question 7 includes q", "1 to 4"
     for link in &study.links {
-        if !(link.a >= 1 && link.a <= 16_383 && link.b <= 16_383 && link.c >= 1) {
+        let times = link.a >= 1 && link.a <= 16_383 && link.b <= 16_383;
+        if !(times && link.c >= 1 && link.q >= 1 && link.q <= 4) {
             return Err(7);
         }
     }
@@ -255,9 +273,14 @@ fn conserves(study: &Study, table: &Table, w: Whole) -> bool {
     true
 }
 
-/// "t = a + floor(b·r⁴ / 16,777,216)"
+/// "Time is a + floor(b·r^q / 64^q)."
 fn time_of_step(link: &Link, r: Whole) -> Whole {
-    link.a + link.b * r * r * r * r / 16_777_216
+    let (mut above, mut below) = (link.b, 1);
+    for _ in 0..link.q {
+        above *= r;
+        below *= 64;
+    }
+    link.a + above / below
 }
 
 /// "Step r = the smaller of 256 and floor(64·S / (c·W))." "The time of a link
@@ -513,7 +536,7 @@ impl Calls for Literal {
         // "question 17 wants that version's whole packed size"
         let (n, m, p) = (study.n as usize, study.m, study.p);
         let (header, pairs) = header(study.version);
-        let lengths = &[10 * m, 2 * p, 2 * p * n, n][..pairs];
+        let lengths = &[link_bytes(study.version) * m, 2 * p, 2 * p * n, n][..pairs];
         if output.len() < header + lengths.iter().sum::<usize>() {
             return 17;
         }
@@ -539,6 +562,9 @@ impl Calls for Literal {
             for number in [link.tail, link.head, link.a, link.b, link.c] {
                 two(&mut packed, number);
             }
+            if study.version == 3 {
+                two(&mut packed, link.q);
+            }
         }
         for &s in &study.destinations {
             two(&mut packed, s);
@@ -546,7 +572,7 @@ impl Calls for Literal {
         for &trips in study.trips.iter().flatten() {
             two(&mut packed, trips);
         }
-        if study.version == 2 {
+        if study.version >= 2 {
             packed.extend(&study.closed);
         }
         output[..packed.len()].copy_from_slice(&packed);

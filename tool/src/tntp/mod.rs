@@ -86,8 +86,8 @@ impl TimeUnit {
 pub struct Conversion {
     /// The study; check accepts it.
     pub study: Study,
-    /// What the modeller should know: what is closed, what was left out, what
-    /// was rounded.
+    /// What the modeller should know: what is closed, what makes it a version 3
+    /// study, what was left out, what was rounded.
     pub report: Vec<String>,
 }
 
@@ -97,6 +97,7 @@ pub fn convert(net: &Source, trips: &Source, options: &Options) -> Result<Conver
     let network = net::read(net, options, &mut ledger)?;
     let table = trips::read(trips, &network, options, &mut ledger)?;
     let study = Study {
+        version: network.version,
         nodes: network.nodes,
         destinations: table.destinations(),
         closed: closed_bytes(&network),
@@ -127,12 +128,11 @@ pub fn convert(net: &Source, trips: &Source, options: &Options) -> Result<Conver
     Ok(Conversion { study, report })
 }
 
-/// The closed bytes: 1 for the nodes before the first open one. None where all
-/// are open, since the study is of version 1 then.
-fn closed_bytes(network: &Network) -> Option<Vec<u8>> {
-    let node_numbers = 1..=network.nodes;
-    let closed = node_numbers.map(|node| u8::from(node < network.first_open));
-    (network.first_open > 1).then(|| closed.collect())
+/// The closed bytes: 1 for the nodes before the first open one.
+fn closed_bytes(network: &Network) -> Vec<u8> {
+    (1..=network.nodes)
+        .map(|node| u8::from(node < network.first_open))
+        .collect()
 }
 
 /// A figure of 0 or more.

@@ -6,7 +6,9 @@ use super::metadata::{self, Metadata};
 use super::rounding::{Kind, Ledger};
 use super::{Options, figure, too_long};
 use crate::exact::{Figure, FigureError, Fraction, is_decimal};
-use crate::format::{CAPACITIES, FREE_TIMES, LINKS, Link, NODES, RISES};
+use crate::format::{
+    CAPACITIES, DEFAULT_POWER, FREE_TIMES, LINKS, Link, NODES, POWERS, RISES, Version,
+};
 use crate::source::{Problem, Source};
 use crate::words::{count, range};
 
@@ -26,6 +28,8 @@ const COLUMNS: [&str; 10] = [
 
 /// What the net file says.
 pub struct Network {
+    /// The first version that has a place for it.
+    pub version: Version,
     /// Number of nodes.
     pub nodes: u16,
     /// Number of zones, if the file tells it.
@@ -34,7 +38,8 @@ pub struct Network {
     pub first_open: u16,
     /// The links, in the order of the file.
     pub links: Vec<Link>,
-    /// Which nodes are closed, and what a study has no place for.
+    /// Which nodes are closed, what makes it a version 3 study, and what a
+    /// study has no place for.
     pub notes: Vec<String>,
 }
 
@@ -45,46 +50,109 @@ pub fn read(source: &Source, options: &Options, ledger: &mut Ledger) -> Result<N
     let (link_line, link_count) = metadata.required("NUMBER OF LINKS", &LINKS)?;
     let zones = metadata.number("NUMBER OF ZONES", &(1..=nodes))?;
     let first_open = metadata.number("FIRST THRU NODE", &(1..=nodes + 1))?;
-    let mut notes = Vec::from_iter(first_open.and_then(|first| closed_note(source, first)));
-    notes.extend(left_out(source, &metadata)?);
+    let left_out = left_out(source, &metadata)?;
 
-    let mut links = Vec::with_capacity(rows.len());
-    let mut tolls: u64 = 0;
+    let mut links = Links::default();
     for &(line, text) in &rows {
         let row = Row { source, line };
         let columns = row.columns(text)?;
-        links.push(row.link(columns, nodes, options, ledger)?);
-        tolls += u64::from(row.has_toll(columns));
+        let link = row.link(columns, nodes, options, ledger)?;
+        links.add(line, columns, link);
     }
-    if links.len() != usize::from(link_count) {
-        let rows = count(links.len() as u64, "row");
+    if rows.len() != usize::from(link_count) {
+        let rows = count(rows.len() as u64, "row");
         let what = format!("<NUMBER OF LINKS> {link_count}, but the file has {rows}");
         return Err(source.problem(link_line, what));
     }
-    if tolls > 0 {
-        let links = count(tolls, "link");
-        let note = format!("{links} with a toll: tolls are left out, a study has none");
-        notes.push(source.problem_overall(note).to_string());
-    }
+
+    let closing = first_open.filter(|&(_, first)| first > 1);
+    let version = links.version(closing.is_some());
+    let mut notes = Vec::from_iter(closing.map(|first| closed_note(source, first, version)));
+    notes.extend(links.power_note(source, version));
+    notes.extend(left_out);
+    notes.extend(links.toll_note(source));
     Ok(Network {
+        version,
         nodes,
         zones: zones.map(|(_, zones)| zones),
         first_open: first_open.map_or(1, |(_, first)| first),
-        links,
+        links: links.of_version(version),
         notes,
     })
 }
 
-/// Tells which nodes are closed, if any are; `first` has the first open one
-/// and its line.
-fn closed_note(source: &Source, (line, first): (usize, u16)) -> Option<String> {
+/// What the rows say.
+#[derive(Default)]
+struct Links {
+    links: Vec<Link>,
+    /// Links with a toll.
+    tolls: u64,
+    /// The first power for which a study must have powers, and its line.
+    power: Option<(usize, u16)>,
+}
+
+impl Links {
+    /// Adds the link of a row.
+    fn add(&mut self, line: usize, columns: [&str; COLUMNS.len()], link: Link) {
+        self.links.push(link);
+        self.tolls += u64::from(is_not_zero(columns[8]));
+        // Where b is 0 the power makes no difference.
+        if link.power != DEFAULT_POWER && is_not_zero(columns[5]) {
+            self.power.get_or_insert((line, link.power));
+        }
+    }
+
+    /// The first version that has a place for them, and for closed nodes if
+    /// there are any.
+    fn version(&self, closed: bool) -> Version {
+        Version::first(|version| {
+            (version.has_powers() || self.power.is_none()) && (version.has_closed() || !closed)
+        })
+    }
+
+    /// The links as they are in a study of this version.
+    fn of_version(mut self, version: Version) -> Vec<Link> {
+        if !version.has_powers() {
+            let links = self.links.iter_mut();
+            links.for_each(|link| link.power = DEFAULT_POWER);
+        }
+        self.links
+    }
+
+    fn power_note(&self, source: &Source, version: Version) -> Option<String> {
+        let (line, power) = self.power?;
+        let note = format!("power {power}, which makes a version {version} study");
+        Some(source.remark(line, note))
+    }
+
+    fn toll_note(&self, source: &Source) -> Option<String> {
+        let links = count(self.tolls, "link");
+        let note = format!("{links} with a toll: tolls are left out, a study has none");
+        (self.tolls > 0).then(|| source.problem_overall(note).to_string())
+    }
+}
+
+/// Is this a figure other than 0?
+fn is_not_zero(text: &str) -> bool {
+    match Figure::parse(text) {
+        Ok(figure) => !figure.value.is_zero(),
+        Err(error) => error != FigureError::NotDecimal,
+    }
+}
+
+/// Tells which nodes are closed; `first` is the first open one, above 1, with
+/// its line.
+fn closed_note(source: &Source, (line, first): (usize, u16), version: Version) -> String {
     let closed = match first {
-        1 => return None,
         2 => "node 1 is closed".to_owned(),
         _ => format!("nodes 1 to {} are closed", first - 1),
     };
-    let note = format!("<FIRST THRU NODE> {first}: {closed}, which makes a version 2 study");
-    Some(source.remark(line, note))
+    let makes = if version.has_powers() {
+        String::new() // Powers make the version.
+    } else {
+        format!(", which makes a version {version} study")
+    };
+    source.remark(line, format!("<FIRST THRU NODE> {first}: {closed}{makes}"))
 }
 
 /// Notes on metadata that a study has no place for.
@@ -142,29 +210,8 @@ impl Row<'_> {
         options: &Options,
         ledger: &mut Ledger,
     ) -> Result<Link, Problem> {
-        let [
-            init,
-            term,
-            capacity,
-            length,
-            free,
-            b,
-            power,
-            speed,
-            toll,
-            kind,
-        ] = columns;
-        let tail = self
-            .source
-            .whole(self.line, COLUMNS[0], init, &(1..=nodes))?;
-        let head = self
-            .source
-            .whole(self.line, COLUMNS[1], term, &(1..=nodes))?;
-        if tail == head {
-            let what = format!("init node and term node are both {tail}, must be different");
-            return Err(self.problem(what));
-        }
-
+        let [init, term, capacity, _, free, b, power, ..] = columns;
+        let (tail, head) = self.ends(init, term, nodes)?;
         let trips = self.figure(COLUMNS[2], capacity)?;
         let trips = trips
             .divided_by(options.vehicles_per_trip)
@@ -177,40 +224,65 @@ impl Row<'_> {
         let rise = free_time
             .times(self.figure(COLUMNS[5], b)?)
             .ok_or_else(|| self.too_long(&format!("rise {free} × {b}")))?;
-        if self.figure(COLUMNS[6], power)? != Fraction::whole(4) && !rise.is_zero() {
-            let what = format!("power {power} where b is {b}, must be 4 (or b 0)");
+        let power = self.power(power, rise)?;
+        self.look_at_unused(columns)?;
+
+        let mut fit =
+            |kind, exact, limits, figure: String| self.fit(ledger, kind, exact, &limits, &figure);
+        let free_name = format!("free flow time {free}");
+        let capacity_name = format!("capacity {capacity}");
+        Ok(Link {
+            tail: tail - 1,
+            head: head - 1,
+            free: fit(Kind::FreeTime, free_time, FREE_TIMES, free_name)?,
+            rise: fit(Kind::Rise, rise, RISES, format!("rise {free} × {b}"))?,
+            capacity: fit(Kind::Capacity, trips, CAPACITIES, capacity_name)?,
+            power,
+        })
+    }
+
+    /// Tail and head, counted from 1.
+    fn ends(self, init: &str, term: &str, nodes: u16) -> Result<(u16, u16), Problem> {
+        let node = |name, text| self.source.whole(self.line, name, text, &(1..=nodes));
+        let (tail, head) = (node(COLUMNS[0], init)?, node(COLUMNS[1], term)?);
+        if tail == head {
+            let what = format!("init node and term node are both {tail}, must be different");
             return Err(self.problem(what));
         }
-        for (name, text) in [
-            (COLUMNS[3], length),
-            (COLUMNS[7], speed),
-            (COLUMNS[8], toll),
-            (COLUMNS[9], kind),
-        ] {
+        Ok((tail, head))
+    }
+
+    /// The power. Where the rise is 0 it makes no difference: any figure will
+    /// do, and one that no link can have becomes 4.
+    fn power(self, text: &str, rise: Fraction) -> Result<u16, Problem> {
+        let name = COLUMNS[6];
+        let value = Figure::parse(text).map(|figure| figure.value);
+        let is_value = |power: &u16| value == Ok(Fraction::whole(u64::from(*power)));
+        if let Some(power) = POWERS.into_iter().find(is_value) {
+            return Ok(power);
+        }
+        if rise.is_zero() {
+            return self.figure(name, text).map(|_| DEFAULT_POWER);
+        }
+        let limits = range(&POWERS);
+        let not_whole = format!("{name} `{text}` is not a whole number, limit {limits}");
+        Err(match value {
+            Err(FigureError::TooLong) => self.too_long(&format!("{name} {text}")),
+            Err(FigureError::NotDecimal) => self.problem(not_whole),
+            Ok(value) if !value.rounding().is_zero() => self.problem(not_whole),
+            _ => self.problem(format!("{name} {text}, limit {limits}")),
+        })
+    }
+
+    /// Columns that are not used hold figures too.
+    fn look_at_unused(self, columns: [&str; COLUMNS.len()]) -> Result<(), Problem> {
+        for column in [3, 7, 8, 9] {
+            let (name, text) = (COLUMNS[column], columns[column]);
             if !is_decimal(text) {
                 return Err(self.problem(format!("{name} `{text}` is not a figure")));
             }
         }
-
-        let mut fit =
-            |kind, exact, limits, figure: String| self.fit(ledger, kind, exact, &limits, &figure);
-        Ok(Link {
-            tail: tail - 1,
-            head: head - 1,
-            free: fit(
-                Kind::FreeTime,
-                free_time,
-                FREE_TIMES,
-                format!("free flow time {free}"),
-            )?,
-            rise: fit(Kind::Rise, rise, RISES, format!("rise {free} × {b}"))?,
-            capacity: fit(
-                Kind::Capacity,
-                trips,
-                CAPACITIES,
-                format!("capacity {capacity}"),
-            )?,
-        })
+        Ok(())
     }
 
     /// Rounds a figure and holds it against its limits.
@@ -238,13 +310,5 @@ impl Row<'_> {
 
     fn too_long(self, figure: &str) -> Problem {
         too_long(self.source, self.line, figure)
-    }
-
-    /// Has the row a toll other than 0?
-    fn has_toll(self, columns: [&str; COLUMNS.len()]) -> bool {
-        match Figure::parse(columns[8]) {
-            Ok(figure) => !figure.value.is_zero(),
-            Err(error) => error != FigureError::NotDecimal,
-        }
     }
 }

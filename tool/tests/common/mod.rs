@@ -80,6 +80,48 @@ pub const ZONE_FILE: [u8; 94] = [
     0, 1, 0, 0,
 ];
 
+/// The town with a zone in version 3, where links have powers, as text.
+pub const POWERS: &str = "\
+# Times in hundredths of a minute, capacities in trips.
+# Nodes and links count from 0.
+study 3
+nodes 4
+links 4
+destinations 1
+
+closed 1
+
+#    number  tail  head   free   rise  capacity  power
+link      0     0     1      5     20         2      1
+link      1     1     2      5      0         1      4
+link      2     0     3     10     30         1      2
+link      3     3     2     10      7         3      3
+
+destination 2  # 3 trips
+  from 0: 2
+  from 1: 1
+
+total: 3 trips
+check: accepted
+";
+
+/// The town with powers, as a file.
+#[rustfmt::skip]
+pub const POWERS_FILE: [u8; 102] = [
+    3, 0, 4, 0, 4, 0, 1, 0,
+    40, 0, 0, 0, 48, 0, 0, 0,
+    88, 0, 0, 0, 2, 0, 0, 0,
+    90, 0, 0, 0, 8, 0, 0, 0,
+    98, 0, 0, 0, 4, 0, 0, 0,
+    0, 0, 1, 0, 5, 0, 20, 0, 2, 0, 1, 0,
+    1, 0, 2, 0, 5, 0, 0, 0, 1, 0, 4, 0,
+    0, 0, 3, 0, 10, 0, 30, 0, 1, 0, 2, 0,
+    3, 0, 2, 0, 10, 0, 7, 0, 3, 0, 3, 0,
+    2, 0,
+    2, 0, 1, 0, 0, 0, 0, 0,
+    0, 1, 0, 0,
+];
+
 /// What a run of the program came to.
 #[derive(Debug)]
 pub struct Outcome {

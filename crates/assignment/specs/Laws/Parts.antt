@@ -6,15 +6,15 @@ use mathlib.Core.Bool.{true}
 use mathlib.Core.List.{List}
 use lib.ListN.{length, take, replicate}
 use Rattle.study.specs.Questions.{refusal}
-use Rattle.study.specs.Sections.{nodes, closedPart}
+use Rattle.study.specs.Sections.{nodes, linkSize, closedPart}
 use Rattle.study.specs.Laws.{accepted}
 use Rattle.theory.specs.Moves.{tableSize}
-use Rattle.theory.specs.Study.{network}
+use Rattle.theory.specs.Study.{AllFourth, network}
 use Rattle.theory.specs.Laws.Routings.{AllServed}
 use Rattle.calls.specs.Study.{linkRows, destinationNodes, tripEntries, networkOf}
 use Rattle.calls.specs.Questions.{studyQuestions, tableHolds}
 use Rattle.calls.specs.Laws.Questions.{Passed, SharePassed}
-use Rattle.calls.specs.Laws.Networks.{links-length, closed-head, share-range, holds-length, fields-fit, sound, few-trips}
+use Rattle.calls.specs.Laws.Networks.{links-length, closed-head, fourth-powers, share-range, holds-length, fields-fit, sound, few-trips}
 use Rattle.calls.specs.Laws.Reach.{reach-served, passed-carries}
 use Rattle.questions.specs.Sized.{Sized, ClosedHeads}
 use Rattle.network.specs.Decoded.{Decoded}
@@ -60,6 +60,9 @@ module _ {file : List ℕ} {opening n : ℕ} {linkList : List (List ℕ)} {nodeL
   pub parts-closed : {closedBytes : List ℕ} → closedBytes ≡ closedPart file → ClosedHeads linkList closedBytes
   parts-closed e = rw (e, parts .links-are) (closed-head file)
 
+  pub parts-fourth : linkSize file < 12 → AllFourth linkList
+  parts-fourth short = rw (parts .links-are) (fourth-powers file short)
+
   pub parts-sized : Sized n linkList nodeList entries
   parts-sized = rw (parts .nodes-are, parts .links-are, parts .destinations-are, parts .trips-are) (sized file)
 
@@ -98,6 +101,8 @@ module _ (file : List ℕ) (h : Passed file) where
         sound = sound file (h .described);
         free-most = λ l p. fields-fit file (h .described) l p .free-most;
         rise-most = λ l p. fields-fit file (h .described) l p .rise-most;
+        power-least = λ l p. fields-fit file (h .described) l p .power-least;
+        power-most = λ l p. fields-fit file (h .described) l p .power-most;
         served = served-units;
         few-trips = few-trips file (h .described);
       }

@@ -7,18 +7,18 @@ use mathlib.Core.Bool.{Bool, true, false, not, _&&_}
 use mathlib.Core.List.{List, []}
 use lib.ListN.{length, getD}
 use lib.Dec.{leb, ltb, eqb}
-use borrow.Author.Tests.{ltb-true, leb-true, le-leb, eqb-true, eqb-false, not-true}
+use borrow.Author.Tests.{lt-ltb, ltb-true, leb-true, le-leb, eqb-true, eqb-false, not-true}
 use Rattle.study.specs.Questions.{within}
-use Rattle.study.specs.Sections.{links, linkPart, closedPart}
-use Rattle.study.specs.Fields.{closedByte}
+use Rattle.study.specs.Sections.{links, linkSize, linkPart, closedPart}
+use Rattle.study.specs.Fields.{closedByte, power as powerOf}
 use Rattle.study.specs.Laws.{within-true}
 use Rattle.theory.specs.Finite.{all}
 use Rattle.theory.specs.Network.{Network, Sound, totalTrips}
 use Rattle.theory.specs.Moves.{tableSize}
-use Rattle.theory.specs.Study.{head, freeTime, rise, capacity, closed, network}
+use Rattle.theory.specs.Study.{head, freeTime, rise, capacity, closed, power, AllFourth, network}
 use Rattle.theory.specs.Laws.Finite.{length-tabulate, getD-tabulate, all-elim, and-left, and-right, both}
 use Rattle.theory.specs.Laws.Times.{stepTime-least, stepTime-mono}
-use Rattle.calls.specs.Study.{linkRow, linkRows, networkOf}
+use Rattle.calls.specs.Study.{powerByte, linkRow, linkRows, networkOf}
 use Rattle.calls.specs.Questions.{endsFit, timesFit, destinationsFit, noTripsWithin, totalFits, tableHolds, budgetFits, shareFits}
 use Rattle.calls.specs.Laws.Questions.{Described}
 
@@ -28,13 +28,26 @@ not-equal a b e = eqb-false a b (not-true (eqb a b) e)
 -- There is a row for each link.
 pub links-length : (file : List ℕ) → length (linkRows file) ≡ links file
 unfolding linkRows
-links-length file = length-tabulate (links file) (linkRow (linkPart file) (closedPart file))
+links-length file = length-tabulate (links file) (linkRow (linkPart file) (linkSize file) (closedPart file))
 
--- The last column of a link's row is the closed byte of its head.
+-- The last column of a link's row tells the closed byte of its head,
 pub closed-head : (file : List ℕ) (l : ℕ) → l < length (linkRows file) → closed (linkRows file) l ≡ closedByte (closedPart file) (head (linkRows file) l)
 unfolding linkRows linkRow
 closed-head file l below =
-    rw (getD-tabulate (links file) (linkRow (linkPart file) (closedPart file)) [] l (omega (arith, links-length file)))
+    rw (getD-tabulate (links file) (linkRow (linkPart file) (linkSize file) (closedPart file)) [] l (omega (arith, links-length file)))
+    (omega arith)
+
+-- and its power, as a byte.
+pub power-read : (file : List ℕ) (l : ℕ) → l < length (linkRows file) → power (linkRows file) l ≡ powerByte (powerOf (linkPart file) (linkSize file) l)
+unfolding linkRows linkRow
+power-read file l below =
+    rw (getD-tabulate (links file) (linkRow (linkPart file) (linkSize file) (closedPart file)) [] l (omega (arith, links-length file)))
+    (omega arith)
+
+-- In versions whose links have fewer than 12 bytes it is 4.
+pub fourth-powers : (file : List ℕ) → linkSize file < 12 → AllFourth (linkRows file)
+unfolding powerOf
+fourth-powers file short l below = power-read file l below ∙ rw (lt-ltb (linkSize file) 12 short)
 
 -- Question 14 says that a share is 1 to 1,024,
 pub share-range : (share : ℕ) → shareFits share ≡ true → (1 ≤ share) × (share ≤ 1024)
@@ -60,22 +73,28 @@ unfolding tableHolds
 length-holds g table p = le-leb (tableSize g) (length table) p
 
 -- The fields of one link, by question 7.
-pub record FieldsFit (free rise capacity : ℕ) : Type 0 where
+pub record FieldsFit (free rise capacity power : ℕ) : Type 0 where
   pub free-least : 1 ≤ free
   pub free-most : free ≤ 16383
   pub rise-most : rise ≤ 16383
   pub capacity-least : 1 ≤ capacity
+  pub power-least : 1 ≤ power
+  pub power-most : power ≤ 4
 
-fields-of : (a b c : ℕ) → (within 1 16383 a && within 0 16383 b && leb 1 c) ≡ true → FieldsFit a b c
-fields-of a b c e =
-    let ab = and-left (within 1 16383 a && within 0 16383 b) (leb 1 c) e in
+fields-of : (a b c q : ℕ) → (within 1 16383 a && within 0 16383 b && leb 1 c && within 1 4 q) ≡ true → FieldsFit a b c q
+fields-of a b c q e =
+    let abc = and-left (within 1 16383 a && within 0 16383 b && leb 1 c) (within 1 4 q) e in
+    let ab = and-left (within 1 16383 a && within 0 16383 b) (leb 1 c) abc in
+    let fq = within-true 1 4 q (and-right (within 1 16383 a && within 0 16383 b && leb 1 c) (within 1 4 q) e) in
     let fa = within-true 1 16383 a (and-left (within 1 16383 a) (within 0 16383 b) ab) in
     let fb = within-true 0 16383 b (and-right (within 1 16383 a) (within 0 16383 b) ab) in
     record {
       free-least = fa .0;
       free-most = fa .1;
       rise-most = fb .1;
-      capacity-least = leb-true 1 c (and-right (within 1 16383 a && within 0 16383 b) (leb 1 c) e);
+      capacity-least = leb-true 1 c (and-right (within 1 16383 a && within 0 16383 b) (leb 1 c) abc);
+      power-least = fq .0;
+      power-most = fq .1;
     }
 
 -- The ends of one link, by question 6.
@@ -94,9 +113,9 @@ ends-of n t h e =
     }
 
 module _ (file : List ℕ) (h : Described file) where
-  pub fields-fit : (l : ℕ) → l < length (linkRows file) → FieldsFit (freeTime (linkRows file) l) (rise (linkRows file) l) (capacity (linkRows file) l)
+  pub fields-fit : (l : ℕ) → l < length (linkRows file) → FieldsFit (freeTime (linkRows file) l) (rise (linkRows file) l) (capacity (linkRows file) l) (power (linkRows file) l)
   unfolding timesFit
-  fields-fit l p = fields-of _ _ _ (all-elim (length (linkRows file)) _ (h .fields) l p)
+  fields-fit l p = fields-of _ _ _ _ (all-elim (length (linkRows file)) _ (h .fields) l p)
 
   pub ends-fit : (l : ℕ) → l < networkOf file .links → EndsFit (networkOf file .nodes) (networkOf file .tail l) (networkOf file .head l)
   unfolding endsFit
@@ -132,7 +151,7 @@ module _ (file : List ℕ) (h : Described file) where
         tail-node = λ l p. ends-fit l p .tail-node;
         head-node = λ l p. ends-fit l p .head-node;
         some-capacity = λ l p. fields-fit l p .capacity-least;
-        some-time = λ l r p. le-trans (fields-fit l p .free-least) (stepTime-least (freeTime (linkRows file) l) (rise (linkRows file) l) r);
-        rising = λ l r p. stepTime-mono (freeTime (linkRows file) l) (rise (linkRows file) l) {q = r} {r = suc r} (omega arith);
+        some-time = λ l r p. le-trans (fields-fit l p .free-least) (stepTime-least (freeTime (linkRows file) l) (rise (linkRows file) l) (power (linkRows file) l) r);
+        rising = λ l r p. stepTime-mono (freeTime (linkRows file) l) (rise (linkRows file) l) (power (linkRows file) l) {r = r} {s = suc r} (omega arith);
         destination-node = destination-node;
       }

@@ -15,9 +15,10 @@ unfolding bytes32 bytes16
 length32 x = refl
 
 -- The header of a version that there is has the bytes that the table gives it.
-pub header-length : (version n m p : ℕ) → 1 ≤ version → version ≤ 2 → length (packedHeader version n m p) ≡ formOf version .header
+pub header-length : (version n m p : ℕ) → 1 ≤ version → version ≤ 3 → length (packedHeader version n m p) ≡ formOf version .header
 unfolding packedHeader bytes32 bytes16 formOf versions
 header-length zero n m p least most = absurd (omega arith)
 header-length (suc zero) n m p least most = refl
 header-length (suc (suc zero)) n m p least most = refl
-header-length (suc (suc (suc version))) n m p least most = absurd (omega arith)
+header-length (suc (suc (suc zero))) n m p least most = refl
+header-length (suc (suc (suc (suc version)))) n m p least most = absurd (omega arith)

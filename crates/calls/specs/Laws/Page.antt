@@ -11,7 +11,7 @@ use Rattle.text.specs.Decimal.{decimal, hundredths}
 use Rattle.text.specs.Laws.Decimal.{length-decimal, length-hundredths, length-aligned}
 use Rattle.theory.specs.Network.{Network}
 use Rattle.theory.specs.Flows.{total, timeAt}
-use Rattle.theory.specs.Study.{freeTime, rise, capacity, network}
+use Rattle.theory.specs.Study.{freeTime, rise, capacity, power, network}
 use Rattle.theory.specs.Laws.Finite.{length-rows}
 use Rattle.theory.specs.Laws.Tables.{totalsFit-all}
 use Rattle.theory.specs.Laws.Times.{step-most, stepTime-most}
@@ -87,7 +87,7 @@ module _ (file table : List ℕ) (share : ℕ) (audited : tableNumber file table
   unfolding networkOf network
   time-most l h =
       let fits = fields-fit file (study .described) l h in
-      stepTime-most (freeTime (linkRows file) l) (rise (linkRows file) l) _ (fits .free-most) (fits .rise-most)
+      stepTime-most (freeTime (linkRows file) l) (rise (linkRows file) l) (power (linkRows file) l) _ (fits .free-most) (fits .rise-most) (fits .power-most)
       (step-most (capacity (linkRows file) l) share (total g table l))
 
   -- No total is above share × T, by questions 10 and 15.

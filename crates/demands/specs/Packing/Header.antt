@@ -80,7 +80,7 @@ module _ (v n m p : ℕ) (after : List ℕ) (known : Known v) (hn : n ≤ 128) (
   unfolding offset hasSection packedHeader bytes32 bytes16
   closed-offset-reads =
       let trips = mul-le-mul hp hn in
-      let link-bytes : formOf v .link * m ≡ 10 * m = rw (known .link-bytes) in
+      let link-bytes : formOf v .link * m ≤ 12 * 512 = mul-le-mul (known .link-bytes .1) hm in
       let header = known .pairs in
       let sections = known .some-sections .1 in
       rw version-reads
@@ -97,7 +97,7 @@ module _ (v n m p : ℕ) (after : List ℕ) (known : Known v) (hn : n ≤ 128) (
   unfolding packedHeader bytes32 bytes16 nodeField linkField destinationField
   header-reads =
       let trips = mul-le-mul hp hn in
-      let link-bytes : formOf v .link * m ≡ 10 * m = rw (known .link-bytes) in
+      let link-bytes : formOf v .link * m ≤ 12 * 512 = mul-le-mul (known .link-bytes .1) hm in
       let header = known .pairs in
       let sections = known .some-sections .1 in
       record {

@@ -37,7 +37,7 @@ module _ (file : List ℕ) (known : Known (version file)) where
   before-links = header-length (version file) (nodes file) (links file) (destinations file) (known .least) (known .most)
 
   links-long : length (linkPart file) ≡ linkBytes
-  links-long = rw (known .link-bytes) (link-length file)
+  links-long = link-length file
 
   before-destinations : length (header file ++ linkPart file) ≡ headerBytes + linkBytes
   before-destinations = rw (length-append, before-links, links-long)

@@ -3,9 +3,10 @@ use Prim.Native.Nat.{ℕ, zero, suc}
 use mathlib.Core.Path.{_≡_, refl, sym, _∙_, ap}
 use mathlib.Core.List.{List}
 use lib.ListN.{length}
+use Rattle.study.specs.Versions.{formOf}
 use Rattle.study.specs.Header.{version}
 use Rattle.study.specs.Questions.{refusal}
-use Rattle.study.specs.Sections.{nodes, links, destinations, closedCount, linkPart, destinationPart, tripPart, closedPart}
+use Rattle.study.specs.Sections.{nodes, links, destinations, closedCount, linkSize, linkPart, destinationPart, tripPart, closedPart}
 use Rattle.study.specs.Fields.{destination, trips}
 use Rattle.study.specs.Laws.{after-opening, closed-length}
 use Rattle.calls.specs.Study.{linkRows, destinationNodes, tripEntries, networkOf}
@@ -27,9 +28,12 @@ pub record SameStudy (a b : List ℕ) : Type 0 where
   pub same-closed-part : closedPart a ≡ closedPart b
 
 module _ {a b : List ℕ} (same : SameStudy a b) where
-  -- tail, head, freeTime, rise and capacity of a link
-  pub same-link-field : (field : List ℕ → ℕ → ℕ) (link : ℕ) → field (linkPart a) link ≡ field (linkPart b) link
-  same-link-field field link = rw (same .same-link-part)
+  same-link-size : linkSize a ≡ linkSize b
+  same-link-size = ap (λ v. formOf v .link) (same .same-version)
+
+  -- tail, head, freeTime, rise, capacity and power of a link
+  pub same-link-field : (field : List ℕ → ℕ → ℕ → ℕ) (link : ℕ) → field (linkPart a) (linkSize a) link ≡ field (linkPart b) (linkSize b) link
+  same-link-field field link = rw (same-link-size, same .same-link-part)
 
   pub same-destination : (k : ℕ) → destination (destinationPart a) k ≡ destination (destinationPart b) k
   same-destination k = rw (same .same-destination-part)
@@ -39,7 +43,7 @@ module _ {a b : List ℕ} (same : SameStudy a b) where
 
   pub same-rows : linkRows a ≡ linkRows b
   unfolding linkRows
-  same-rows = rw (same .same-links, same .same-link-part, same .same-closed-part)
+  same-rows = rw (same-link-size, same .same-links, same .same-link-part, same .same-closed-part)
 
   pub same-destination-nodes : destinationNodes a ≡ destinationNodes b
   unfolding destinationNodes

@@ -7,7 +7,7 @@ use Rattle.study.specs.Versions.{versions, formOf}
 use Rattle.study.specs.Header.{version, nodeField, linkField, destinationField, hasSection, offset, size, closedField}
 use Rattle.study.specs.Questions.{lengthFits, versionKnown, countsFit, sectionsApart, sectionsInOrder, sizesFit, opening, refusal}
 use Rattle.study.specs.Sections.{nodes, links, destinations, closedCount, part}
-use Rattle.study.specs.Fields.{tail, head, freeTime, rise, capacity, destination, trips, closedByte}
+use Rattle.study.specs.Fields.{tail, head, freeTime, rise, capacity, power, destination, trips, closedByte}
 use Rattle.theory.specs.Finite.{sum, all, tabulate, rows}
 use Rattle.theory.specs.Network.{totalTrips}
 use Rattle.theory.specs.Study.{mayUse, network}
@@ -43,7 +43,7 @@ pub record TownPacks : Type 0 where
   pub gapped-output : packOutput gappedTown gappedTown ≡ town ++ (7 ∷ 7 ∷ 2 ∷ 0 ∷ 0 ∷ 0 ∷ 7 ∷ [])
 
 pub town-packs : TownPacks
-unfolding town gappedTown u16 u32 versions formOf version nodeField linkField destinationField hasSection offset size closedField lengthFits versionKnown countsFit sectionsApart sectionsInOrder sizesFit opening refusal nodes links destinations closedCount part tail head freeTime rise capacity destination trips closedByte sum all tabulate rows totalTrips leastOf fromHead round rounds distances linkRow linkRows destinationNodes tripEntries mayUse network networkOf endsFit timesFit destinationsFit closedFit noTripsWithin totalFits hasPath tripsReach packedSize outputHolds studyQuestions checkQuestions packQuestions bytes16 bytes32 packedHeader packed overwritten packNumber packOutput
+unfolding town gappedTown u16 u32 versions formOf version nodeField linkField destinationField hasSection offset size closedField lengthFits versionKnown countsFit sectionsApart sectionsInOrder sizesFit opening refusal nodes links destinations closedCount part tail head freeTime rise capacity power destination trips closedByte sum all tabulate rows totalTrips leastOf fromHead round rounds distances linkRow linkRows destinationNodes tripEntries mayUse network networkOf endsFit timesFit destinationsFit closedFit noTripsWithin totalFits hasPath tripsReach packedSize outputHolds studyQuestions checkQuestions packQuestions bytes16 bytes32 packedHeader packed overwritten packNumber packOutput
 town-packs =
     record {
       town-accepted = refl;

@@ -8,7 +8,7 @@ use mathlib.Core.List.{List, []}
 use lib.ListN.{getD}
 use borrow.Author.Tests.{leb-true, le-ltb}
 use Rattle.theory.specs.Flows.{step, stepTime}
-use Rattle.theory.specs.Study.{freeTime, rise, capacity}
+use Rattle.theory.specs.Study.{freeTime, rise, capacity, power}
 use Rattle.calls.specs.Calls.{shareAfter}
 use Rattle.travel.specs.Links.{padded, listTime, totalOf}
 use Rattle.travel.specs.Laws.Padded.{padded-cong}
@@ -50,7 +50,7 @@ module _ {d : Study} (ready : Ready d) {share : ℕ} {times : List ℕ} {nexts v
     unfolding listTime
     times-kept =
         padded-cong (linkCount d) _ _ (ready .few-links) (λ l h.
-        ap (stepTime (freeTime (d .links) l) (rise (d .links) l))
+        ap (stepTime (freeTime (d .links) l) (rise (d .links) l) (power (d .links) l))
         (step-doubled (capacity (d .links) l) share (totalOf flows l)
         ∙ ap (step (capacity (d .links) l) (2 * share)) (sym (flow-doubled l h))))
 

@@ -23,7 +23,7 @@ use Rattle.theory.specs.Laws.Bound.{gap-exact}
 use Rattle.theory.specs.Laws.Choice.{chosen-le}
 use Rattle.theory.specs.Laws.Moves.{chosenOf}
 use Rattle.theory.specs.Laws.Local.{moveBy, move-by}
-use Rattle.theory.specs.Study.{freeTime, rise, capacity, network}
+use Rattle.theory.specs.Study.{freeTime, rise, capacity, power, network}
 use Rattle.calls.specs.Calls.{tableAfter}
 use Rattle.travel.specs.Links.{padded, roads, listTime, listCost, listOver, listProduct, totalOf, loadOf}
 use Rattle.travel.specs.Ranges.{Within, ShareFits, TimesFit, MoveFits, mostFlow}
@@ -53,7 +53,7 @@ chosen-roads d share s y s′ y′ same-s same-y =
     (sum-cong (linkCount d) _ _ (λ l h. ap₂ (λ u v. u * time j l (u + j * v)) (same-s l h) (same-y l h))))
   where
     time : ℕ → ℕ → ℕ → ℕ
-    time j l flow = stepTime (freeTime (d .links) l) (rise (d .links) l) (step (capacity (d .links) l) (share + j) flow)
+    time j l flow = stepTime (freeTime (d .links) l) (rise (d .links) l) (power (d .links) l) (step (capacity (d .links) l) (share + j) flow)
 
 -- Arrays that hold what judging computes can be lent for judging.
 pub known-lent :
@@ -154,7 +154,7 @@ module _ {d : Study} {table : List ℕ} {share : ℕ} (judgeable : Judgeable d t
     unfolding listCost cost network
     cost-is =
         sum-cong (linkCount d) _ _ (λ l h.
-        ap (linkCost (stepTime (freeTime (d .links) l) (rise (d .links) l)) (capacity (d .links) l) share) (total-at l h))
+        ap (linkCost (stepTime (freeTime (d .links) l) (rise (d .links) l) (power (d .links) l)) (capacity (d .links) l) share) (total-at l h))
 
     pub over-is : listOver (d .links) share totals ≡ over (networkIn d) share table
     unfolding listOver over network
@@ -170,7 +170,7 @@ module _ {d : Study} {table : List ℕ} {share : ℕ} (judgeable : Judgeable d t
           ap (λ xs. getD xs l 0) times-are
           ∙ getD-padded (linkCount d) _ l h
           ∙ ap
-          (λ flow. stepTime (freeTime (d .links) l) (rise (d .links) l) (step (capacity (d .links) l) share flow))
+          (λ flow. stepTime (freeTime (d .links) l) (rise (d .links) l) (power (d .links) l) (step (capacity (d .links) l) share flow))
           (total-at l h)
           ∙ sym (times-at (networkIn d) share table l h)
 

@@ -11,7 +11,7 @@ use Rattle.theory.specs.Finite.{tabulate}
 use Rattle.theory.specs.Flows.{step, stepTime}
 use Rattle.theory.specs.Moves.{started}
 use Rattle.theory.specs.Laws.Finite.{order, length-tabulate, getD-tabulate}
-use Rattle.theory.specs.Study.{freeTime, rise, capacity, network}
+use Rattle.theory.specs.Study.{freeTime, rise, capacity, power, network}
 use Rattle.calls.specs.Calls.{overwritten}
 use Rattle.travel.specs.Links.{listTime}
 use Rattle.travel.specs.Ranges.{Within, mostFlow}
@@ -60,9 +60,9 @@ module _ {d : Study} (ready : Ready d) {times : List ℕ} {nexts volumes flows :
             (λ h.
             ap (λ xs. getD xs l 0) (known .times-are)
             ∙ getD-padded (linkCount d) _ l h
-            ∙ ap (λ flow. stepTime (freeTime (d .links) l) (rise (d .links) l) (step (capacity (d .links) l) 1 flow)) (ap (λ xs. getD xs l 0) none ∙ no-flow l)
-            ∙ ap (λ r. stepTime (freeTime (d .links) l) (rise (d .links) l) r) (step-none (capacity (d .links) l))
-            ∙ sym (getD-tabulate (linkCount d) (λ l. stepTime (freeTime (d .links) l) (rise (d .links) l) 0) 0 l h))
+            ∙ ap (λ flow. stepTime (freeTime (d .links) l) (rise (d .links) l) (power (d .links) l) (step (capacity (d .links) l) 1 flow)) (ap (λ xs. getD xs l 0) none ∙ no-flow l)
+            ∙ ap (λ r. stepTime (freeTime (d .links) l) (rise (d .links) l) (power (d .links) l) r) (step-none (capacity (d .links) l))
+            ∙ sym (getD-tabulate (linkCount d) (λ l. stepTime (freeTime (d .links) l) (rise (d .links) l) (power (d .links) l) 0) 0 l h))
             (λ h.
             ap (λ xs. getD xs l 0) (known .times-are)
             ∙ getD-padded-rest (linkCount d) _ l h

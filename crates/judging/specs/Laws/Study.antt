@@ -1,5 +1,6 @@
 -- What a study that passes questions 1 to 11 has, in the terms of the crates below.
-use Prim.Native.Nat.{ℕ, _*_, _≤_, _<_}
+use Prim.Native.Nat.{ℕ, zero, suc, _*_, _≤_, _<_}
+use native.Mathlib.Nat.{pow-suc, mul-zero, zero-div}
 use native.Mathlib.Omega.{arith}
 use mathlib.Core.Path.{_≡_, refl}
 use mathlib.Core.List.{List}
@@ -13,10 +14,11 @@ use Rattle.search.specs.Chains.{Chainable}
 use Rattle.search.specs.Laws.Chains.{chainable as links-chain}
 use Rattle.judging.specs.Study.{Study, linkCount, destinationCount, networkIn, Ready}
 
--- Step 0 adds nothing to the free time.
-free-time : (a b : ℕ) → stepTime a b 0 ≡ a
+-- Step 0 adds nothing to the free time, since a power is at least 1.
+free-time : (a b q : ℕ) → 1 ≤ q → stepTime a b q 0 ≡ a
 unfolding stepTime
-free-time a b = omega arith
+free-time a b zero h = absurd (omega arith)
+free-time a b (suc q) h = rw (pow-suc 0 q, mul-zero, mul-zero, zero-div) (omega arith)
 
 -- A table of a study has p·m numbers.
 table-size : (d : Study) → tableSize (networkIn d) ≡ destinationCount d * linkCount d
@@ -53,7 +55,7 @@ module _ {d : Study} (ready : Ready d) where
 
   some-time : (l : ℕ) → l < linkCount d → 1 ≤ freeTime (d .links) l
   unfolding network
-  some-time l h = rw free-time at (ready .sound .some-time l 0 h)
+  some-time l h = rw (free-time _ _ _ (ready .power-least l h)) at (ready .sound .some-time l 0 h)
 
   -- The fields of its links fit,
   pub links-fit : LinksFit (d .links)
@@ -66,6 +68,8 @@ module _ {d : Study} (ready : Ready d) where
               time-fits = ready .free-most l h;
               rise-fits = ready .rise-most l h;
               some-capacity = some-capacity l h;
+              some-power = ready .power-least l h;
+              power-fits = ready .power-most l h;
             };
       }
 

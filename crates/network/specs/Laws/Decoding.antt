@@ -7,15 +7,16 @@ use mathlib.Core.List.{List, [], _∷_, _++_, append-assoc}
 use mathlib.Core.Path.{_≡_, refl, sym, _∙_, ap}
 use lib.ListN.{length, getD, take, set, length-append, length-set}
 use lib.Seq.{length-take-le, take-suc-set, getD-take, getD-set-other}
-use Rattle.study.specs.Fields.{destination, trips, closedByte}
-use Rattle.study.specs.Laws.{accepted, nodes-refused, links-refused, destinations-refused, link-length, trip-length, part-most, has-link, has-destination, has-trips}
+use Rattle.study.specs.Fields.{tail, head, freeTime, rise, capacity, power, destination, trips, closedByte}
+use Rattle.study.specs.Laws.{accepted, nodes-refused, links-refused, destinations-refused, link-bytes-least, trip-length, part-most, has-link, has-destination, has-trips}
 use Rattle.study.specs.Questions.{refusal}
-use Rattle.study.specs.Sections.{nodes, links, destinations, linkPart, destinationPart, tripPart, closedPart}
+use Rattle.study.specs.Sections.{nodes, links, destinations, linkSize, linkPart, destinationPart, tripPart, closedPart}
 use Rattle.theory.specs.Finite.{tabulate, rows}
+use Rattle.theory.specs.Study.{AllFourth}
 use Rattle.theory.specs.Laws.Cases.{on-equal}
 use Rattle.theory.specs.Laws.Finite.{length-tabulate, getD-tabulate, tabulate-suc, length-rows}
-use Rattle.calls.specs.Study.{linkRow, linkRows, destinationNodes, tripEntries}
-use Rattle.calls.specs.Laws.Networks.{links-length, closed-head}
+use Rattle.calls.specs.Study.{powerByte, linkRow, linkRows, destinationNodes, tripEntries}
+use Rattle.calls.specs.Laws.Networks.{links-length, closed-head, fourth-powers}
 use Rattle.network.specs.declared.decoding.Opening.{Opening}
 use Rattle.questions.specs.Sized.{Sized, ClosedHeads}
 use Rattle.questions.specs.Laws.Questions.{entries-fit}
@@ -54,30 +55,54 @@ module _ {A : Type 0} (size : ℕ) where
   held-front : (n : ℕ) {list array : List A} → Holds size list array → length list ≡ n → take n array ≡ list
   held-front n held e = rw e at (held .front)
 
+-- A link's row with the closed byte of its head joined to its power.
+row-closed : (linkBytes : List ℕ) (linkSize : ℕ) (closedBytes : List ℕ) (l : ℕ) →
+    let row = linkRow linkBytes linkSize [] l in
+    set row 5 (getD row 5 0 + 256 * closedByte closedBytes (getD row 1 0)) ≡ linkRow linkBytes linkSize closedBytes l
+unfolding linkRow closedByte
+row-closed linkBytes linkSize closedBytes l =
+    ap (λ x. tail linkBytes linkSize l ∷ head linkBytes linkSize l ∷ freeTime linkBytes linkSize l ∷ rise linkBytes linkSize l ∷ capacity linkBytes linkSize l ∷ x ∷ [])
+    (omega arith)
+
+-- A row read field by field, as if every node were open.
+pub row-read : (linkBytes : List ℕ) (linkSize l : ℕ) {t h a b c q : ℕ} → t ≡ tail linkBytes linkSize l → h ≡ head linkBytes linkSize l → a ≡ freeTime linkBytes linkSize l
+    → b ≡ rise linkBytes linkSize l → c ≡ capacity linkBytes linkSize l → q ≡ powerByte (power linkBytes linkSize l)
+    → t ∷ h ∷ a ∷ b ∷ c ∷ q ∷ [] ≡ linkRow linkBytes linkSize [] l
+unfolding linkRow closedByte
+row-read linkBytes linkSize l t-is h-is a-is b-is c-is q-is =
+    rw (t-is, h-is, a-is, b-is, c-is, q-is)
+    (ap (λ x. tail linkBytes linkSize l ∷ head linkBytes linkSize l ∷ freeTime linkBytes linkSize l ∷ rise linkBytes linkSize l ∷ capacity linkBytes linkSize l ∷ x ∷ [])
+    (omega arith))
+
+-- Without closed bytes the last number of a row is its power, a byte.
+pub row-open : (linkBytes : List ℕ) (linkSize l : ℕ) → getD (linkRow linkBytes linkSize [] l) 5 0 ≤ 255
+unfolding linkRow closedByte
+row-open linkBytes linkSize l = omega arith
+
 -- Rows of links get the closed bytes of their heads one by one.
-module _ (size : ℕ) (linkBytes closedBytes : List ℕ) (m : ℕ) where
-  pub closed-begins : {array : List (List ℕ)} → Holds size (linkRowsIn linkBytes [] m) array → ClosedBelow size linkBytes closedBytes m 0 array
+module _ (size : ℕ) (linkBytes : List ℕ) (linkSize : ℕ) (closedBytes : List ℕ) (m : ℕ) where
+  pub closed-begins : {array : List (List ℕ)} → Holds size (linkRowsIn linkBytes linkSize [] m) array → ClosedBelow size linkBytes linkSize closedBytes m 0 array
   unfolding linkRowsIn tabulate
   closed-begins {array} held =
       record {
         held = holds-none size (held .long);
         rest = λ i low b.
             sym (getD-take m array i [] b)
-            ∙ ap (λ rows. getD rows i []) (held-front size m held (length-tabulate m (linkRow linkBytes [])))
-            ∙ getD-tabulate m (linkRow linkBytes []) [] i b;
+            ∙ ap (λ rows. getD rows i []) (held-front size m held (length-tabulate m (linkRow linkBytes linkSize [])))
+            ∙ getD-tabulate m (linkRow linkBytes linkSize []) [] i b;
       }
 
-  pub closed-more : {array : List (List ℕ)} {l : ℕ} {row : List ℕ} → m ≤ size → l < m → ClosedBelow size linkBytes closedBytes m l array
-      → row ≡ set (getD array l []) 5 (closedByte closedBytes (getD (getD array l []) 1 0)) → ClosedBelow size linkBytes closedBytes m (l + 1) (set array l row)
+  pub closed-more : {array : List (List ℕ)} {l : ℕ} {row : List ℕ} → m ≤ size → l < m → ClosedBelow size linkBytes linkSize closedBytes m l array
+      → row ≡ set (getD array l []) 5 (getD (getD array l []) 5 0 + 256 * closedByte closedBytes (getD (getD array l []) 1 0)) → ClosedBelow size linkBytes linkSize closedBytes m (l + 1) (set array l row)
   unfolding linkRowsIn linkRow
   closed-more {array} {l} {row} room below w is =
       record {
-        held = holds-next size (linkRow linkBytes closedBytes) l (omega arith) (w .held) (is ∙ rw (w .rest l (le-refl l) below));
+        held = holds-next size (linkRow linkBytes linkSize closedBytes) l (omega arith) (w .held) (is ∙ rw (w .rest l (le-refl l) below) (row-closed linkBytes linkSize closedBytes l));
         rest = λ i low b. getD-set-other array l i row [] (λ e. omega arith) ∙ w .rest i (omega arith) b;
       }
 
   -- Where there are no closed bytes nothing is to be done.
-  pub closed-none : {array : List (List ℕ)} → length closedBytes ≡ 0 → Holds size (linkRowsIn linkBytes [] m) array → Holds size (linkRowsIn linkBytes closedBytes m) array
+  pub closed-none : {array : List (List ℕ)} → length closedBytes ≡ 0 → Holds size (linkRowsIn linkBytes linkSize [] m) array → Holds size (linkRowsIn linkBytes linkSize closedBytes m) array
   closed-none none held = rw (no-entries closedBytes none) held
     where
       no-entries : (list : List ℕ) → length list ≡ 0 → list ≡ []
@@ -150,11 +175,11 @@ room-most file l-are e-are =
       for-entries = rw e-are (entries-fit (known .nodes-most) (known .destinations-most));
     }
 
--- and for a file of at most 2,048 bytes in 204 and 1,024: a link has ten bytes, and an entry two.
+-- and for a file of at most 2,048 bytes in 204 and 1,024: a link has ten bytes or more, and an entry two.
 pub room-short : (file : List ℕ) {linkPlaces entryPlaces : ℕ} → length file ≤ 2048 → linkPlaces ≡ 204 → entryPlaces ≡ 1024 → Room file linkPlaces entryPlaces
 room-short file short l-are e-are =
     record {
-      for-links = omega (arith, short, l-are, link-length file, part-most file 0);
+      for-links = omega (arith, short, l-are, link-bytes-least file, part-most file 0);
       for-entries = omega (arith, short, e-are, trip-length file, part-most file 2);
     }
 
@@ -168,7 +193,7 @@ module _ {file : List ℕ} {n m p : ℕ} (known : Counts file n m p) {linkPlaces
 
 -- The sections of a file are there to decode.
 module _ {file : List ℕ} {n m p : ℕ} (known : Counts file n m p) {bytes : List ℕ} where
-  pub links-there : bytes ≡ linkPart file → HasLinks bytes m
+  pub links-there : bytes ≡ linkPart file → HasLinks bytes (linkSize file) m
   unfolding HasLinks
   links-there bytes-are = rw (bytes-are, known .links-are) (has-link file)
 
@@ -187,7 +212,7 @@ pub decoded :
     Room file linkPlaces entryPlaces →
     opening .refusal ≡ refusal file → Counts file (opening .nodes) (opening .links) (opening .destinations) →
     linkBytes ≡ linkPart file → destinationBytes ≡ destinationPart file → tripBytes ≡ tripPart file → closedBytes ≡ closedPart file →
-    Holds linkPlaces (linkRowsIn linkBytes closedBytes (opening .links)) linkArray →
+    Holds linkPlaces (linkRowsIn linkBytes (linkSize file) closedBytes (opening .links)) linkArray →
     Holds 32 (nodesIn destinationBytes (opening .destinations)) nodeArray →
     Holds entryPlaces (entriesIn tripBytes (opening .nodes) (opening .destinations)) entryArray →
     Decoded file opening linkArray nodeArray entryArray
@@ -201,7 +226,7 @@ decoded file opening {linkBytes} {destinationBytes} {tripBytes} {closedBytes} {l
       links-within = rw (l-held .long) (room-links known room);
       destinations-within = rw (d-held .long) (known .destinations-most);
       trips-within = rw (t-held .long) (room-entries known room);
-      links-held = held-front linkPlaces (opening .links) l-held (length-tabulate (opening .links) (linkRow linkBytes closedBytes)) ∙ rw (l-are, c-are, known .links-are);
+      links-held = held-front linkPlaces (opening .links) l-held (length-tabulate (opening .links) (linkRow linkBytes (linkSize file) closedBytes)) ∙ rw (l-are, c-are, known .links-are);
       nodes-held = held-front 32 (opening .destinations) d-held (length-tabulate (opening .destinations) (destination destinationBytes)) ∙ rw (d-are, known .destinations-are);
       entries-held = held-front entryPlaces (opening .destinations * opening .nodes) t-held (entries-length tripBytes (opening .nodes) (opening .destinations)) ∙ rw (t-are, known .nodes-are, known .destinations-are);
     }
@@ -236,6 +261,9 @@ module _ {file : List ℕ} {opening : Opening} {linkArray : List (List ℕ)} {no
 
   pub decoded-closed : ClosedHeads (take (opening .links) linkArray) (closedPart file)
   decoded-closed = rw (d .links-held) (closed-head file)
+
+  pub decoded-fourth : linkSize file < 12 → AllFourth (take (opening .links) linkArray)
+  decoded-fourth short = rw (d .links-held) (fourth-powers file short)
 
   pub decoded-sized : Sized (opening .nodes) (take (opening .links) linkArray) (take (opening .destinations) nodeArray) (take (opening .destinations * opening .nodes) entryArray)
   decoded-sized = rw (d .entries-held, d .nodes-held, d .links-held, d .nodes-are) (sized file)

@@ -93,10 +93,10 @@ overwritten-more old done new at place room b a =
     ∙ written-more 0 at done new old (omega arith) room
     ∙ sym (overwritten-first (done ++ new) old)
 
--- The places of a packed study, as numbers that can be compared: there are 10 bytes a link.
+-- The places of a packed study, as numbers that can be compared: there are at most 12 bytes a link.
 module _ {v n m p : ℕ} (known : Known v) (hn : n ≤ 128) (hm : m ≤ 512) (hp : p ≤ 32) where
-  pub link-size : formOf v .link * m ≡ 10 * m
-  link-size = rw (known .link-bytes)
+  pub link-size : formOf v .link * m ≤ 6144
+  link-size = mul-le-mul (known .link-bytes .1) hm
 
   pub places-fit : (formOf v .header ≤ 40) × (2 * p * n ≤ 8192) × (closedOf v n ≤ 128)
   places-fit =
@@ -181,8 +181,7 @@ module _ (file old : List ℕ) (n m p : ℕ) (counts : Counts file n m p) (known
       × (places .closed + length (closedPart file) ≤ length old)
   unfolding packedSize placesOf
   sections-fit =
-      let link-bytes : formOf (version file) .link * m ≡ 10 * m = rw (known .link-bytes) in
-      let links-bytes : formOf (version file) .link * links file ≡ 10 * links file = rw (known .link-bytes) in
+      let link-bytes : formOf (version file) .link * m ≡ formOf (version file) .link * links file = rw (counts .links-are) in
       let trip-bytes : 2 * p * n ≡ 2 * destinations file * nodes file = rw (counts .nodes-are, counts .destinations-are) in
       let m-is = counts .links-are in
       let p-is = counts .destinations-are in
@@ -201,8 +200,7 @@ module _ (file old : List ℕ) (n m p : ℕ) (counts : Counts file n m p) (known
   packed-written {linkBytes} {destinationBytes} {tripBytes} {closedBytes} l-are d-are t-are c-are one two three four five =
       let header = packedHeader (version file) n m p in
       let h = header-length (version file) n m p (known .least) (known .most) in
-      let link-bytes : formOf (version file) .link * m ≡ 10 * m = rw (known .link-bytes) in
-      let links-bytes : formOf (version file) .link * links file ≡ 10 * links file = rw (known .link-bytes) in
+      let link-bytes : formOf (version file) .link * m ≡ formOf (version file) .link * links file = rw (counts .links-are) in
       let trip-bytes : 2 * p * n ≡ 2 * destinations file * nodes file = rw (counts .nodes-are, counts .destinations-are) in
       let m-is = counts .links-are in
       let p-is = counts .destinations-are in

@@ -11,11 +11,12 @@ use borrow.Author.Tests.{ltb-true}
 use Rattle.study.specs.Fields.{closedByte}
 use Rattle.study.specs.Questions.{within}
 use Rattle.theory.specs.Finite.{sum, all}
-use Rattle.theory.specs.Laws.Finite.{all-suc, all-elim, all-refuted, and-left, and-right}
+use Rattle.theory.specs.Laws.Finite.{all-suc, all-elim, all-intro, all-and, all-refuted, and-left, and-right}
 use Rattle.theory.specs.Network.{totalTrips}
-use Rattle.theory.specs.Study.{tail, head, freeTime, rise, capacity, network}
+use Rattle.theory.specs.Study.{tail, head, AllFourth, network}
 use Rattle.calls.specs.Questions.{endsFit, timesFit, destinationsFit, closedFit, noTripsWithin, totalFits}
 use Rattle.questions.specs.Sized.{Sized}
+use Rattle.questions.specs.Fields.{roadTest, roadsFit, powerTest, powersFit}
 use Rattle.questions.specs.Destinations.{allNodes, allAscending}
 
 -- A test put to 0, 1, .. in turn: it held below i and holds at i,
@@ -82,13 +83,15 @@ unfolding allNodes
 destination-below n nodeList fit k h =
     ltb-true _ _ (all-elim (length nodeList) (λ i. ltb (getD nodeList i 0) n) (and-left (allNodes n nodeList) (allAscending nodeList) (sym (destinations-halves n nodeList) ∙ fit)) k h)
 
--- Question 7 is a test of each link.
-unfoldable pub timesTest : List (List ℕ) → ℕ → Bool
-timesTest rows l = within 1 16383 (freeTime rows l) && within 0 16383 (rise rows l) && leb 1 (capacity rows l)
+-- Question 7 is a test of each link's road and one of each link's power,
+pub times-both : (rows : List (List ℕ)) → timesFit rows ≡ roadsFit rows && powersFit rows
+unfolding timesFit roadsFit powersFit roadTest powerTest
+times-both rows = all-and (length rows) (roadTest rows) (powerTest rows)
 
-pub times-all : (rows : List (List ℕ)) → timesFit rows ≡ all (length rows) (timesTest rows)
-unfolding timesFit timesTest
-times-all rows = refl
+-- which links of power 4 pass.
+pub fourth-fit : (rows : List (List ℕ)) → AllFourth rows → powersFit rows ≡ true
+unfolding powersFit powerTest
+fourth-fit rows fourth = all-intro (length rows) (powerTest rows) (λ l h. rw (fourth l h))
 
 -- Question 19 is a test of each byte.
 unfoldable pub closedTest : List ℕ → ℕ → Bool

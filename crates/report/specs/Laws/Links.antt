@@ -2,7 +2,7 @@
 use Prim.Native.Nat.{ℕ, _*_, _≤_, _<_}
 use native.Mathlib.Nat.{le-trans, mul-le-mul-right}
 use native.Mathlib.Omega.{arith}
-use mathlib.Core.Path.{_≡_, sym, _∙_, ap}
+use mathlib.Core.Path.{_≡_, refl, sym, _∙_, ap}
 use mathlib.Core.List.{List}
 use lib.ListN.{length, getD, take}
 use Rattle.study.specs.Sections.{nodes, links, destinations}
@@ -20,7 +20,8 @@ use Rattle.network.specs.Decoded.{Decoded}
 use Rattle.network.specs.Laws.Decoding.{sized, destinations-length}
 use Rattle.network.specs.declared.decoding.Opening.{Opening}
 use Rattle.travel.specs.Links.{padded, listTime}
-use Rattle.travel.specs.Ranges.{mostFlow, LinksFit, ShareFits, Within}
+use Rattle.travel.specs.Ranges.{mostFlow, LinksFit, ShareFits, Within, CurveRoom}
+use Rattle.travel.specs.Laws.Powers.{room-all}
 use Rattle.travel.specs.Laws.Network.{Holds, padded-holds, times-agree}
 use Rattle.listing.specs.Laws.{listing-cong}
 use Rattle.listing.specs.Lines.{listingOf}
@@ -53,6 +54,8 @@ module _ (file table : List ℕ) (share : ℕ) (audited : tableNumber file table
               time-fits = fit .free-most;
               rise-fits = fit .rise-most;
               some-capacity = fit .capacity-least;
+              some-power = fit .power-least;
+              power-fits = fit .power-most;
             };
       }
 
@@ -65,6 +68,10 @@ module _ (file table : List ℕ) (share : ℕ) (audited : tableNumber file table
         let few : Sized (nodes file) (linkRows file) (destinationNodes file) (tripEntries file) = sized file in
         let long = holds-length g table (start-both file table (table-both file table share audited .0) .1) in
         rw (d .destinations-are, d .links-are, ← destinations-length file, ← links-length file) (few .few-destinations, few .few-links, long)
+
+    -- There is room for the lists of all powers.
+    pub lists-there : CurveRoom (take (o .links) linkArray) 1540
+    lists-there = rw (d .links-held) (room-all (linkRows file) links-fit refl)
 
     module _ {flows : List ℕ} (flows-are : flows ≡ padded (o .links) (linkTotal (o .destinations) (o .links) table)) where
       flows-held : Holds (length (linkRows file)) (total g table) flows

@@ -180,6 +180,18 @@ all-cong (suc n) t u h =
     let b : t n ≡ u n = h n (omega arith) in
     cc
 
+-- Two tests of each are one test of all and another of all.
+and-swap : (a b c d : Bool) → (a && b && (c && d)) ≡ (a && c && (b && d))
+and-swap true true c d = refl
+and-swap true false true d = refl
+and-swap true false false d = refl
+and-swap false b c d = refl
+
+pub all-and : (n : ℕ) (t u : ℕ → Bool) → all n (λ i. t i && u i) ≡ (all n t && all n u)
+unfolding all
+all-and zero t u = refl
+all-and (suc n) t u = rw (all-and n t u) (and-swap (all n t) (all n u) (t n) (u n))
+
 -- Lists.
 
 pub length-tabulate : {A : Type 0} (n : ℕ) (f : ℕ → A) → length (tabulate n f) ≡ n

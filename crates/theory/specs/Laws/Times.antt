@@ -1,8 +1,8 @@
 -- Steps and times of links.
-use Prim.Native.Nat.{ℕ, _*_, _/_, _^_, _≤_, _<_, min}
-use native.Mathlib.Nat.{le-min, le-trans, min-le-left, min-le-right, min-eq-left, le-div-iff-mul-le, le-of-mul-le-mul-right, mul-le-mul-left, mul-le-mul-right, pow-le-pow-left, one-le-mul, div-mul-le-self, zero-div}
+use Prim.Native.Nat.{ℕ, zero, suc, _+_, _*_, _/_, _^_, _≤_, _<_, min}
+use native.Mathlib.Nat.{le-min, le-trans, min-le-left, min-le-right, min-eq-left, le-div-iff-mul-le, le-of-mul-le-mul-right, mul-le-mul-left, mul-le-mul-right, mul-le-mul, pow-le-pow-left, pow-le-pow-right, pow-zero, pow-suc, one-le-pow, one-le-mul, div-mul-le-self, mul-div-cancel, zero-div}
 use native.Mathlib.Omega.{arith}
-use mathlib.Core.Path.{_≡_}
+use mathlib.Core.Path.{_≡_, refl, sym, ap, _∙_}
 use mathlib.Core.Bool.{true, false}
 use mathlib.Core.Logic.{_↔_}
 use mathlib.Core.List.{List}
@@ -43,28 +43,43 @@ step-mono c w s w′ s′ some-capacity some-share some-share′ more =
 div-mono : (k : ℕ) {x y : ℕ} → 1 ≤ k → x ≤ y → x / k ≤ y / k
 div-mono k {x} {y} h p = le-div-iff-mul-le {k = k} {x = x / k} {y = y} h .1 (le-trans (div-mul-le-self x k) p)
 
--- The time at a step does not fall as the step grows, and is at least the free time.
-pub stepTime-mono : (a b : ℕ) {q r : ℕ} → q ≤ r → stepTime a b q ≤ stepTime a b r
+-- A power of a product is the product of the powers.
+pub pow-mul : (x y q : ℕ) → (x * y) ^ q ≡ x ^ q * y ^ q
+pow-mul x y zero = rw (pow-zero (x * y), pow-zero x, pow-zero y) refl
+pow-mul x y (suc q) = rw (pow-suc (x * y) q, pow-suc x q, pow-suc y q, pow-mul x y q) (omega arith)
+
+-- (A.5) Of any power q, the time at a step does not fall as the step grows, and is at least the free time.
+pub stepTime-mono : (a b q : ℕ) {r s : ℕ} → r ≤ s → stepTime a b q r ≤ stepTime a b q s
 unfolding stepTime
-stepTime-mono a b {q} {r} h =
-    let high : b * q ^ 4 / 16777216 ≤ b * r ^ 4 / 16777216 = div-mono 16777216 (omega arith) (mul-le-mul-left b (pow-le-pow-left h 4)) in
+stepTime-mono a b q {r} {s} h =
+    let high : b * r ^ q / 64 ^ q ≤ b * s ^ q / 64 ^ q = div-mono (64 ^ q) (one-le-pow q 64 (omega arith)) (mul-le-mul-left b (pow-le-pow-left h q)) in
     omega arith
 
-pub stepTime-least : (a b r : ℕ) → a ≤ stepTime a b r
+pub stepTime-least : (a b q r : ℕ) → a ≤ stepTime a b q r
 unfolding stepTime
-stepTime-least a b r = omega arith
+stepTime-least a b q r = omega arith
 
--- A step is at most 256, and so a time at most a + 256·b, with the largest a and b that question 7 accepts.
+-- (A.5) Of power 4 it is document 01's.
+pub stepTime-fourth : (a b r : ℕ) → stepTime a b 4 r ≡ a + (b * r ^ 4) / 16777216
+unfolding stepTime
+stepTime-fourth a b r = refl
+
+-- A step is at most 256, where the time is a + b·4^q, and so at most a + 256·b, with the largest a, b and q that question 7 accepts.
 pub step-most : (c w s : ℕ) → step c w s ≤ 256
 unfolding step
 step-most c w s = min-le-left 256 (64 * s / (c * w))
 
-top-time : (a b : ℕ) → a ≤ 16383 → b ≤ 16383 → stepTime a b 256 ≤ 16383 * 257
+pub stepTime-top : (a b q : ℕ) → stepTime a b q 256 ≡ a + b * 4 ^ q
 unfolding stepTime
-top-time a b ha hb = omega arith
+stepTime-top a b q = rw (scaled, mul-div-cancel (b * 4 ^ q) {n = 64 ^ q} (one-le-pow q 64 (omega arith)))
+  where
+    scaled : b * 256 ^ q ≡ b * 4 ^ q * 64 ^ q
+    scaled = rw (pow-mul 4 64 q) (omega arith)
 
-pub stepTime-most : (a b r : ℕ) → a ≤ 16383 → b ≤ 16383 → r ≤ 256 → stepTime a b r ≤ 16383 * 257
-stepTime-most a b r ha hb hr = le-trans (stepTime-mono a b hr) (top-time a b ha hb)
+pub stepTime-most : (a b q r : ℕ) → a ≤ 16383 → b ≤ 16383 → q ≤ 4 → r ≤ 256 → stepTime a b q r ≤ 16383 * 257
+stepTime-most a b q r ha hb hq hr =
+    let quick : 4 ^ q ≤ 256 = pow-le-pow-right {n = 4} (omega arith) hq in
+    le-trans (stepTime-mono a b q hr) (rw (stepTime-top a b q) (omega (arith, mul-le-mul hb quick)))
 
 -- (A.4) Step 256 is reached exactly where 64·S is at least 256·c·W,
 pub over-exactly : (c w s : ℕ) → 1 ≤ c → 1 ≤ w → (isOver (step c w s) ≡ true) ↔ (256 * (c * w) ≤ 64 * s)

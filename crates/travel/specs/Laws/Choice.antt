@@ -10,13 +10,13 @@ use lib.ListN.{length, getD}
 use borrow.Author.Tests.{le-leb, lt-leb}
 use Rattle.theory.specs.Finite.{sum}
 use Rattle.theory.specs.Network.{Network, Sound}
-use Rattle.theory.specs.Study.{freeTime, rise, capacity, network}
+use Rattle.theory.specs.Study.{freeTime, rise, capacity, power, network}
 use Rattle.theory.specs.Flows.{step}
 use Rattle.theory.specs.Moves.{movedTimes, qualifies, chosen}
 use Rattle.theory.specs.Laws.Finite.{sum-suc, sum-bound}
 use Rattle.theory.specs.Laws.Choice.{chosen-is}
 use Rattle.travel.specs.Links.{rowTime, roads}
-use Rattle.travel.specs.Ranges.{LinksFit, mostTime, mostFlow}
+use Rattle.travel.specs.Ranges.{LinksFit, mostTime}
 use Rattle.theory.specs.Laws.Times.{stepTime-least, stepTime-mono}
 use Rattle.theory.specs.Laws.Times.{step-most}
 use Rattle.travel.specs.Laws.Times.{rowTime-most}
@@ -48,8 +48,8 @@ joined-sound links fit =
       tail-node = λ l p. omega arith;
       head-node = λ l p. omega arith;
       some-capacity = λ l p. fit .link l p .some-capacity;
-      some-time = λ l r p. le-trans (fit .link l p .some-time) (stepTime-least (freeTime links l) (rise links l) r);
-      rising = λ l r p. stepTime-mono (freeTime links l) (rise links l) (omega arith);
+      some-time = λ l r p. le-trans (fit .link l p .some-time) (stepTime-least (freeTime links l) (rise links l) (power links l) r);
+      rising = λ l r p. stepTime-mono (freeTime links l) (rise links l) (power links l) (omega arith);
       destination-node = λ k p. omega arith;
     }
 

@@ -5,13 +5,13 @@ use native.Mathlib.Omega.{arith}
 use mathlib.Core.Path.{_≡_, _∙_, ap}
 use mathlib.Core.List.{List}
 use mathlib.Core.Logic.{⊎-elim}
-use lib.ListN.{getD, set, length-set}
+use lib.ListN.{length, set, length-set}
 use lib.Seq.{getD-set-same, getD-set-other}
 use Rattle.theory.specs.Study.{capacity}
 use Rattle.theory.specs.Flows.{step}
 use Rattle.theory.specs.Laws.Finite.{below-suc}
 use Rattle.travel.specs.Links.{shareParts, capacityParts, reciprocal, stepBy}
-use Rattle.travel.specs.Ranges.{Powers, Reciprocals}
+use Rattle.travel.specs.Ranges.{LinkPowers, Reciprocals}
 
 -- Division by d, where a × d is below p.
 module _ (p d : ℕ) (some : 1 ≤ d) where
@@ -85,25 +85,35 @@ module _ (c w s : ℕ) {by-capacity by-share : ℕ} (g : Divisible c w s by-capa
       ∙ div-div-eq-div-mul (64 * s) w c
       ∙ ap (λ x. 64 * s / x) (mul-comm w c))
 
--- The array, link by link: a reciprocal is written after the powers, which stay.
-module _ (links : List (List ℕ)) (curves : List ℕ) (l : ℕ) where
+-- The list, link by link: a reciprocal is written before the powers, which stay.
+module _ (links : List (List ℕ)) (curves : List ℕ) where
   pub reciprocals-none : Reciprocals 0 links curves
   reciprocals-none = record { reciprocal-at = λ i h. omega arith; capacity-fits = λ i h. omega arith }
 
-  pub powers-kept : (x : ℕ) → Powers curves → Powers (set curves (257 + l) x)
-  powers-kept x all =
-      record {
-        size = length-set curves (257 + l) x ∙ all .size;
-        power = λ r h. getD-set-other curves (257 + l) r x 0 (λ e. omega arith) ∙ all .power r h;
-      }
+  module _ (l x : ℕ) (few : l < 512) (all : LinkPowers links curves) where
+    pub powers-kept : LinkPowers links (set curves l x)
+    powers-kept =
+        let had = all .powers in
+        let long : length (set curves l x) ≡ length curves = length-set curves l x in
+        record {
+          powers =
+              record {
+                lists = had .lists;
+                some-list = had .some-list;
+                few-lists = had .few-lists;
+                size = long ∙ had .size;
+                power = λ i r p h. getD-set-other curves l (512 + 257 * i + r) x 0 (λ e. omega arith) ∙ had .power i r p h;
+              };
+          has-list = λ i p. rw long (all .has-list i p);
+        }
 
-  pub reciprocals-more : (x : ℕ) → x ≡ reciprocal capacityParts (capacity links l) → capacity links l ≤ 65535 → l < 512 → Powers curves → Reciprocals l links curves →
-      Reciprocals (l + 1) links (set curves (257 + l) x)
-  reciprocals-more x is fits h all so-far =
-      record {
-        reciprocal-at = λ i p.
-            ⊎-elim (λ q. getD-set-other curves (257 + l) (257 + i) x 0 (λ e. omega arith) ∙ so-far .reciprocal-at i q)
-            (λ e. rw e (getD-set-same curves (257 + l) x 0 (omega (arith, all .size)) ∙ is))
-            (below-suc l i (omega arith));
-        capacity-fits = λ i p. ⊎-elim (λ q. so-far .capacity-fits i q) (λ e. rw e fits) (below-suc l i (omega arith));
-      }
+    pub reciprocals-more : x ≡ reciprocal capacityParts (capacity links l) → capacity links l ≤ 65535 → Reciprocals l links curves →
+        Reciprocals (l + 1) links (set curves l x)
+    reciprocals-more is fits so-far =
+        record {
+          reciprocal-at = λ i p.
+              ⊎-elim (λ q. getD-set-other curves l i x 0 (λ e. omega arith) ∙ so-far .reciprocal-at i q)
+              (λ e. rw e (getD-set-same curves l x 0 (omega (arith, all .powers .size)) ∙ is))
+              (below-suc l i (omega arith));
+          capacity-fits = λ i p. ⊎-elim (λ q. so-far .capacity-fits i q) (λ e. rw e fits) (below-suc l i (omega arith));
+        }

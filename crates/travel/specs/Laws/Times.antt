@@ -1,25 +1,13 @@
 -- Steps and times: their ranges, and that a time does not fall as the step grows.
-use Prim.Native.Nat.{ℕ, _*_, _/_, _^_, _≤_, _<_}
-use native.Mathlib.Nat.{min-le-right, le-trans, mul-le-mul, mul-le-mul-right, div-mul-le-self, pow-suc, pow-zero}
-use native.Mathlib.Omega.{arith}
-use mathlib.Core.Path.{_≡_}
+use Prim.Native.Nat.{ℕ, _*_, _/_, _≤_, _<_}
+use native.Mathlib.Nat.{min-le-right, le-trans, mul-le-mul, mul-le-mul-right, div-mul-le-self}
 use mathlib.Core.List.{List, []}
 use lib.ListN.{length, getD}
-use Rattle.theory.specs.Study.{freeTime, rise, capacity}
-use Rattle.theory.specs.Flows.{step, stepTime}
+use Rattle.theory.specs.Study.{freeTime, rise, capacity, power}
+use Rattle.theory.specs.Flows.{step}
 use Rattle.theory.specs.Laws.Times.{step-most, stepTime-least, stepTime-most}
-use Rattle.travel.specs.Links.{rowTime, listTime}
+use Rattle.travel.specs.Links.{rowPower, rowTime, listTime}
 use Rattle.travel.specs.Ranges.{LinkFits, LinksFit, mostTime, mostFlow}
-
--- As the code has it.
-pub fourth-power : (r : ℕ) → r ^ 4 ≡ r * r * (r * r)
-fourth-power r = rw (pow-suc r 3, pow-suc r 2, pow-suc r 1, pow-suc r 0, pow-zero) (omega arith)
-
-pub square-most : (r : ℕ) → r ≤ 256 → r * r ≤ 65536
-square-most r h = mul-le-mul h h
-
-pub fourth-most : (r : ℕ) → r ≤ 256 → r * r * (r * r) ≤ 4294967296
-fourth-most r h = mul-le-mul (square-most r h) (square-most r h)
 
 -- The width of a tread, c·W.
 pub width-some : (c w : ℕ) → 1 ≤ c → 1 ≤ w → 1 ≤ c * w
@@ -36,12 +24,13 @@ step-within c w s =
 
 -- The time of a link at a step, and with the flows of a list.
 pub rowTime-most : (link : List ℕ) (r : ℕ) → LinkFits link → r ≤ 256 → rowTime link r ≤ mostTime
-rowTime-most link r fit h = stepTime-most (getD link 2 0) (getD link 3 0) r (fit .time-fits) (fit .rise-fits) h
+rowTime-most link r fit h =
+    stepTime-most (getD link 2 0) (getD link 3 0) (rowPower link) r (fit .time-fits) (fit .rise-fits) (fit .power-fits) h
 
 module _ (links : List (List ℕ)) (fit : LinksFit links) (share : ℕ) (flows : List ℕ) (l : ℕ) (h : l < length links) where
   pub listTime-least : 1 ≤ listTime links share flows l
   unfolding listTime
-  listTime-least = le-trans (fit .link l h .some-time) (stepTime-least (freeTime links l) (rise links l) _)
+  listTime-least = le-trans (fit .link l h .some-time) (stepTime-least (freeTime links l) (rise links l) (power links l) _)
 
   pub listTime-most : listTime links share flows l ≤ mostTime
   unfolding listTime

@@ -5,6 +5,7 @@ use std::path::Path;
 use ilstrovan::LINE_BYTES;
 use second::draft::{Dice, Draft, DraftLink, Plan, Versioned, grid};
 use study_tool::exact::Fraction;
+use study_tool::format::{self, Version};
 use study_tool::source::Source;
 use study_tool::tntp::{Options, convert};
 
@@ -56,6 +57,14 @@ impl Study {
         Study::of(&name, &draft.clone().closing(&zones))
     }
 
+    /// The study of version 3 whose links have the powers 1 to 4 in turn.
+    fn of_powers(name: &str, draft: &Draft) -> Self {
+        let powers = [1, 2, 3, 4].into_iter().cycle();
+        let powers = powers.take(draft.links.len()).collect();
+        let name = format!("{name}, powers 1 to 4");
+        Study::of(&name, &draft.clone().with_powers(powers))
+    }
+
     fn of(name: &str, study: &Versioned) -> Self {
         let draft = &study.draft;
         Study {
@@ -71,9 +80,15 @@ impl Study {
 }
 
 /// The town, Sioux Falls, and grids and random networks up to the largest study;
-/// three of them once more with their zones closed.
+/// three of them once more with their zones closed, and five with other powers.
 pub fn all() -> Vec<Study> {
-    let mut studies = vec![Study::of_draft("town", &Draft::town()), sioux_falls()];
+    let town = Draft::town();
+    let mut studies = vec![
+        Study::of_draft("town", &town),
+        Study::of_powers("town", &town),
+        sioux_falls(),
+        sioux_falls_with_powers(),
+    ];
     let mut dice = Dice::new(31);
     for (wide, high) in [(4, 4), (8, 4), (8, 8), (16, 8)] {
         let nodes = wide * high;
@@ -87,6 +102,9 @@ pub fn all() -> Vec<Study> {
         if nodes >= 64 {
             studies.push(Study::of_zones(&name, &draft));
         }
+        if nodes == 128 {
+            studies.push(Study::of_powers(&name, &draft));
+        }
     }
     for nodes in [16, 32, 64, 128] {
         let links = (0..4 * nodes).map(|_| any_link(&mut dice, nodes)).collect();
@@ -95,6 +113,9 @@ pub fn all() -> Vec<Study> {
         studies.push(Study::of_draft(&name, &draft));
         if nodes == 128 {
             studies.push(Study::of_zones(&name, &draft));
+        }
+        if nodes == 16 || nodes == 128 {
+            studies.push(Study::of_powers(&name, &draft));
         }
     }
     studies
@@ -115,6 +136,34 @@ fn closed_zones(draft: &Draft) -> Vec<u16> {
 
 /// The field's standard test network, ten vehicles to a trip.
 fn sioux_falls() -> Study {
+    of_tool("Sioux Falls", &converted())
+}
+
+/// The same in version 3, whose links have the powers 1 to 4 in turn.
+fn sioux_falls_with_powers() -> Study {
+    let mut study = converted();
+    study.version = Version::first(Version::has_powers);
+    for (link, power) in study.links.iter_mut().zip([1, 2, 3, 4].into_iter().cycle()) {
+        link.power = power;
+    }
+    of_tool("Sioux Falls, powers 1 to 4", &study)
+}
+
+/// A study that the study tool has converted.
+fn of_tool(name: &str, study: &format::Study) -> Study {
+    Study {
+        name: name.to_string(),
+        nodes: usize::from(study.nodes),
+        links: study.links.len(),
+        destinations: study.destinations.len(),
+        trips: u64::from(study.total()),
+        file: study.packed(),
+        table_length: study.destinations.len() * study.links.len(),
+    }
+}
+
+/// Sioux Falls, converted from the tool's test data.
+fn converted() -> format::Study {
     let data = Path::new(env!("CARGO_MANIFEST_DIR")).join("../tool/tests/data");
     let open = |name| Source::open(&data.join(name)).expect("the tool's test data");
     let options = Options {
@@ -126,16 +175,7 @@ fn sioux_falls() -> Study {
         &open("SiouxFalls_trips.tntp"),
         &options,
     );
-    let study = conversion.expect("an acceptable study").study;
-    Study {
-        name: "Sioux Falls".to_string(),
-        nodes: usize::from(study.nodes),
-        links: study.links.len(),
-        destinations: study.destinations.len(),
-        trips: u64::from(study.total()),
-        file: study.packed(),
-        table_length: study.destinations.len() * study.links.len(),
-    }
+    conversion.expect("an acceptable study").study
 }
 
 fn any_link(dice: &mut Dice, nodes: u16) -> DraftLink {

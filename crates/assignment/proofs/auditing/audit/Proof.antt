@@ -1,10 +1,13 @@
 -- `assignment::audit` meets its contract: there is room for the file in the places that it lends.
 use borrow.Author.Needs.{needs}
-use mathlib.Core.Path.{refl}
-use native.Mathlib.Omega.{arith}
+use mathlib.Core.Path.{refl, sym, _∙_}
 use Rattle.network.specs.Laws.Decoding.{room-most, room-short}
+use Rattle.assignment.specs.Laws.Places.{small-length, small-curves, curves-most, curves-counted}
 use Rattle.assignment.proofs.auditing.audit.Statement.{statement}
 use Rattle.assignment.proofs.auditing.audit.Tie as tie
+
+is-small-requires : tie.Need-is-small-requires
+is-small-requires c κs = search needs
 
 slice-aggregate-audit-in : tie.Need-slice-aggregate-audit-in
 slice-aggregate-audit-in c = search needs
@@ -12,33 +15,54 @@ slice-aggregate-audit-in c = search needs
 slice-aggregate-audit-in-2 : tie.Need-slice-aggregate-audit-in-2
 slice-aggregate-audit-in-2 c = search needs
 
-audit-in-requires : tie.Need-audit-in-requires
-audit-in-requires c κs = room-short _ (omega arith) refl refl
-
-returns : tie.Need-returns
-returns c = c .before .before .audit-in .ensures
-
 slice-aggregate-audit-in-3 : tie.Need-slice-aggregate-audit-in-3
 slice-aggregate-audit-in-3 c = search needs
+
+audit-in-requires : tie.Need-audit-in-requires
+audit-in-requires c κs =
+    let small = sym (c .before .before .before .before .is-small .ensures) ∙ c .before .before .before .if1 .taken in
+    (room-short _ (small-length _ small) refl refl, small-curves _ small)
+
+returns : tie.Need-returns
+returns c = c .before .before .before .audit-in .ensures
+
+curve-places-requires : tie.Need-curve-places-requires
+curve-places-requires c κs = search needs
+
+array-borrow-prefix-curves : tie.Need-array-borrow-prefix-curves
+array-borrow-prefix-curves c = rw (c .curve-places .ensures) (curves-most _)
+
+slice-aggregate-curves : tie.Need-slice-aggregate-curves
+slice-aggregate-curves c = curves-counted _ _ refl (c .before .curve-places .ensures)
 
 slice-aggregate-audit-in-4 : tie.Need-slice-aggregate-audit-in-4
 slice-aggregate-audit-in-4 c = search needs
 
+slice-aggregate-audit-in-5 : tie.Need-slice-aggregate-audit-in-5
+slice-aggregate-audit-in-5 c = search needs
+
 audit-in-requires-2 : tie.Need-audit-in-requires-2
-audit-in-requires-2 c κs = room-most _ refl refl
+audit-in-requires-2 c κs =
+    let are = c .before .before .before .curve-places .ensures in
+    (room-most _ refl refl, sym (curves-counted _ _ refl are) ∙ are)
 
 returns-2 : tie.Need-returns-2
-returns-2 c = c .before .before .audit-in2 .ensures
+returns-2 c = c .before .before .before .audit-in2 .ensures
 
 pub audit-spec : {M : Type 1} → statement M
 audit-spec =
     tie.close
     (tie.spec
+    is-small-requires
     slice-aggregate-audit-in
     slice-aggregate-audit-in-2
+    slice-aggregate-audit-in-3
     audit-in-requires
     returns
-    slice-aggregate-audit-in-3
+    curve-places-requires
+    array-borrow-prefix-curves
+    slice-aggregate-curves
     slice-aggregate-audit-in-4
+    slice-aggregate-audit-in-5
     audit-in-requires-2
     returns-2)

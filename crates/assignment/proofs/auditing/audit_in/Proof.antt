@@ -6,6 +6,7 @@ use denote.Ref.{now}
 use Rattle.calls.specs.Calls.{tableNumber}
 use Rattle.network.specs.Laws.Decoding.{trips-few, links-counted, destinations-counted, trips-counted}
 use Rattle.assignment.specs.Laws.Parts.{parts-decoded}
+use Rattle.assignment.specs.Laws.Places.{parts-room, table-passed}
 use Rattle.assignment.specs.Laws.Answers.{audit-refusal, table-ready, audit-answers}
 use Rattle.assignment.proofs.auditing.audit_in.Statement.{statement}
 use Rattle.assignment.proofs.auditing.audit_in.Tie as tie
@@ -54,15 +55,18 @@ abbrev read : tie.Else1 → tie.After-decode
 read c = c .before .before .before .before .before .before .before .before .before
 
 abbrev given : tie.Else1 → tie.Start
-given c = read c .before .before .before .before .before .before .before
+given c = read c .before .before .before .before .before .before .before .before
 
 accepted : (c : tie.Else1) → tableNumber (now (given c .args .file)) (now (given c .args .table)) (given c .args .share) ≡ 0
 accepted c = sym (c .before .totals-refusal .ensures .0) ∙ c .if1 .left
 
 audit-table-requires : tie.Need-audit-table-requires
 audit-table-requires c κs =
-    let else = c .before in
-    (table-ready _ _ (parts-decoded (read else .decode .ensures)) _ (accepted else), else .before .totals-refusal .ensures .1 (else .if1 .left))
+    let else = c .before .before in
+    let parts = parts-decoded (read else .decode .ensures) in (
+      table-ready _ _ parts _ (accepted else),
+      (else .before .totals-refusal .ensures .1 (else .if1 .left), parts-room parts (table-passed _ _ _ (accepted else)) (given else .pre .1)),
+    )
 
 same-length-3 : tie.Need-same-length-3
 same-length-3 c = search needs
@@ -70,10 +74,13 @@ same-length-3 c = search needs
 same-length-4 : tie.Need-same-length-4
 same-length-4 c = search needs
 
+same-length-5 : tie.Need-same-length-5
+same-length-5 c = search needs
+
 returns-2 : tie.Need-returns-2
 returns-2 c =
-    let else = c .before .before in
-    audit-answers _ _ (parts-decoded (read else .decode .ensures)) _ (accepted else) _ (c .audit-table .ensures)
+    let else = c .before .before .before .before .before in
+    audit-answers _ _ (parts-decoded (read else .decode .ensures)) _ (accepted else) _ (c .before .before .audit-table .ensures)
 
 pub audit-in-spec : {M : Type 1} → statement M
 audit-in-spec =
@@ -95,4 +102,5 @@ audit-in-spec =
     audit-table-requires
     same-length-3
     same-length-4
+    same-length-5
     returns-2)

@@ -9,6 +9,7 @@ use Rattle.calls.specs.Calls.{tableNumber}
 use Rattle.calls.specs.Laws.Calls.{pass-kept}
 use Rattle.network.specs.Laws.Decoding.{trips-few, links-counted, destinations-counted, trips-counted}
 use Rattle.assignment.specs.Laws.Parts.{parts-decoded}
+use Rattle.assignment.specs.Laws.Places.{parts-room, table-passed}
 use Rattle.assignment.specs.Laws.Answers.{pass-refusal, table-ready, pass-answers, pass-leaves}
 use Rattle.assignment.proofs.passing.pass_in.Statement.{statement}
 use Rattle.assignment.proofs.passing.pass_in.Tie as tie
@@ -67,16 +68,20 @@ abbrev read : tie.Else1 → tie.After-decode
 read c = c .before .before .before .before .before .before .before .before .before .before
 
 abbrev given : tie.Else1 → tie.Start
-given c = read c .before .before .before .before .before .before .before
+given c = read c .before .before .before .before .before .before .before .before
 
 accepted : (c : tie.Else1) → tableNumber (now (given c .args .file)) (now (given c .args .table)) (given c .args .share) ≡ 0
 accepted c = sym (c .before .totals-refusal .ensures .0) ∙ c .if1 .left
 
 pass-table-requires : tie.Need-pass-table-requires
 pass-table-requires c κs =
-    let else = c .before .before in (
-      table-ready _ _ (parts-decoded (read else .decode .ensures)) _ (accepted else),
-      ap (λ totals. totals ∷ replicate 512 0 ∷ []) (else .before .totals-refusal .ensures .1 (else .if1 .left)),
+    let else = c .before .before .before in
+    let parts = parts-decoded (read else .decode .ensures) in (
+      table-ready _ _ parts _ (accepted else),
+      (
+        ap (λ totals. totals ∷ replicate 512 0 ∷ []) (else .before .totals-refusal .ensures .1 (else .if1 .left)),
+        parts-room parts (table-passed _ _ _ (accepted else)) (given else .pre .1),
+      ),
     )
 
 outcome-of-requires : tie.Need-outcome-of-requires
@@ -91,10 +96,13 @@ same-length-5 c = search needs
 same-length-6 : tie.Need-same-length-6
 same-length-6 c = search needs
 
+same-length-7 : tie.Need-same-length-7
+same-length-7 c = search needs
+
 returns-2 : tie.Need-returns-2
 returns-2 c =
-    let passed = c .before .before .before .pass-table in
-    let else = c .before .before .before .before .before .before in
+    let passed = c .before .before .before .before .before .pass-table in
+    let else = c .before .before .before .before .before .before .before .before .before in
     let parts = parts-decoded (read else .decode .ensures) in (
       rw (c .outcome-of .ensures) (pass-answers _ _ parts _ (accepted else) _ _ (passed .ensures)),
       pass-leaves _ _ parts _ (accepted else) _ _ (passed .ensures),
@@ -124,4 +132,5 @@ pass-in-spec =
     same-length-4
     same-length-5
     same-length-6
+    same-length-7
     returns-2)

@@ -1,10 +1,13 @@
 -- `assignment::run` meets its contract: there is room for the file in the places that it lends.
 use borrow.Author.Needs.{needs}
-use mathlib.Core.Path.{refl}
-use native.Mathlib.Omega.{arith}
+use mathlib.Core.Path.{refl, sym, _∙_}
 use Rattle.network.specs.Laws.Decoding.{room-most, room-short}
+use Rattle.assignment.specs.Laws.Places.{small-length, small-curves, curves-most, curves-counted}
 use Rattle.assignment.proofs.running.run.Statement.{statement}
 use Rattle.assignment.proofs.running.run.Tie as tie
+
+is-small-requires : tie.Need-is-small-requires
+is-small-requires c κs = search needs
 
 slice-aggregate-run-in : tie.Need-slice-aggregate-run-in
 slice-aggregate-run-in c = search needs
@@ -12,41 +15,62 @@ slice-aggregate-run-in c = search needs
 slice-aggregate-run-in-2 : tie.Need-slice-aggregate-run-in-2
 slice-aggregate-run-in-2 c = search needs
 
+slice-aggregate-run-in-3 : tie.Need-slice-aggregate-run-in-3
+slice-aggregate-run-in-3 c = search needs
+
 run-in-requires : tie.Need-run-in-requires
-run-in-requires c κs = room-short _ (omega arith) refl refl
+run-in-requires c κs =
+    let small = sym (c .before .before .before .before .before .is-small .ensures) ∙ c .before .before .before .before .if1 .taken in
+    (room-short _ (small-length _ small) refl refl, small-curves _ small)
 
 same-length : tie.Need-same-length
 same-length c = search needs
 
 returns : tie.Need-returns
-returns c = c .before .before .before .before .run-in .ensures
+returns c = c .before .before .before .before .before .run-in .ensures
 
-slice-aggregate-run-in-3 : tie.Need-slice-aggregate-run-in-3
-slice-aggregate-run-in-3 c = search needs
+curve-places-requires : tie.Need-curve-places-requires
+curve-places-requires c κs = search needs
+
+array-borrow-prefix-curves : tie.Need-array-borrow-prefix-curves
+array-borrow-prefix-curves c = rw (c .curve-places .ensures) (curves-most _)
+
+slice-aggregate-curves : tie.Need-slice-aggregate-curves
+slice-aggregate-curves c = curves-counted _ _ refl (c .before .curve-places .ensures)
 
 slice-aggregate-run-in-4 : tie.Need-slice-aggregate-run-in-4
 slice-aggregate-run-in-4 c = search needs
 
+slice-aggregate-run-in-5 : tie.Need-slice-aggregate-run-in-5
+slice-aggregate-run-in-5 c = search needs
+
 run-in-requires-2 : tie.Need-run-in-requires-2
-run-in-requires-2 c κs = room-most _ refl refl
+run-in-requires-2 c κs =
+    let are = c .before .before .before .before .curve-places .ensures in
+    (room-most _ refl refl, sym (curves-counted _ _ refl are) ∙ are)
 
 same-length-2 : tie.Need-same-length-2
 same-length-2 c = search needs
 
 returns-2 : tie.Need-returns-2
-returns-2 c = c .before .before .before .before .run-in2 .ensures
+returns-2 c = c .before .before .before .before .before .run-in2 .ensures
 
 pub run-spec : {M : Type 1} → statement M
 run-spec =
     tie.close
     (tie.spec
+    is-small-requires
     slice-aggregate-run-in
     slice-aggregate-run-in-2
+    slice-aggregate-run-in-3
     run-in-requires
     same-length
     returns
-    slice-aggregate-run-in-3
+    curve-places-requires
+    array-borrow-prefix-curves
+    slice-aggregate-curves
     slice-aggregate-run-in-4
+    slice-aggregate-run-in-5
     run-in-requires-2
     same-length-2
     returns-2)

@@ -62,15 +62,15 @@ abbrev read : tie.Else1 → tie.After-decode
 read c = c .before .before .before .before .before .before .before .before .before
 
 abbrev given : tie.Else1 → tie.Start
-given c = read c .before .before .before .before .before .before .before
+given c = read c .before .before .before .before .before .before .before .before
 
 accepted : (c : tie.Else1) → runNumber (now (given c .args .file)) (now (given c .args .table)) (given c .args .budget) ≡ 0
 accepted c = sym (c .before .run-refusal .ensures) ∙ c .if1 .left
 
 turns-requires : tie.Need-turns-requires
 turns-requires c κs =
-    let else = c .before in
-    (parts-opened (parts-decoded (read else .decode .ensures)) (run-opened _ _ _ (accepted else)), accepted else)
+    let else = c .before .before in
+    ((parts-opened (parts-decoded (read else .decode .ensures)) (run-opened _ _ _ (accepted else)), accepted else), given else .pre .1)
 
 same-length-4 : tie.Need-same-length-4
 same-length-4 c = search needs
@@ -80,6 +80,9 @@ same-length-5 c = search needs
 
 same-length-6 : tie.Need-same-length-6
 same-length-6 c = search needs
+
+same-length-7 : tie.Need-same-length-7
+same-length-7 c = search needs
 
 returns-2 : tie.Need-returns-2
 returns-2 c = search needs
@@ -106,4 +109,5 @@ run-in-spec =
     same-length-4
     same-length-5
     same-length-6
+    same-length-7
     returns-2)

@@ -8,7 +8,7 @@ use mathlib.Core.Path.{_≡_, refl, sym, _∙_, ap}
 use mathlib.Core.Bool.{true, true≢false}
 use mathlib.Core.List.{List}
 use mathlib.Core.Logic.{⊎-elim}
-use lib.ListN.{length, length-replicate}
+use lib.ListN.{length}
 use borrow.Author.Needs.{needs}
 use denote.Ref.{now}
 use Rattle.judging.specs.declared.Step.the-variants as step
@@ -17,19 +17,21 @@ use Rattle.theory.specs.Moves.{started}
 use Rattle.calls.specs.Study.{networkOf}
 use Rattle.calls.specs.Calls.{overwritten}
 use Rattle.calls.specs.Laws.Questions.{run-both}
+use Rattle.travel.specs.Laws.Powers.{link-powers}
 use Rattle.judging.specs.Study.{Study, studyOf, Judgeable}
 use Rattle.judging.specs.Judged.{Known, Lent, TotalsOf}
 use Rattle.judging.specs.Laws.Study.{links-fit, chainable}
 use Rattle.judging.specs.Laws.Judged.{zeros-lent, totals-set, totals-lent, share-fits, holds, totals-within, cost-is, over-is}
 use Rattle.assignment.specs.Runs.{Running, Begun}
 use Rattle.assignment.specs.Laws.Parts.{network-is, parts-sized}
+use Rattle.assignment.specs.Laws.Places.{curve-room, parts-room, run-passed}
 use Rattle.assignment.specs.Laws.Answers.{start-holds}
 use Rattle.assignment.specs.Laws.Runs.{begun-running, run-ready, limit-is, limit-fits, turn-judgeable, turn-runs, still-judgeable, turn-ends}
 use Rattle.assignment.proofs.running.turns.Statement.{statement}
 use Rattle.assignment.proofs.running.turns.Tie as tie
 
 abbrev Inv-loop : tie.InvT-loop
-Inv-loop file nodes links destinations trips table₀ budget excess limit times₀ next₀ volumes₀ flows₀ curves chains judged₀ share₀ guess₀ latest₀ known₀ table times next volumes flows judged share guess latest known =
+Inv-loop file nodes links destinations trips table₀ budget excess curves limit times₀ next₀ volumes₀ flows₀ chains judged₀ share₀ guess₀ latest₀ known₀ table times next volumes flows judged share guess latest known =
     (length table ≡ length table₀)
     × ((before : List ℕ) → Begun file before budget table₀ → Running file before budget excess judged table share)
     × (known ≡ true → Known (studyOf nodes links destinations trips) share times next volumes flows)
@@ -37,12 +39,12 @@ Inv-loop file nodes links destinations trips table₀ budget excess limit times�
     × TotalsOf (studyOf nodes links destinations trips) table flows
 
 abbrev μ-loop : tie.MeasureT-loop
-μ-loop file nodes links destinations trips table₀ budget excess limit times₀ next₀ volumes₀ flows₀ curves chains judged₀ share₀ guess₀ latest₀ known₀ table times next volumes flows judged share guess latest known =
+μ-loop file nodes links destinations trips table₀ budget excess curves limit times₀ next₀ volumes₀ flows₀ chains judged₀ share₀ guess₀ latest₀ known₀ table times next volumes flows judged share guess latest known =
     budget - judged
 
 -- The beginning, from the loop, and the loop, from a turn that is made and from its match.
 abbrev start-of : tie.At-loop Inv-loop μ-loop → tie.Start Inv-loop μ-loop
-start-of c = c .before .before .before .before .before .before .before .before .before .before .before .before .before .before .before .before .before .before .before .before .before .before .before .before
+start-of c = c .before .before .before .before .before .before .before .before .before .before .before .before .before .before .before .before .before .before .before .before .before .before .before .before .before .before .before .before .before
 
 abbrev loop-of : tie.After-turn-table Inv-loop μ-loop → tie.At-loop Inv-loop μ-loop
 loop-of c = c .before .before .before .before .before .before .before .before
@@ -55,75 +57,77 @@ abbrev chained-of : tie.At-loop Inv-loop μ-loop → tie.After-link-chains Inv-l
 chained-of c = first-of c .before .before .before .before .before .before .before .before
 
 abbrev counted-of : tie.At-loop Inv-loop μ-loop → tie.After-total-trips Inv-loop μ-loop
-counted-of c = chained-of c .before .before .before .before .before
+counted-of c = chained-of c .before .before .before .before .before .before .before .before .before
 
 abbrev turn-of : tie.At-match-keys2 Inv-loop μ-loop → tie.After-turn-table Inv-loop μ-loop
 turn-of c = c .before .before .before
 
 total-trips-requires : tie.Need-total-trips-requires Inv-loop μ-loop
 total-trips-requires c κs =
-    let few = parts-sized (c .before .before .before .before .pre .0) in
+    let few = parts-sized (c .before .before .before .before .before .pre .0 .0) in
     omega (arith, few .entries-long, mul-le-mul (few .few-destinations) (few .few-nodes))
 
 mul-limit : tie.Need-mul-limit Inv-loop μ-loop
 mul-limit c =
-    let given = c .before .before .before .before .before in
-    omega (arith, limit-fits (given .pre .0) _ _ (given .args .excess) (given .pre .1) (c .total-trips .ensures) (omega (arith, given .fits .excess)))
+    let given = c .before .before .before .before .before .before in
+    omega (arith, limit-fits (given .pre .0 .0) _ _ (given .args .excess) (given .pre .0 .1) (c .total-trips .ensures) (omega (arith, given .fits .excess)))
 
 put-powers-requires : tie.Need-put-powers-requires Inv-loop μ-loop
-put-powers-requires c κs = length-replicate {A = ℕ} 769 0
+put-powers-requires c κs =
+    let given = c .before .before .before .before .before .before .before .pre in
+    curve-room _ (run-passed _ _ _ (given .0 .1)) (given .1) .room
 
 put-reciprocals-requires : tie.Need-put-reciprocals-requires Inv-loop μ-loop
 put-reciprocals-requires c κs =
-    let given = c .before .before .before .before .before .before .before .before .pre in
-    (links-fit (run-ready (given .0) _ _ 0 (given .1)), c .before .put-powers .ensures)
+    let given = c .before .before .before .before .before .before .before .before .before .before .before .pre in
+    (links-fit (run-ready (given .0 .0) _ _ 0 (given .0 .1)), link-powers (parts-room (given .0 .0) (run-passed _ _ _ (given .0 .1)) (given .1)) (c .before .before .before .put-powers .ensures))
 
 link-chains-requires : tie.Need-link-chains-requires Inv-loop μ-loop
 link-chains-requires c κs =
-    let given = c .before .before .before .before .before .before .before .before .before .pre in
-    chainable (run-ready (given .0) _ _ 0 (given .1))
+    let given = c .before .before .before .before .before .before .before .before .before .before .before .before .before .before .pre in
+    chainable (run-ready (given .0 .0) _ _ 0 (given .0 .1))
 
 start-table-requires : tie.Need-start-table-requires Inv-loop μ-loop
 start-table-requires c κs =
     let chained = c .before .before .before .before .before .before .before in
-    let given = chained .before .before .before .before .before .before .before .before .before .before .pre in (
-      (run-ready (given .0) _ _ 0 (given .1), record { chains-are = chained .link-chains .ensures; powers-are = chained .before .put-reciprocals .ensures .powers }),
-      (start-holds _ _ (given .0) (run-both _ _ _ (given .1) .0), (zeros-lent _ refl refl refl refl, refl)),
+    let given = chained .before .before .before .before .before .before .before .before .before .before .before .before .before .before .before .pre in (
+      (run-ready (given .0 .0) _ _ 0 (given .0 .1), record { chains-are = chained .link-chains .ensures; powers-are = chained .before .before .before .put-reciprocals .ensures .0 .powers }),
+      (start-holds _ _ (given .0 .0) (run-both _ _ _ (given .0 .1) .0), (zeros-lent _ refl refl refl refl, refl)),
     )
 
 -- What the start left.
 abbrev from-start : tie.After-start-table Inv-loop μ-loop → tie.Start Inv-loop μ-loop
-from-start c = c .before .before .before .before .before .before .before .before .before .before .before .before .before .before .before .before .before .before
+from-start c = c .before .before .before .before .before .before .before .before .before .before .before .before .before .before .before .before .before .before .before .before .before .before .before
 
 begun :
     (c : tie.After-start-table Inv-loop μ-loop) →
     Begun (now (from-start c .args .file)) (now (from-start c .args .table)) (from-start c .args .budget) (c .start-table .last .1 .1 .1 .1 .1 .1 .0)
 begun c =
     record {
-      accepted = from-start c .pre .1;
+      accepted = from-start c .pre .0 .1;
       started =
           c .start-table .ensures .0
-          ∙ ap (λ g. overwritten (started g .table) (now (from-start c .args .table))) (network-is (from-start c .pre .0));
+          ∙ ap (λ g. overwritten (started g .table) (now (from-start c .args .table))) (network-is (from-start c .pre .0 .0));
     }
 
 -- The limit is excess × T.
 limit-there :
     (c : tie.After-total-trips Inv-loop μ-loop) →
-    c .before .before .before .before .before .args .excess * c .total-trips .result
-    ≡ c .before .before .before .before .before .args .excess * totalTrips (networkOf (now (c .before .before .before .before .before .args .file)))
+    c .before .before .before .before .before .before .args .excess * c .total-trips .result
+    ≡ c .before .before .before .before .before .before .args .excess * totalTrips (networkOf (now (c .before .before .before .before .before .before .args .file)))
 limit-there c =
-    let given = c .before .before .before .before .before in
-    limit-is (given .pre .0) (now (given .args .table)) (given .args .budget) (given .args .excess) (given .pre .1) (c .total-trips .ensures)
+    let given = c .before .before .before .before .before .before in
+    limit-is (given .pre .0 .0) (now (given .args .table)) (given .args .budget) (given .args .excess) (given .pre .0 .1) (c .total-trips .ensures)
 
 write-totals-requires : tie.Need-write-totals-requires Inv-loop μ-loop
 write-totals-requires c κs =
     let first = c .before .before .before .before in
     let given = from-start first in
-    let study = run-ready (given .pre .0) _ _ 0 (given .pre .1) in (
+    let study = run-ready (given .pre .0 .0) _ _ 0 (given .pre .0 .1) in (
       study .few-destinations,
       study .few-links,
       holds
-          (turn-judgeable (given .pre .0) _ _ (given .args .excess) (given .pre .1) _ 0 _ 1 (limit-there (first .before .before .before .before .before .before .before .before .before .before .before .before .before)) (begun-running _ _ _ _ (begun first))),
+          (turn-judgeable (given .pre .0 .0) _ _ (given .args .excess) (given .pre .0 .1) _ 0 _ 1 (limit-there (first .before .before .before .before .before .before .before .before .before .before .before .before .before .before .before .before .before)) (begun-running _ _ _ _ (begun first))),
       first .start-table .ensures .1 .1,
     )
 
@@ -158,7 +162,7 @@ study c =
 judgeable : (c : tie.At-loop Inv-loop μ-loop) → Judgeable (study c) (c .loop .table) (c .loop .share)
 judgeable c =
     let given = start-of c in
-    turn-judgeable (given .pre .0) _ _ (given .args .excess) (given .pre .1) _ _ _ _ (limit-there (counted-of c)) (under-way c)
+    turn-judgeable (given .pre .0 .0) _ _ (given .args .excess) (given .pre .0 .1) _ _ _ _ (limit-there (counted-of c)) (under-way c)
 
 add-judged : tie.Need-add-judged Inv-loop μ-loop
 add-judged c = omega (arith, under-way c .within, start-of c .fits .budget)
@@ -169,11 +173,11 @@ turn-table-requires c κs =
     let given = start-of loop in
     let inv = loop .loop .inv in
     let chained = chained-of loop in (
-      (judgeable loop, record { chains-are = chained .link-chains .ensures; powers-are = chained .before .put-reciprocals .ensures .powers }, chained .before .put-reciprocals .ensures),
+      (judgeable loop, record { chains-are = chained .link-chains .ensures; powers-are = chained .before .before .before .put-reciprocals .ensures .0 .powers }, chained .before .before .before .put-reciprocals .ensures .0),
       (
         inv .3,
         record {
-          limit-fits = limit-fits (given .pre .0) _ _ _ (given .pre .1) (counted-of loop .total-trips .ensures) (omega (arith, given .fits .excess));
+          limit-fits = limit-fits (given .pre .0 .0) _ _ _ (given .pre .0 .1) (counted-of loop .total-trips .ensures) (omega (arith, given .fits .excess));
           totals-are = inv .4;
           known = inv .2;
         },
@@ -200,7 +204,7 @@ still c =
     let turn = turn-of c in
     let loop = loop-of turn in
     let given = start-of loop in
-    still-judgeable (given .pre .0) _ _ (given .args .excess) (given .pre .1) _ _ _ _ (limit-there (counted-of loop)) (under-way loop) refl refl refl
+    still-judgeable (given .pre .0 .0) _ _ (given .args .excess) (given .pre .0 .1) _ _ _ _ (limit-there (counted-of loop)) (under-way loop) refl refl refl
     (turn .turn-table .ensures .0)
     (stays c)
 
@@ -208,10 +212,10 @@ cost-requires : tie.Need-cost-requires Inv-loop μ-loop
 cost-requires c κs =
     let matched = c .before .before in
     let turn = turn-of matched in
-    let raised = chained-of (loop-of turn) .before in
+    let raised = chained-of (loop-of turn) .before .before .before in
     let known = still matched in (
       (links-fit (known .ready), share-fits known, totals-within known (turn .turn-table .ensures .1 .totals-are)),
-      raised .put-reciprocals .ensures .powers,
+      raised .put-reciprocals .ensures .0 .powers,
     )
 
 ended-requires : tie.Need-ended-requires Inv-loop μ-loop
@@ -223,6 +227,11 @@ same-length c =
     let loop = loop-of (table2 .before) in
     table2 .table2 .given ∙ loop .loop .inv .0 ∙ loop .before .before .before .before .before .table .given
 
+same-length-2 : tie.Need-same-length-2 Inv-loop μ-loop
+same-length-2 c =
+    let put = chained-of (loop-of (c .before .before .before .before .before .before .before)) .before .before .before in
+    put .put-reciprocals .ensures .1 ∙ put .before .before .before .before .put-powers .ensures .1
+
 returns : tie.Need-returns Inv-loop μ-loop
 returns c =
     let matched = c .before .before .before .before in
@@ -230,7 +239,7 @@ returns c =
     let loop = loop-of turn in
     let given = start-of loop in
     let left = turn .turn-table .ensures .1 in
-    turn-ends (given .pre .0) _ _ (given .args .excess) (given .pre .1) _ _ _ _ (limit-there (counted-of loop)) (under-way loop) refl refl refl
+    turn-ends (given .pre .0 .0) _ _ (given .args .excess) (given .pre .0 .1) _ _ _ _ (limit-there (counted-of loop)) (under-way loop) refl refl refl
     (turn .turn-table .ensures .0)
     (stays matched)
     (c .before .cost .ensures .0 ∙ cost-is (still matched) (left .totals-are))
@@ -255,7 +264,7 @@ loop-again c =
     let left = turn .ensures .1 in (
       turn .kept .1 .1 .1 .1 .1 .1 .1 .1 .1 .1 .0 ∙ loop .loop .inv .0,
       λ before begun′.
-          turn-runs (given .pre .0) before _ _ (begun′ .accepted) _ _ _ _ (limit-there (counted-of loop)) (loop .loop .inv .1 before begun′) refl refl refl
+          turn-runs (given .pre .0 .0) before _ _ (begun′ .accepted) _ _ _ _ (limit-there (counted-of loop)) (loop .loop .inv .1 before begun′) refl refl refl
           (turn .ensures .0)
           (c .before .enum-told .given .1),
       left .known,
@@ -285,6 +294,7 @@ turns-spec =
     cost-requires
     ended-requires
     same-length
+    same-length-2
     returns
     wrapping-sub-u32-requires
     loop-less

@@ -2,7 +2,6 @@
 use Prim.Native.Nat.{ℕ}
 use native.Mathlib.Omega.{arith}
 use mathlib.Core.Path.{_≡_, refl, sym, _∙_}
-use lib.ListN.{length-replicate}
 use borrow.Author.Needs.{needs}
 use denote.Ref.{now}
 use Rattle.calls.specs.Calls.{startNumber}
@@ -10,6 +9,8 @@ use Rattle.calls.specs.Laws.Calls.{start-kept}
 use Rattle.network.specs.Laws.Decoding.{trips-few, links-counted, destinations-counted, trips-counted}
 use Rattle.judging.specs.Laws.Judged.{zeros-lent}
 use Rattle.judging.specs.Laws.Study.{chainable}
+use Rattle.travel.specs.Laws.Powers.{link-powers}
+use Rattle.assignment.specs.Laws.Places.{curve-room, parts-room, start-passed}
 use Rattle.assignment.specs.Laws.Parts.{parts-decoded}
 use Rattle.assignment.specs.Laws.Answers.{start-ready, start-holds, start-leaves}
 use Rattle.assignment.proofs.starting.start_in.Statement.{statement}
@@ -61,25 +62,28 @@ abbrev read : tie.Else1 → tie.After-decode
 read c = c .before .before .before .before .before .before .before .before .before
 
 abbrev given : tie.Else1 → tie.Start
-given c = read c .before .before .before .before .before .before .before
+given c = read c .before .before .before .before .before .before .before .before
 
 accepted : (c : tie.Else1) → startNumber (now (given c .args .file)) (now (given c .args .table)) ≡ 0
 accepted c = sym (c .before .start-refusal .ensures) ∙ c .if1 .left
 
 put-powers-requires : tie.Need-put-powers-requires
-put-powers-requires c κs = length-replicate {A = ℕ} 769 0
+put-powers-requires c κs =
+    let else = c .before in
+    curve-room _ (start-passed _ _ (accepted else)) (given else .pre .1) .room
 
 link-chains-requires : tie.Need-link-chains-requires
 link-chains-requires c κs =
-    let else = c .before .before in
+    let else = c .before .before .before .before in
     chainable (start-ready _ _ (parts-decoded (read else .decode .ensures)) (accepted else))
 
 start-table-requires : tie.Need-start-table-requires
 start-table-requires c κs =
     let chained = c .before .before .before .before .before .before .before in
-    let else = chained .before .before .before in
+    let put = chained .before .before .before in
+    let else = put .before .before in
     let parts = parts-decoded (read else .decode .ensures) in (
-      (start-ready _ _ parts (accepted else), record { chains-are = chained .link-chains .ensures; powers-are = chained .before .put-powers .ensures }),
+      (start-ready _ _ parts (accepted else), record { chains-are = chained .link-chains .ensures; powers-are = link-powers (parts-room parts (start-passed _ _ (accepted else)) (given else .pre .1)) (put .put-powers .ensures) }),
       (start-holds _ _ parts (accepted else), (zeros-lent _ refl refl refl refl, refl)),
     )
 
@@ -92,9 +96,12 @@ same-length-5 c = search needs
 same-length-6 : tie.Need-same-length-6
 same-length-6 c = search needs
 
+same-length-7 : tie.Need-same-length-7
+same-length-7 c = search needs
+
 returns-2 : tie.Need-returns-2
 returns-2 c =
-    let else = c .before .before .before .before .before .before .before .before .before .before .before .before .before in
+    let else = c .before .before .before .before .before .before .before .before .before .before .before .before .before .before .before in
     (sym (accepted else), start-leaves _ _ (parts-decoded (read else .decode .ensures)) _ (accepted else) (c .before .before .start-table .ensures .0))
 
 pub start-in-spec : {M : Type 1} → statement M
@@ -120,4 +127,5 @@ start-in-spec =
     same-length-4
     same-length-5
     same-length-6
+    same-length-7
     returns-2)

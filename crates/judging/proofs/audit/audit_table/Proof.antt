@@ -2,7 +2,9 @@
 use Prim.Native.Nat.{ℕ, _*_, _-_, _≤_}
 use native.Mathlib.Omega.{arith}
 use mathlib.Core.Path.{_∙_, ap, ap₂}
-use lib.ListN.{length, length-replicate}
+use lib.ListN.{length}
+use borrow.Author.Needs.{needs}
+use Rattle.travel.specs.Laws.Powers.{link-powers}
 use Rattle.travel.specs.Laws.Padded.{zeros-clear}
 use Rattle.judging.specs.Laws.Study.{links-fit, chainable, searchable}
 use Rattle.judging.specs.Laws.Judged.{share-fits, totals-within, cost-is, over-is, least-fits, defined-gap}
@@ -11,10 +13,10 @@ use Rattle.judging.proofs.audit.audit_table.Tie as tie
 
 -- The places at which the powers, times, the chain, least times and the times spent are there, each with the one before.
 abbrev of-powers : tie.After-put-powers → tie.Start
-of-powers c = c .before .before .before .before .before
+of-powers c = c .before .before .before .before .before .before
 
 abbrev of-times : tie.After-times2 → tie.After-put-powers
-of-times c = c .before .before .before
+of-times c = c .before .before .before .before .before
 
 abbrev of-least : tie.After-least-times → tie.After-into-chain
 of-least c = c .before .before .before
@@ -23,14 +25,14 @@ abbrev of-spent : tie.After-product → tie.After-least-times
 of-spent c = c .before .before
 
 put-powers-requires : tie.Need-put-powers-requires
-put-powers-requires c κs = length-replicate {A = ℕ} 769 0
+put-powers-requires c κs = search needs
 
 times-requires : tie.Need-times-requires
-times-requires c κs = let at = c .before .before in
+times-requires c κs = let at = c .before .before .before .before in
     let start = of-powers at in
     let given = start .pre .0 in (
-      (links-fit (given .ready), share-fits given, totals-within given (of-powers at .pre .1)),
-      (at .put-powers .ensures, zeros-clear (length (start .args .links .now))),
+      (links-fit (given .ready), share-fits given, totals-within given (of-powers at .pre .1 .0)),
+      (link-powers (start .pre .1 .1) (at .put-powers .ensures), zeros-clear (length (start .args .links .now))),
     )
 
 into-chain-requires : tie.Need-into-chain-requires
@@ -46,7 +48,7 @@ product-requires : tie.Need-product-requires
 product-requires c κs = let timed = of-least (c .before) .before in
     let at = of-times timed in
     let given = of-powers at .pre .0 in
-    (given .ready .few-links, timed .times2 .ensures .1 .times-fit, totals-within given (of-powers at .pre .1))
+    (given .ready .few-links, timed .times2 .ensures .1 .times-fit, totals-within given (of-powers at .pre .1 .0))
 
 -- W × the least times are at most the times spent.
 least :
@@ -57,7 +59,7 @@ least c =
     let timed = of-least found .before in
     let at = of-times timed in
     let given = of-powers at .pre .0 in
-    let most = least-fits given (of-powers at .pre .1) (timed .times2 .ensures .0) (timed .times2 .ensures .1) in
+    let most = least-fits given (of-powers at .pre .1 .0) (timed .times2 .ensures .0) (timed .times2 .ensures .1) in
     let e = found .least-times .ensures in
     let f = c .product .ensures in
     omega (arith, ap (λ x. of-powers at .args .share * x) e)
@@ -71,9 +73,12 @@ sub-gap c = least c
 cost-requires : tie.Need-cost-requires
 cost-requires c κs = let at = of-times (of-least (of-spent (c .before)) .before) in
     let given = of-powers at .pre .0 in (
-      (links-fit (given .ready), share-fits given, totals-within given (of-powers at .pre .1)),
-      at .put-powers .ensures,
+      (links-fit (given .ready), share-fits given, totals-within given (of-powers at .pre .1 .0)),
+      link-powers (of-powers at .pre .1 .1) (at .put-powers .ensures),
     )
+
+same-length : tie.Need-same-length
+same-length c = search needs
 
 returns : tie.Need-returns
 returns c = let spent = c .before .before in
@@ -85,9 +90,9 @@ returns c = let spent = c .before .before in
     record {
       gap-is =
           ap₂ (λ a b. a - share * b) (spent .product .ensures) (found .least-times .ensures)
-          ∙ defined-gap given (of-powers at .pre .1) (timed .times2 .ensures .0) (timed .times2 .ensures .1);
-      cost-is = c .cost .ensures .0 ∙ cost-is given (of-powers at .pre .1);
-      over-is = c .cost .ensures .1 ∙ over-is given (of-powers at .pre .1);
+          ∙ defined-gap given (of-powers at .pre .1 .0) (timed .times2 .ensures .0) (timed .times2 .ensures .1);
+      cost-is = c .cost .ensures .0 ∙ cost-is given (of-powers at .pre .1 .0);
+      over-is = c .cost .ensures .1 ∙ over-is given (of-powers at .pre .1 .0);
     }
 
 pub audit-table-spec : {M : Type 1} → statement M
@@ -102,4 +107,5 @@ audit-table-spec =
     mul-gap
     sub-gap
     cost-requires
+    same-length
     returns)

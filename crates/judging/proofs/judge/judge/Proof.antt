@@ -11,7 +11,7 @@ use Rattle.judging.proofs.judge.judge.Tie as tie
 
 -- The places at which times and next links are there, each with the one before.
 abbrev of-times : tie.After-times → tie.Start
-of-times c = c .before .before .before .before .before .before
+of-times c = c .before .before .before .before .before .before .before
 
 abbrev of-next : tie.After-next-table → tie.After-times
 of-next c = c .before .before .before
@@ -20,14 +20,14 @@ abbrev of-load : tie.After-load → tie.After-next-table
 of-load c = c .before .before .before .before
 
 returns : tie.Need-returns
-returns c = let given = c .before .before .before .pre in
+returns c = let given = c .before .before .before .before .pre in
     record { known = given .1 .0 (c .if1 .taken); totals-kept = refl }
 
 index-1-times : tie.Need-index-1-times
 index-1-times c = search needs
 
 times-requires : tie.Need-times-requires
-times-requires c κs = let ((ready, shared, prepared), (known, (lent, fit))) = c .before .before .before .before .before .pre in
+times-requires c κs = let ((ready, shared, prepared), (known, (lent, fit))) = c .before .before .before .before .before .before .pre in
     ((links-fit ready, shared, fit), (prepared .powers-are, lent .times-clear))
 
 next-table-requires : tie.Need-next-table-requires

@@ -1,10 +1,10 @@
 -- `pass_table` meets its contract: the table is judged by what is computed of it, and moved by the chosen j.
-use Prim.Native.Nat.{ℕ}
 use mathlib.Core.Path.{refl, _∙_, ap}
 use mathlib.Core.List.{[]}
-use lib.ListN.{length, getD, length-replicate}
+use lib.ListN.{length, getD}
 use borrow.Author.Needs.{needs}
 use Rattle.theory.specs.Laws.Cases.{true-false}
+use Rattle.travel.specs.Laws.Powers.{link-powers}
 use Rattle.calls.specs.Calls.{shareAfter, tableAfter}
 use Rattle.judging.specs.Study.{studyOf}
 use Rattle.judging.specs.Judged.{TotalsOf}
@@ -15,10 +15,10 @@ use Rattle.judging.proofs.pass.pass_table.Tie as tie
 
 -- The places at which powers and reciprocals, what judging computes, the gap, j and the moved table are there, each with the one before.
 abbrev start : tie.After-put-reciprocals → tie.Start
-start c = c .before .before .before .before .before .before .before .before
+start c = c .before .before .before .before .before .before .before .before .before .before .before
 
 abbrev of-judge : tie.After-judge → tie.After-put-reciprocals
-of-judge c = c .before .before .before .before .before .before .before
+of-judge c = c .before .before .before .before .before .before .before .before .before
 
 abbrev of-gap : tie.After-gap-of → tie.After-judge
 of-gap c = c .before .before .before
@@ -33,26 +33,27 @@ of-moved c = c .before .before .before .before .before
 totals-were :
     (c : tie.Start) →
     let x = c .args in TotalsOf (studyOf (x .nodes) (x .links .now) (x .destinations .now) (x .trips .now)) (x .table .now) (x .flows .now)
-totals-were c = ap (λ rows. getD rows 0 []) (c .pre .1)
+totals-were c = ap (λ rows. getD rows 0 []) (c .pre .1 .0)
 
 link-chains-requires : tie.Need-link-chains-requires
-link-chains-requires c κs = chainable (c .before .before .before .pre .0 .ready)
+link-chains-requires c κs = chainable (c .before .before .before .before .pre .0 .ready)
 
 put-powers-requires : tie.Need-put-powers-requires
-put-powers-requires c κs = length-replicate {A = ℕ} 769 0
+put-powers-requires c κs = search needs
 
 put-reciprocals-requires : tie.Need-put-reciprocals-requires
 put-reciprocals-requires c κs =
-    (links-fit (c .before .before .before .before .before .before .before .pre .0 .ready), c .before .put-powers .ensures)
+    let begin = c .before .before .before .before .before .before .before .before .before .before in
+    (links-fit (begin .pre .0 .ready), link-powers (begin .pre .1 .1) (c .before .before .before .put-powers .ensures))
 
 judge-requires : tie.Need-judge-requires
-judge-requires c κs = let at = c .before .before .before .before .before .before in
+judge-requires c κs = let at = c .before .before .before .before .before .before .before .before in
     let begin = start at in
-    let (given, lent) = begin .pre in (
+    let (given, (lent, room)) = begin .pre in (
       (
         given .ready,
         share-fits given,
-        record { chains-are = at .before .before .before .before .link-chains .ensures; powers-are = at .put-reciprocals .ensures .powers },
+        record { chains-are = at .before .before .before .before .before .before .link-chains .ensures; powers-are = at .put-reciprocals .ensures .0 .powers },
       ),
       (
         λ e. true-false e refl,
@@ -71,7 +72,7 @@ gap-of-requires c κs = let judged = c .before .before in
 chosen-requires : tie.Need-chosen-requires
 chosen-requires c κs = let judged = of-gap (c .before .before) in
     let at = of-judge judged in
-    (move-fits (start at .pre .0) (judged .judge .ensures) (totals-were (start at)), at .put-reciprocals .ensures)
+    (move-fits (start at .pre .0) (judged .judge .ensures) (totals-were (start at)), at .put-reciprocals .ensures .0)
 
 can-move-requires : tie.Need-can-move-requires
 can-move-requires c κs = start (of-judge (of-gap (of-chosen c))) .pre .0 .share-most
@@ -85,6 +86,11 @@ move-table-requires c κs = let chose = c .before .before .before .before in
 same-length : tie.Need-same-length
 same-length c = search needs
 
+same-length-2 : tie.Need-same-length-2
+same-length-2 c =
+    let at = of-judge (of-gap (of-chosen (of-moved (c .before .before .before .before .before)))) in
+    at .put-reciprocals .ensures .1 ∙ at .before .before .before .before .put-powers .ensures .1
+
 index-1-cost : tie.Need-index-1-cost
 index-1-cost c = search needs
 
@@ -92,7 +98,7 @@ cost-requires : tie.Need-cost-requires
 cost-requires c κs = let judged = of-gap (of-chosen (of-moved (c .before .before .before .before))) in
     let at = of-judge judged in
     let given = start at .pre .0 in
-    ((links-fit (given .ready), share-fits given, totals-within given (totals-are given (judged .judge .ensures) (totals-were (start at)))), at .put-reciprocals .ensures .powers)
+    ((links-fit (given .ready), share-fits given, totals-within given (totals-are given (judged .judge .ensures) (totals-were (start at)))), at .put-reciprocals .ensures .0 .powers)
 
 returns : tie.Need-returns
 returns c = let moved = c .before .before .before .before .before in
@@ -129,4 +135,5 @@ pass-table-spec =
     index-1-cost
     cost-requires
     same-length
+    same-length-2
     returns)

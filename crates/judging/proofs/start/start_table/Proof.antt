@@ -11,14 +11,14 @@ use Rattle.judging.proofs.start.start_table.Tie as tie
 
 -- The places at which what judging computes is there and the table is emptied, each with the one before.
 abbrev of-judge : tie.After-judge → tie.Start
-of-judge c = c .before .before .before .before .before .before .before .before
+of-judge c = c .before .before .before .before .before .before .before .before .before
 
 abbrev of-emptied : tie.After-empty-flows → tie.After-judge
 of-emptied c = c .before .before
 
 judge-requires : tie.Need-judge-requires
 judge-requires c κs =
-    let ((ready, prepared), (holds, (lent, none))) = c .before .before .before .before .before .before .before .pre in (
+    let ((ready, prepared), (holds, (lent, none))) = c .before .before .before .before .before .before .before .before .pre in (
       (ready, record { some-share = search needs; share-fits = search needs }, prepared),
       (λ e. true-false e refl, (lent, no-flows-within none)),
     )

@@ -20,7 +20,7 @@ use Rattle.judging.proofs.turns.turn_table.Tie as tie
 
 -- The place at which what judging computes is there, and what is given at the start.
 abbrev start : tie.After-judge → tie.Start
-start c = c .before .before .before .before .before .before .before .before
+start c = c .before .before .before .before .before .before .before .before .before
 
 -- The places at which the gap is there, is too large, j is there, and it is known that there is a move.
 abbrev of-gap : tie.After-gap-of → tie.After-judge
@@ -72,7 +72,7 @@ can-move-yes c = was-yes (c .before .can-move .ensures) (c .if2 .left)
 
 judge-requires : tie.Need-judge-requires
 judge-requires c κs =
-    let ((judgeable, prepared, curves), (lent, stands)) = c .before .before .before .before .before .before .before .pre in
+    let ((judgeable, prepared, curves), (lent, stands)) = c .before .before .before .before .before .before .before .before .pre in
     ((judgeable .ready, share-fits judgeable, prepared), (stands .known, (lent, totals-within judgeable (stands .totals-are))))
 
 gap-of-requires : tie.Need-gap-of-requires

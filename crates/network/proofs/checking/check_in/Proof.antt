@@ -1,8 +1,9 @@
 -- `network::check_in` meets its contract: questions 1 to 5 of the file, and then those of its study.
 use borrow.Author.Needs.{needs}
+use borrow.Author.Tests.{ltb-true}
 use mathlib.Core.Path.{sym, _∙_}
 use native.Mathlib.Omega.{arith}
-use Rattle.network.specs.Laws.Decoding.{trips-few, links-counted, destinations-counted, trips-counted, decoded-sized, decoded-closed}
+use Rattle.network.specs.Laws.Decoding.{trips-few, links-counted, destinations-counted, trips-counted, decoded-sized, decoded-closed, decoded-fourth}
 use Rattle.network.specs.Laws.Checking.{check-refused, check-decoded}
 use Rattle.network.proofs.checking.check_in.Statement.{statement}
 use Rattle.network.proofs.checking.check_in.Tie as tie
@@ -49,10 +50,17 @@ slice-reshare-prefix-study-refusal-2 c = read (c .before .before .before .before
 slice-aggregate-study-refusal-3 : tie.Need-slice-aggregate-study-refusal-3
 slice-aggregate-study-refusal-3 c = trips-counted (read (c .before .before .before .before .before) .decode .ensures)
 
+link-size-requires : tie.Need-link-size-requires
+link-size-requires c κs =
+    let decoded = read (c .before .before .before .before .before) .decode .ensures in
+    sym (decoded .refusal-is) ∙ c .before .before .before .before .if1 .left
+
 study-refusal-requires : tie.Need-study-refusal-requires
 study-refusal-requires c κs =
-    let decoded = read (c .before .before .before .before .before) .decode .ensures in
-    (decoded-sized decoded, rw (c .before .accepted-section .ensures) (decoded-closed decoded))
+    let decoded = read (c .before .before .before .before .before .before) .decode .ensures in (
+      (decoded-sized decoded, rw (c .before .before .accepted-section .ensures) (decoded-closed decoded)),
+      λ short. decoded-fourth decoded (rw (c .link-size .ensures) at (ltb-true (c .link-size .result) 12 short)),
+    )
 
 same-length-3 : tie.Need-same-length-3
 same-length-3 c = search needs
@@ -62,8 +70,8 @@ same-length-4 c = search needs
 
 returns-2 : tie.Need-returns-2
 returns-2 c =
-    let else = c .before .before .before .before .before in
-    check-decoded (read (else .before) .decode .ensures) (else .if1 .left) (c .before .before .accepted-section .ensures) (c .study-refusal .ensures)
+    let else = c .before .before .before .before .before .before in
+    check-decoded (read (else .before) .decode .ensures) (else .if1 .left) (c .before .before .before .accepted-section .ensures) (c .study-refusal .ensures)
 
 pub check-in-spec : {M : Type 1} → statement M
 check-in-spec =
@@ -81,6 +89,7 @@ check-in-spec =
     accepted-section-requires
     slice-reshare-prefix-study-refusal-2
     slice-aggregate-study-refusal-3
+    link-size-requires
     study-refusal-requires
     same-length-3
     same-length-4

@@ -51,27 +51,30 @@ accepted-section-requires-3 c κs = (opened (c .before .before .before .before .
 accepted-section-requires-4 : tie.Need-accepted-section-requires-4
 accepted-section-requires-4 c κs = (opened (c .before .before .before .before .before .before), search needs)
 
+link-size-requires : tie.Need-link-size-requires
+link-size-requires c κs = opened (c .before .before .before .before .before .before .before)
+
 decode-links-requires : tie.Need-decode-links-requires
 decode-links-requires c κs =
-    let parted = c .before in
+    let parted = c .before .before in
     let after = parted .before .before .before .before in
-    (room-links (counted after) (start after .pre .0), links-there (counted after) (parted .before .before .before .accepted-section .ensures))
+    (room-links (counted after) (start after .pre .0), rw (c .before .link-size .ensures) (links-there (counted after) (parted .before .before .before .accepted-section .ensures)))
 
 decode-closed-requires : tie.Need-decode-closed-requires
 decode-closed-requires c κs =
     let held = c .before .before .decode-links .ensures in
-    let after = c .before .before .before .before .before .before .before .before in
+    let after = c .before .before .before .before .before .before .before .before .before in
     (rw (held .long) (room-links (counted after) (start after .pre .0)), holds-own _ held)
 
 decode-destinations-requires : tie.Need-decode-destinations-requires
 decode-destinations-requires c κs =
-    let parted = c .before .before .before .before .before .before .before in
+    let parted = c .before .before .before .before .before .before .before .before in
     let after = parted .before .before .before .before in
     (counted after .destinations-most, destinations-there (counted after) (parted .before .before .accepted-section2 .ensures), start after .pre .1)
 
 decode-trips-requires : tie.Need-decode-trips-requires
 decode-trips-requires c κs =
-    let parted = c .before .before .before .before .before .before .before .before .before in
+    let parted = c .before .before .before .before .before .before .before .before .before .before in
     let after = parted .before .before .before .before in
     (room-entries (counted after) (start after .pre .0), trips-there (counted after) (parted .before .accepted-section3 .ensures))
 
@@ -83,9 +86,10 @@ same-length-2 c = search needs
 
 returns-2 : tie.Need-returns-2
 returns-2 c =
-    let parted = c .before .before .before .before .before .before .before .before .before .before .before .before in
+    let sized = c .before .before .before .before .before .before .before .before .before .before .before .before in
+    let parted = sized .before in
     let after = parted .before .before .before .before in
-    let rows = rw (c .before .before .before .before .before .before .before .before .before .before .decode-links .ensures .long) at (c .before .before .before .before .before .before .before .decode-closed .ensures) in
+    let rows = rw (sized .link-size .ensures, c .before .before .before .before .before .before .before .before .before .before .decode-links .ensures .long) at (c .before .before .before .before .before .before .before .decode-closed .ensures) in
     decoded _ _ (start after .pre .0) (after .before .before .before .before .refusal .ensures) (counted after) (parted .before .before .before .accepted-section .ensures)
     (parted .before .before .accepted-section2 .ensures) (parted .before .accepted-section3 .ensures) (parted .accepted-section4 .ensures) rows
     (c .before .before .before .before .decode-destinations .ensures) (c .before .before .decode-trips .ensures)
@@ -103,6 +107,7 @@ decode-spec =
     accepted-section-requires-2
     accepted-section-requires-3
     accepted-section-requires-4
+    link-size-requires
     decode-links-requires
     decode-closed-requires
     decode-destinations-requires

@@ -18,7 +18,7 @@ form-of-requires c κs = search needs
 fits : (c : tie.After-form-of) →
     let x = c .before .args in
     let form = c .form-of .result in
-    (form .header ≤ 40) × (form .link * x .m ≡ 10 * x .m) × (2 * x .p * x .n ≤ 8192)
+    (form .header ≤ 40) × (form .link * x .m ≤ 6144) × (2 * x .p * x .n ≤ 8192)
 fits c =
     let (header, trips, closed) = places-fit (c .before .pre .0) (c .before .pre .1 .0) (c .before .pre .1 .1) (c .before .pre .1 .2) in
     let links = link-size (c .before .pre .0) (c .before .pre .1 .0) (c .before .pre .1 .1) (c .before .pre .1 .2) in

@@ -37,16 +37,16 @@ element-copy-out-flow c = search needs
 volume-of-requires : tie.Need-volume-of-requires Inv-loop μ-loop
 volume-of-requires c κs =
     let turn = c .before .before in
-    let pre = turn .before .before .before .pre .0 in
+    let pre = turn .before .before .before .before .pre .0 in
     let within = turn .loop-test .taken in
     (pre .share-fits .some-share, pre .flows-fit _ within, pre .line _ within .volume-most)
 
 link-time-requires : tie.Need-link-time-requires Inv-loop μ-loop
 link-time-requires c κs =
     let turn = c .before .before .before in
-    let pre = turn .before .before .before .pre in
+    let pre = turn .before .before .before .before .pre in
     let within = turn .loop-test .taken in
-    (pre .0 .links-fit .link _ within, pre .0 .share-fits, pre .0 .flows-fit _ within, pre .1)
+    (pre .0 .links-fit .link _ within, pre .0 .share-fits, pre .0 .flows-fit _ within, pre .1 .powers, pre .1 .has-list _ within)
 
 cast-time : tie.Need-cast-time Inv-loop μ-loop
 cast-time c = search needs
@@ -62,7 +62,7 @@ unfolding listTime
 put-line-requires c κs =
     let timed = c .before .before in
     let turn = timed .before .before .before .before in
-    let pre = turn .before .before .before .pre .0 in (
+    let pre = turn .before .before .before .before .pre .0 in (
       rw (timed .before .volume-of .ensures, timed .link-time .ensures .0) (pre .line _ (turn .loop-test .taken)),
       omega (arith, puts.same-length (turn .before .loop .inv .2)),
     )
@@ -87,7 +87,7 @@ same-length c = puts.same-length (c .before .loop .inv .2)
 
 returns : tie.Need-returns Inv-loop μ-loop
 returns c =
-    let all : c .before .loop .l ≡ length (c .before .before .before .args .links .now) = omega arith in
+    let all : c .before .loop .l ≡ length (c .before .before .before .before .args .links .now) = omega arith in
     rw all at (c .before .loop .inv .2)
 
 pub put-lines-spec : {M : Type 1} → statement M

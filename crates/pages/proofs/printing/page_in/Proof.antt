@@ -5,8 +5,11 @@ use borrow.Author.Needs.{needs}
 use denote.Ref.{now}
 use Rattle.calls.specs.Calls.{pageNumber}
 use Rattle.calls.specs.Laws.Calls.{page-kept}
+use Rattle.calls.specs.Laws.Questions.{Passed}
 use Rattle.network.specs.Laws.Decoding.{decoded-counts, trips-few, links-counted, destinations-counted, trips-counted}
+use Rattle.travel.specs.Laws.Powers.{link-powers}
 use Rattle.assignment.specs.Laws.Parts.{parts-decoded}
+use Rattle.assignment.specs.Laws.Places.{curve-room, parts-room, table-passed}
 use Rattle.pages.specs.Laws.{page-audited, page-numbered, page-room, page-printable, page-leaves}
 use Rattle.pages.proofs.printing.page_in.Statement.{statement}
 use Rattle.pages.proofs.printing.page_in.Tie as tie
@@ -57,7 +60,7 @@ abbrev read : tie.After-page-refusal → tie.After-decode
 read c = c .before .before .before .before .before .before .before .before .before
 
 abbrev given : tie.After-page-refusal → tie.Start
-given c = read c .before .before .before .before .before .before .before .before
+given c = read c .before .before .before .before .before .before .before .before .before
 
 number :
     (c : tie.After-page-refusal) →
@@ -74,16 +77,24 @@ accepted :
     pageNumber (now (given (c .before) .args .file)) (now (given (c .before) .args .table)) (given (c .before) .args .share) (now (given (c .before) .args .page)) ≡ 0
 accepted c = sym (number (c .before)) ∙ c .if1 .left
 
+-- So its study passes its questions.
+passed : (c : tie.Else1) → Passed (now (given (c .before) .args .file))
+passed c =
+    let audited = c .before .before .totals-refusal .ensures .0 in
+    table-passed _ _ _ (sym audited ∙ page-audited _ _ _ _ audited (accepted c))
+
 put-powers-requires : tie.Need-put-powers-requires
-put-powers-requires c κs = refl
+put-powers-requires c κs =
+    let asked = c .before in
+    curve-room _ (passed asked) (given (asked .before) .pre .1) .room
 
 put-lines-requires : tie.Need-put-lines-requires
 put-lines-requires c κs =
-    let asked = c .before .before .before .before .before in
+    let asked = c .before .before .before .before .before .before .before in
     let parts = parts-decoded (read (asked .before) .decode .ensures) in
     let audited = asked .before .before .totals-refusal .ensures in (
       page-printable parts _ _ _ (accepted asked) (audited .1 (page-audited _ _ _ _ (audited .0) (accepted asked))),
-      c .before .before .before .put-powers .ensures,
+      link-powers (parts-room parts (passed asked) (given (asked .before) .pre .1)) (c .before .before .before .before .before .put-powers .ensures),
       page-room parts _ _ _ (accepted asked),
     )
 
@@ -96,10 +107,13 @@ same-length-4 c = search needs
 same-length-5 : tie.Need-same-length-5
 same-length-5 c = search needs
 
+same-length-6 : tie.Need-same-length-6
+same-length-6 c = search needs
+
 returns-2 : tie.Need-returns-2
 returns-2 c =
     let put = c .before .before in
-    let asked = put .before .before .before .before .before .before in
+    let asked = put .before .before .before .before .before .before .before .before in
     let parts = parts-decoded (read (asked .before) .decode .ensures) in
     let audited = asked .before .before .totals-refusal .ensures in
     (sym (accepted asked), page-leaves parts _ _ _ (accepted asked) (audited .1 (page-audited _ _ _ _ (audited .0) (accepted asked))) (put .put-lines .ensures))
@@ -127,4 +141,5 @@ page-in-spec =
     same-length-3
     same-length-4
     same-length-5
+    same-length-6
     returns-2)

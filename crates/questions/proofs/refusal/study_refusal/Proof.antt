@@ -57,7 +57,7 @@ yes-9 : (c : tie.Else5) → noTripsWithin (study (of-9 c)) ≡ true
 yes-9 c = was-yes (c .before .no-trips-within .ensures ∙ within-answer _ _ _ _) (c .if5 .left)
 
 yes-10 : (c : tie.Else6) → totalFits (study (of-10 c)) ≡ true
-yes-10 c = was-yes (c .before .total-fits .ensures ∙ total-answer _ _ _ _ (of-10 c .pre .0)) (c .if6 .left)
+yes-10 c = was-yes (c .before .total-fits .ensures ∙ total-answer _ _ _ _ (of-10 c .pre .0 .0)) (c .if6 .left)
 
 yes-11 : (c : tie.Else7) → tripsReach (study (of-11 c)) ≡ true
 yes-11 c = search was-yes
@@ -99,7 +99,7 @@ returns-4 c =
     rw (yes-6 (c .before .before .before .before .before .before), yes-7 (c .before .before .before .before), yes-8 (c .before .before), no)
 
 no-trips-within-requires : tie.Need-no-trips-within-requires
-no-trips-within-requires c κs = (of-19 c .pre .0 .entries-long, destinations-answer _ _ _ _ ∙ yes-8 (c .before .before))
+no-trips-within-requires c κs = (of-19 c .pre .0 .0 .entries-long, destinations-answer _ _ _ _ ∙ yes-8 (c .before .before))
 
 returns-5 : tie.Need-returns-5
 unfolding studyQuestions
@@ -109,19 +109,19 @@ returns-5 c =
 
 total-fits-requires : tie.Need-total-fits-requires
 total-fits-requires c κs =
-    let size = of-9 c .pre .0 in
+    let size = of-9 c .pre .0 .0 in
     omega (arith, entries-fit (size .few-nodes) (size .few-destinations))
 
 returns-6 : tie.Need-returns-6
 unfolding studyQuestions
 returns-6 c =
-    let no : totalFits (study (of-9 (c .before .before))) ≡ false = was-no (c .before .total-fits .ensures ∙ total-answer _ _ _ _ (of-9 (c .before .before) .pre .0)) (c .if6 .taken) in
+    let no : totalFits (study (of-9 (c .before .before))) ≡ false = was-no (c .before .total-fits .ensures ∙ total-answer _ _ _ _ (of-9 (c .before .before) .pre .0 .0)) (c .if6 .taken) in
     rw (yes-6 (c .before .before .before .before .before .before .before .before .before .before), yes-7 (c .before .before .before .before .before .before .before .before), yes-8 (c .before .before .before .before .before .before), yes-19 (c .before .before .before .before), yes-9 (c .before .before), no)
 
 trips-reach-requires : tie.Need-trips-reach-requires
 trips-reach-requires c κs =
     let start = of-10 c in
-    ((start .pre .0, λ none. none-closed (now (start .args .links)) (now (start .args .closed)) (start .pre .1) (eqb-true _ _ none)), (ends-answer _ _ _ _ ∙ yes-6 (c .before .before .before .before .before .before .before .before .before .before), destinations-answer _ _ _ _ ∙ yes-8 (c .before .before .before .before .before .before)))
+    ((start .pre .0 .0, λ none. none-closed (now (start .args .links)) (now (start .args .closed)) (start .pre .0 .1) (eqb-true _ _ none)), (ends-answer _ _ _ _ ∙ yes-6 (c .before .before .before .before .before .before .before .before .before .before), destinations-answer _ _ _ _ ∙ yes-8 (c .before .before .before .before .before .before)))
 
 returns-7 : tie.Need-returns-7
 unfolding studyQuestions

@@ -9,17 +9,14 @@ use Rattle.study.proofs.fields.closed_byte.Tie as tie
 
 returns : tie.Need-returns
 unfolding closedByte
-returns c = sym (List·getD-eq-default (now (c .before .before .args .closed)) 0 (c .if1 .taken))
+returns c = sym (List·getD-eq-default (now (c .before .args .closed)) 0 (c .if1 .taken))
 
-shared-slice-read-wide : tie.Need-shared-slice-read-wide
-shared-slice-read-wide c = search needs
-
-wide-requires : tie.Need-wide-requires
-wide-requires c κs = search needs
+shared-slice-read-result : tie.Need-shared-slice-read-result
+shared-slice-read-result c = search needs
 
 returns-2 : tie.Need-returns-2
 unfolding closedByte
 returns-2 c = search needs
 
 pub closed-byte-spec : {M : Type 1} → statement M
-closed-byte-spec = tie.close (tie.spec returns shared-slice-read-wide wide-requires returns-2)
+closed-byte-spec = tie.close (tie.spec returns shared-slice-read-result returns-2)

@@ -4,8 +4,8 @@ use borrow.Author.Tests.{eq-eqb, ne-eqb}
 use mathlib.Core.Bool.{Bool, _&&_}
 use mathlib.Core.Logic.{⊎-elim}
 use mathlib.Core.Path.{_≡_, refl, sym, _∙_}
-use Prim.Native.Nat.{_*_}
-use native.Mathlib.Nat.{le-of-lt, mul-le-mul-left}
+use Prim.Native.Nat.{_*_, _≤_}
+use native.Mathlib.Nat.{le-of-lt, mul-le-mul, mul-le-mul-left}
 use native.Mathlib.Omega.{arith}
 use lib.Dec.{eqb}
 use denote.Ref.{now}
@@ -49,8 +49,8 @@ mul-if1 : tie.Need-mul-if1
 mul-if1 c =
     let headed = c .before .before .before .before .before .before .before .before .before .before .before .pre in
     let v = known _ (headed .version-least) (headed .version-most) in
-    let ten : c .before .before .before .before .before .form-of .result .link ≡ 10 = cc (v .link-bytes) in
-    rw ten (search needs)
+    let few : c .before .before .before .before .before .form-of .result .link ≤ 12 = rw (c .before .before .before .before .before .form-of .ensures, c .before .before .before .before .before .before .version .ensures) (v .link-bytes .1) in
+    omega (arith, mul-le-mul few (le-of-lt (c .before .before .before .before .before .before .before .before .link-field .ensures .1)))
 
 mul-if2 : tie.Need-mul-if2
 mul-if2 c = search needs

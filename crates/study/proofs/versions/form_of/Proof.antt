@@ -1,4 +1,4 @@
--- `study::versions::form_of` meets its contract: the code's two forms are the table's.
+-- `study::versions::form_of` meets its contract: the code's three forms are the table's.
 use mathlib.Core.Path.{_≡_}
 use native.Mathlib.Omega.{arith}
 use Rattle.study.specs.Versions.{versions, formOf}
@@ -11,9 +11,13 @@ returns c = rw (c .if1 .taken)
 
 returns-2 : tie.Need-returns-2
 unfolding versions formOf
-returns-2 c =
-    let latest : c .before .args .version ≡ 2 = omega arith in
+returns-2 c = rw (c .if2 .taken)
+
+returns-3 : tie.Need-returns-3
+unfolding versions formOf
+returns-3 c =
+    let latest : c .before .before .args .version ≡ 3 = omega arith in
     rw latest
 
 pub form-of-spec : {M : Type 1} → statement M
-form-of-spec = tie.close (tie.spec returns returns-2)
+form-of-spec = tie.close (tie.spec returns returns-2 returns-3)

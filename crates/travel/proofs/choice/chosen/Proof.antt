@@ -40,7 +40,7 @@ wrapping-add-u32-requires c κs = search needs
 sums-at-requires : tie.Need-sums-at-requires Inv-loop μ-loop
 sums-at-requires c κs =
     let at-loop = c .before .before .before in
-    let start = at-loop .before .before in
+    let start = at-loop .before .before .before in
     (start .pre .0, omega (arith, at-loop .loop .inv .within), start .pre .1)
 
 -- The loop, from the sums of a j.
@@ -73,7 +73,7 @@ loop-again-2 c =
 
 returns : tie.Need-returns Inv-loop μ-loop
 returns c =
-    let start = c .before .before .before in
+    let start = c .before .before .before .before in
     let x = start .args in
     let inv = c .before .loop .inv in
     let met : c .before .loop .high ≡ c .before .loop .low = omega arith in

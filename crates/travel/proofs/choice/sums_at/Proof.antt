@@ -45,18 +45,18 @@ abbrev at-loop : tie.After-time-at Inv-loop μ-loop → tie.At-loop Inv-loop μ-
 at-loop c = c .before .before .before .before .before .before .before
 
 -- The step of a turn's link after the move, by reciprocals.
-abbrev loop-of : tie.After-step-by-arg Inv-loop μ-loop → tie.At-loop Inv-loop μ-loop
+abbrev loop-of : tie.After-shared-slice-known2 Inv-loop μ-loop → tie.At-loop Inv-loop μ-loop
 loop-of c = c .before .before .before .before
 
-abbrev start : tie.After-step-by-arg Inv-loop μ-loop → tie.Start Inv-loop μ-loop
-start c = loop-of c .before .before
+abbrev start : tie.After-shared-slice-known2 Inv-loop μ-loop → tie.Start Inv-loop μ-loop
+start c = loop-of c .before .before .before
 
-abbrev flow-of : tie.After-step-by-arg Inv-loop μ-loop → ℕ
+abbrev flow-of : tie.After-shared-slice-known2 Inv-loop μ-loop → ℕ
 flow-of c = let x = start c .args in totalOf (x .flows .now) (loop-of c .loop .l) + x .j * loadOf (x .flows .now) (loop-of c .loop .l)
 
-divisible : (c : tie.After-step-by-arg Inv-loop μ-loop) →
+divisible : (c : tie.After-shared-slice-known2 Inv-loop μ-loop) →
     let x = start c .args in
-    Divisible (capacity (x .links .now) (loop-of c .loop .l)) (x .share + x .j) (flow-of c) (getD (x .curves .now) (257 + loop-of c .loop .l) 0) (loop-of c .before .share-reciprocal .result)
+    Divisible (capacity (x .links .now) (loop-of c .loop .l)) (x .share + x .j) (flow-of c) (getD (x .curves .now) (loop-of c .loop .l) 0) (loop-of c .before .share-reciprocal .result)
 divisible c =
     let l = loop-of c .loop .l in
     let fit = start c .pre .0 in
@@ -73,7 +73,7 @@ divisible c =
 
 -- The time that a turn works out.
 time-is : (c : tie.After-time-at Inv-loop μ-loop) (amount : ℕ → ℕ) →
-    let x = at-loop c .before .before .args in
+    let x = at-loop c .before .before .before .args in
     c .time-at .result .time ≡ movedAt (x .links .now) (x .share) (totalOf (x .flows .now)) (loadOf (x .flows .now)) (x .j) amount (at-loop c .loop .l)
 time-is c amount =
     let at = c .before .before in
@@ -82,11 +82,11 @@ time-is c amount =
 
 -- After a turn each sum is that of one link more.
 turn : (c : tie.After-time-at Inv-loop μ-loop) (amount : ℕ → ℕ) (sum : ℕ) →
-    sum ≡ sum-of (at-loop c .before .before) amount (at-loop c .loop .l) →
-    sum + amount (at-loop c .loop .l) * c .time-at .result .time ≡ sum-of (at-loop c .before .before) amount (at-loop c .loop .l + 1)
+    sum ≡ sum-of (at-loop c .before .before .before) amount (at-loop c .loop .l) →
+    sum + amount (at-loop c .loop .l) * c .time-at .result .time ≡ sum-of (at-loop c .before .before .before) amount (at-loop c .loop .l + 1)
 turn c amount sum e =
     let l = at-loop c .loop .l in
-    let x = at-loop c .before .before .args in
+    let x = at-loop c .before .before .before .args in
     omega (
       arith,
       e,
@@ -95,23 +95,23 @@ turn c amount sum e =
     )
 
 loaded-turn : (c : tie.After-time-at Inv-loop μ-loop) →
-    at-loop c .loop .loaded + loadOf (at-loop c .before .before .args .flows .now) (at-loop c .loop .l) * c .time-at .result .time ≡ sum-of (at-loop c .before .before) (loadOf (at-loop c .before .before .args .flows .now)) (at-loop c .loop .l + 1)
-loaded-turn c = turn c (loadOf (at-loop c .before .before .args .flows .now)) (at-loop c .loop .loaded) (at-loop c .loop .inv .1)
+    at-loop c .loop .loaded + loadOf (at-loop c .before .before .before .args .flows .now) (at-loop c .loop .l) * c .time-at .result .time ≡ sum-of (at-loop c .before .before .before) (loadOf (at-loop c .before .before .before .args .flows .now)) (at-loop c .loop .l + 1)
+loaded-turn c = turn c (loadOf (at-loop c .before .before .before .args .flows .now)) (at-loop c .loop .loaded) (at-loop c .loop .inv .1)
 
 spent-turn : (c : tie.After-time-at Inv-loop μ-loop) →
-    at-loop c .loop .spent + totalOf (at-loop c .before .before .args .flows .now) (at-loop c .loop .l) * c .time-at .result .time ≡ sum-of (at-loop c .before .before) (totalOf (at-loop c .before .before .args .flows .now)) (at-loop c .loop .l + 1)
-spent-turn c = turn c (totalOf (at-loop c .before .before .args .flows .now)) (at-loop c .loop .spent) (at-loop c .loop .inv .2)
+    at-loop c .loop .spent + totalOf (at-loop c .before .before .before .args .flows .now) (at-loop c .loop .l) * c .time-at .result .time ≡ sum-of (at-loop c .before .before .before) (totalOf (at-loop c .before .before .before .args .flows .now)) (at-loop c .loop .l + 1)
+spent-turn c = turn c (totalOf (at-loop c .before .before .before .args .flows .now)) (at-loop c .loop .spent) (at-loop c .loop .inv .2)
 
 -- Neither is more than it can be.
 loaded-within : (c : tie.After-time-at Inv-loop μ-loop) →
-    at-loop c .loop .loaded + loadOf (at-loop c .before .before .args .flows .now) (at-loop c .loop .l) * c .time-at .result .time ≤ 512 * (65535 * mostTime)
+    at-loop c .loop .loaded + loadOf (at-loop c .before .before .before .args .flows .now) (at-loop c .loop .l) * c .time-at .result .time ≤ 512 * (65535 * mostTime)
 loaded-within c =
-    omega (arith, loaded-turn c, loaded-most (at-loop c .before .before) (at-loop c .loop .l + 1) (omega arith))
+    omega (arith, loaded-turn c, loaded-most (at-loop c .before .before .before) (at-loop c .loop .l + 1) (omega arith))
 
 spent-within : (c : tie.After-time-at Inv-loop μ-loop) →
-    at-loop c .loop .spent + totalOf (at-loop c .before .before .args .flows .now) (at-loop c .loop .l) * c .time-at .result .time ≤ 512 * (mostFlow * mostTime)
+    at-loop c .loop .spent + totalOf (at-loop c .before .before .before .args .flows .now) (at-loop c .loop .l) * c .time-at .result .time ≤ 512 * (mostFlow * mostTime)
 spent-within c =
-    omega (arith, spent-turn c, spent-most (at-loop c .before .before) (at-loop c .loop .l + 1) (omega arith))
+    omega (arith, spent-turn c, spent-most (at-loop c .before .before .before) (at-loop c .loop .l + 1) (omega arith))
 
 add-share-reciprocal : tie.Need-add-share-reciprocal Inv-loop μ-loop
 add-share-reciprocal c = search needs
@@ -121,8 +121,8 @@ share-reciprocal-requires c κs = search needs
 
 loop-holds : tie.Need-loop-holds Inv-loop μ-loop
 loop-holds c =
-    let x = c .before .args in
-    let none : (amount : ℕ → ℕ) → 0 ≡ sum-of (c .before) amount 0 = λ amount. sym (moved-none (x .links .now) (x .share) (totalOf (x .flows .now)) (loadOf (x .flows .now)) (x .j) amount) in
+    let x = c .before .before .args in
+    let none : (amount : ℕ → ℕ) → 0 ≡ sum-of (c .before .before) amount 0 = λ amount. sym (moved-none (x .links .now) (x .share) (totalOf (x .flows .now)) (loadOf (x .flows .now)) (x .j) amount) in
     (search needs, none (loadOf (x .flows .now)), none (totalOf (x .flows .now)))
 
 mul-s : tie.Need-mul-s Inv-loop μ-loop
@@ -143,20 +143,17 @@ index-1-y c = search needs
 index-2-y : tie.Need-index-2-y Inv-loop μ-loop
 index-2-y c = search needs
 
-add-step-by : tie.Need-add-step-by Inv-loop μ-loop
-add-step-by c = search needs
-
 mul-step-by : tie.Need-mul-step-by Inv-loop μ-loop
 mul-step-by c = search needs
 
-element-copy-out-step-by : tie.Need-element-copy-out-step-by Inv-loop μ-loop
-element-copy-out-step-by c = search needs
+shared-slice-read-step-by : tie.Need-shared-slice-read-step-by Inv-loop μ-loop
+shared-slice-read-step-by c = omega (arith, start c .pre .0 .links-fit .few, start c .pre .2 .powers .powers .size)
 
 mul-step-by-2 : tie.Need-mul-step-by-2 Inv-loop μ-loop
 mul-step-by-2 c = omega (arith, divisible c .flow-most, divisible c .share-most)
 
-add-step-by-2 : tie.Need-add-step-by-2 Inv-loop μ-loop
-add-step-by-2 c = omega (arith, divisible c .flow-most, divisible c .share-most)
+add-step-by : tie.Need-add-step-by Inv-loop μ-loop
+add-step-by c = omega (arith, divisible c .flow-most, divisible c .share-most)
 
 step-by-requires : tie.Need-step-by-requires Inv-loop μ-loop
 step-by-requires c κs =
@@ -172,7 +169,9 @@ shared-slice-copy-out-time-at c = search needs
 time-at-requires : tie.Need-time-at-requires Inv-loop μ-loop
 time-at-requires c κs =
     let turn = c .before .before in
-    (start turn .pre .0 .links-fit .link (loop-of turn .loop .l) (omega arith), c .before .step-by .ensures .1, start turn .pre .2 .powers)
+    let l = loop-of turn .loop .l in
+    let pre = start turn .pre in
+    (pre .0 .links-fit .link l (omega arith), c .before .step-by .ensures .1, pre .2 .powers .powers, pre .2 .powers .has-list l (omega arith))
 
 mul-loaded : tie.Need-mul-loaded Inv-loop μ-loop
 mul-loaded c = omega (arith, loaded-within (c .before))
@@ -197,12 +196,12 @@ loop-again c = (search needs, loaded-turn (c .before .before), spent-turn (c .be
 
 mul-loaded-2 : tie.Need-mul-loaded-2 Inv-loop μ-loop
 mul-loaded-2 c =
-    let low : c .before .loop .loaded ≤ 512 * (65535 * mostTime) = omega (arith, c .before .loop .inv .1, loaded-most (c .before .before .before) (c .before .loop .l) (omega arith)) in
-    omega (arith, mul-le-mul {n₁ = c .before .before .before .args .share} {n₂ = 1024} (search needs) low)
+    let low : c .before .loop .loaded ≤ 512 * (65535 * mostTime) = omega (arith, c .before .loop .inv .1, loaded-most (c .before .before .before .before) (c .before .loop .l) (omega arith)) in
+    omega (arith, mul-le-mul {n₁ = c .before .before .before .before .args .share} {n₂ = 1024} (search needs) low)
 
 returns : tie.Need-returns Inv-loop μ-loop
 returns c =
-    let x = c .before .before .before .args in
+    let x = c .before .before .before .before .args in
     let end : c .before .loop .l ≡ length (x .links .now) = omega arith in
     let all = moved-all (x .links .now) (x .share) (totalOf (x .flows .now)) (loadOf (x .flows .now)) (x .j) in (
       ap (λ sum. x .share * sum) (rw end at (c .before .loop .inv .1) ∙ all (loadOf (x .flows .now))),
@@ -224,11 +223,10 @@ sums-at-spec =
     mul-y
     index-1-y
     index-2-y
-    add-step-by
     mul-step-by
-    element-copy-out-step-by
+    shared-slice-read-step-by
     mul-step-by-2
-    add-step-by-2
+    add-step-by
     step-by-requires
     mul-time-at
     shared-slice-copy-out-time-at

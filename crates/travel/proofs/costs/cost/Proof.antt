@@ -31,9 +31,9 @@ at-loop c = c .before .before .before .before
 
 -- After a turn the cost is that of one link more,
 turn : (c : tie.After-link-cost Inv-loop μ-loop) →
-    at-loop c .loop .cost + c .link-cost .result .area ≡ cost-of (at-loop c .before) (at-loop c .loop .l + 1)
+    at-loop c .loop .cost + c .link-cost .result .area ≡ cost-of (at-loop c .before .before) (at-loop c .loop .l + 1)
 turn c =
-    let x = at-loop c .before .args in
+    let x = at-loop c .before .before .args in
     omega (
       arith,
       c .link-cost .ensures .0 .0,
@@ -46,9 +46,9 @@ byte-is true = refl
 byte-is false = refl
 
 counted : (c : tie.After-link-cost Inv-loop μ-loop) →
-    at-loop c .loop .over + boolByte (c .link-cost .result .over) ≡ over-of (at-loop c .before) (at-loop c .loop .l + 1)
+    at-loop c .loop .over + boolByte (c .link-cost .result .over) ≡ over-of (at-loop c .before .before) (at-loop c .loop .l + 1)
 counted c =
-    let x = at-loop c .before .args in
+    let x = at-loop c .before .before .args in
     omega (
       arith,
       byte-is (c .link-cost .result .over),
@@ -56,14 +56,14 @@ counted c =
       over-more (x .links .now) (x .share) (x .flows .now) (at-loop c .loop .l),
     )
 
-over-most : (c : tie.After-link-cost Inv-loop μ-loop) → over-of (at-loop c .before) (at-loop c .loop .l + 1) ≤ 512
+over-most : (c : tie.After-link-cost Inv-loop μ-loop) → over-of (at-loop c .before .before) (at-loop c .loop .l + 1) ≤ 512
 over-most c =
-    let x = at-loop c .before .args in
+    let x = at-loop c .before .before .args in
     omega (arith, count-most (at-loop c .loop .l + 1) (overAt (x .links .now) (x .share) (x .flows .now)))
 
 loop-holds : tie.Need-loop-holds Inv-loop μ-loop
 loop-holds c =
-    let x = c .args in
+    let x = c .before .args in
     (search needs, sym (cost-none (x .links .now) (x .share) (x .flows .now)), sym (over-none (x .links .now) (x .share) (x .flows .now)))
 
 mul-link-cost : tie.Need-mul-link-cost Inv-loop μ-loop
@@ -81,12 +81,12 @@ element-copy-out-link-cost c = search needs
 link-cost-requires : tie.Need-link-cost-requires Inv-loop μ-loop
 link-cost-requires c κs =
     let l = c .before .before .before .loop .l in
-    let pre = c .before .before .before .before .pre in
-    (pre .0 .0 .link l (omega arith), search needs, pre .0 .2 l (omega arith), pre .1)
+    let pre = c .before .before .before .before .before .pre in
+    (pre .0 .0 .link l (omega arith), search needs, pre .0 .2 l (omega arith), pre .1 .powers, pre .1 .has-list l (omega arith))
 
 add-cost : tie.Need-add-cost Inv-loop μ-loop
 add-cost c =
-    let start = at-loop (c .before) .before in
+    let start = at-loop (c .before) .before .before in
     let x = start .args in
     omega (
       arith,
@@ -111,7 +111,7 @@ loop-again c = (search needs, turn (c .before .before), counted (c .before .befo
 
 returns : tie.Need-returns Inv-loop μ-loop
 returns c =
-    let x = c .before .before .args in
+    let x = c .before .before .before .args in
     let end : c .before .loop .l ≡ length (x .links .now) = omega arith in
     (rw end at (c .before .loop .inv .1) ∙ cost-all (x .links .now) (x .share) (x .flows .now), rw end at (c .before .loop .inv .2) ∙ over-all (x .links .now) (x .share) (x .flows .now))
 

@@ -16,7 +16,7 @@ use Rattle.travel.proofs.costs.link_cost.Statement.{statement}
 use Rattle.travel.proofs.costs.link_cost.Tie as tie
 
 abbrev start : tie.After-time-at → tie.Start
-start c = c .before .before .before
+start c = c .before .before .before .before
 
 -- The capacity, the width of a tread, and the cost.
 abbrev capacity : tie.Start → ℕ
@@ -54,7 +54,9 @@ cast-width : tie.Need-cast-width
 cast-width c = search needs
 
 mul-width : tie.Need-mul-width
-mul-width c = omega (arith, width-most (capacity c) (c .args .share) (capacity-most c) (search needs))
+mul-width c =
+    let x = c .before in
+    omega (arith, width-most (capacity x) (x .args .share) (capacity-most x) (search needs))
 
 array-read-step-of : tie.Need-array-read-step-of
 array-read-step-of c = search needs
@@ -67,10 +69,10 @@ heights-below-requires c κs = search needs
 
 mul-whole : tie.Need-mul-whole
 mul-whole c =
-    let x = c .before .before .args in
+    let x = c .before .before .before .args in
     omega (
       arith,
-      whole-most (capacity (c .before .before)) (x .share) (x .flow) _ (c .before .step-of .ensures .0) (c .heights-below .result) (search needs),
+      whole-most (capacity (c .before .before .before)) (x .share) (x .flow) _ (c .before .step-of .ensures .0) (c .heights-below .result) (search needs),
     )
 
 time-at-requires : tie.Need-time-at-requires

@@ -15,7 +15,7 @@ time-at-requires : tie.Need-time-at-requires
 time-at-requires c κs = search needs
 
 returns : tie.Need-returns
-returns c = (c .time-at .ensures .0 ∙ ap (timed (c .before .before .args .t1)) (c .before .step-of .ensures .0), c .time-at .ensures .1)
+returns c = (c .time-at .ensures .0 ∙ ap (timed (c .before .before .before .args .t1)) (c .before .step-of .ensures .0), c .time-at .ensures .1)
 
 pub link-time-spec : {M : Type 1} → statement M
 link-time-spec = tie.close (tie.spec array-read-step-of step-of-requires time-at-requires returns)

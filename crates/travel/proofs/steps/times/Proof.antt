@@ -18,7 +18,7 @@ abbrev μ-loop : tie.MeasureT-loop
 μ-loop links flows share curves times₀ l₀ times l = length links - l
 
 loop-holds : tie.Need-loop-holds Inv-loop μ-loop
-loop-holds c = (search needs, filled-none (length (c .args .links .now)) _ (c .args .times .now) (c .pre .1 .1))
+loop-holds c = (search needs, filled-none (length (c .before .args .links .now)) _ (c .before .args .times .now) (c .before .pre .1 .1))
 
 mul-link-time : tie.Need-mul-link-time Inv-loop μ-loop
 mul-link-time c = search needs
@@ -35,8 +35,9 @@ element-copy-out-link-time c = search needs
 link-time-requires : tie.Need-link-time-requires Inv-loop μ-loop
 link-time-requires c κs =
     let at-loop = c .before .before .before in
-    let pre = at-loop .before .pre in
-    (pre .0 .0 .link (at-loop .loop .l) (omega arith), search needs, pre .0 .2 (at-loop .loop .l) (omega arith), pre .1 .0)
+    let l = at-loop .loop .l in
+    let pre = at-loop .before .before .pre in
+    (pre .0 .0 .link l (omega arith), search needs, pre .0 .2 l (omega arith), pre .1 .0 .powers, pre .1 .0 .has-list l (omega arith))
 
 cast-times : tie.Need-cast-times Inv-loop μ-loop
 cast-times c = search needs
@@ -57,14 +58,14 @@ loop-again : tie.Need-loop-again Inv-loop μ-loop
 unfolding listTime
 loop-again c =
     let at-loop = c .before .before .before .before .before in
-    (search needs, filled-more _ _ _ (at-loop .loop .l) _ (omega arith) (at-loop .before .pre .0 .0 .few) (at-loop .loop .inv .1) (ap (λ r. r .time) (c .before .link-time .ensures .0)))
+    (search needs, filled-more _ _ _ (at-loop .loop .l) _ (omega arith) (at-loop .before .before .pre .0 .0 .few) (at-loop .loop .inv .1) (ap (λ r. r .time) (c .before .link-time .ensures .0)))
 
 returns : tie.Need-returns Inv-loop μ-loop
 returns c =
-    let x = c .before .before .args in
+    let x = c .before .before .before .args in
     let m = length (x .links .now) in
     let end : c .before .loop .l ≡ m = omega arith in
-    let fit = c .before .before .pre .0 .0 in
+    let fit = c .before .before .before .pre .0 .0 in
     let same : c .before .loop .times ≡ padded m (listTime (x .links .now) (x .share) (x .flows .now)) = filled-all m _ _ (fit .few) (rw end at (c .before .loop .inv .1)) in (
       same,
       rw same (record {

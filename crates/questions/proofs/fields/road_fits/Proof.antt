@@ -1,18 +1,12 @@
--- `questions::questions::link_times_fit` meets its contract.
+-- `questions::fields::road_fits` meets its contract.
 use borrow.Author.Needs.{needs}
 use mathlib.Core.Bool.{Bool, _&&_}
 use mathlib.Core.Logic.{⊎-elim}
 use mathlib.Core.Path.{_≡_, refl, sym, _∙_}
 use Rattle.study.specs.Questions.{within}
 use Rattle.study.proofs.Flags.{and-yes, and-no}
-use borrow.Author.Needs.{needs}
-use mathlib.Core.Bool.{Bool, _&&_}
-use mathlib.Core.Logic.{⊎-elim}
-use mathlib.Core.Path.{_≡_, refl, sym, _∙_}
-use Rattle.study.specs.Questions.{within}
-use Rattle.study.proofs.Flags.{and-yes, and-no}
-use Rattle.questions.proofs.fields.link_times_fit.Statement.{statement}
-use Rattle.questions.proofs.fields.link_times_fit.Tie as tie
+use Rattle.questions.proofs.fields.road_fits.Statement.{statement}
+use Rattle.questions.proofs.fields.road_fits.Tie as tie
 
 within-requires : tie.Need-within-requires
 within-requires c κs = search needs
@@ -34,5 +28,5 @@ returns c = and-yes _ _ (sym (two (c .before)) ∙ c .if2 .taken) refl ∙ tests
 returns-2 : tie.Need-returns-2
 returns-2 c = and-no _ _ (sym (two (c .before)) ∙ c .if2 .left) (two (c .before)) ∙ tests (c .before .before) _
 
-pub link-times-fit-spec : {M : Type 1} → statement M
-link-times-fit-spec = tie.close (tie.spec within-requires within-requires-2 returns returns-2)
+pub road-fits-spec : {M : Type 1} → statement M
+road-fits-spec = tie.close (tie.spec within-requires within-requires-2 returns returns-2)
