@@ -6,7 +6,7 @@ use lib.ListN.{length, getD, take}
 use Rattle.study.specs.Fields.{destination, trips, HasLink, HasDestination, HasTrips}
 use Rattle.study.specs.Questions.{refusal}
 use Rattle.study.specs.Sections.{nodes, links, destinations}
-use Rattle.theory.specs.Finite.{tabulate, rows}
+use Rattle.theory.specs.Finite.{tabulate}
 use Rattle.calls.specs.Study.{linkRow, linkRows, destinationNodes, tripEntries}
 use Rattle.network.specs.declared.decoding.Opening.{Opening}
 
@@ -28,22 +28,19 @@ pub record ClosedBelow (size : ℕ) (linkBytes : List ℕ) (linkSize : ℕ) (clo
 unfoldable pub nodesIn : List ℕ → ℕ → List ℕ
 nodesIn destinationBytes p = tabulate p (destination destinationBytes)
 
--- The trips to the first p destinations, node by node.
-unfoldable pub entriesIn : List ℕ → ℕ → ℕ → List ℕ
-entriesIn tripBytes n p = rows p (λ k. tabulate n (trips tripBytes n k))
+-- So many entries of the trips, as they stand: as if they were of one destination.
+unfoldable pub entriesIn : List ℕ → ℕ → List ℕ
+entriesIn tripBytes entries = tabulate entries (trips tripBytes entries 0)
 
--- What decoding asks of a section: the bytes of so many links, destinations or rows of trips are there.
+-- What decoding asks of a section: the bytes of so many links, destinations or entries of trips are there.
 unfoldable pub HasLinks : List ℕ → ℕ → ℕ → Type 0
 HasLinks linkBytes linkSize m = (l : ℕ) → l < m → HasLink linkBytes linkSize l
 
 unfoldable pub HasDestinations : List ℕ → ℕ → Type 0
 HasDestinations destinationBytes p = (k : ℕ) → k < p → HasDestination destinationBytes k
 
-unfoldable pub HasRow : List ℕ → ℕ → ℕ → Type 0
-HasRow tripBytes n k = (j : ℕ) → j < n → HasTrips tripBytes n k j
-
-unfoldable pub HasRows : List ℕ → ℕ → ℕ → Type 0
-HasRows tripBytes n p = (k : ℕ) → k < p → HasRow tripBytes n k
+unfoldable pub HasEntries : List ℕ → ℕ → Type 0
+HasEntries tripBytes entries = (i : ℕ) → i < entries → HasTrips tripBytes entries 0 i
 
 -- What decoding asks of the places that it is lent: one for each link, and one for each entry of the trips.
 pub record Room (file : List ℕ) (linkPlaces entryPlaces : ℕ) : Type 0 where

@@ -5,7 +5,7 @@ ghost use mathlib.Core.List.{[]};
 ghost use lib.ListN.{length, getD, set};
 ghost use Rattle.study.specs.Fields.{closedByte};
 ghost use Rattle.calls.specs.Study.{powerByte};
-ghost use Rattle.network.specs.Decoded.{Room, Decoded, Holds, linkRowsIn, nodesIn, entriesIn, HasLinks, HasDestinations, HasRow, HasRows};
+ghost use Rattle.network.specs.Decoded.{Room, Decoded, Holds, linkRowsIn, nodesIn, entriesIn, HasLinks, HasDestinations, HasEntries};
 use theory::CLOSED_POWER;
 use theory::HEAD;
 
@@ -56,7 +56,7 @@ pub fn decode(
     decode_links(link_bytes, size, m, links);
     decode_closed(link_bytes, size, closed_bytes, m, links);
     decode_destinations(destination_bytes, p, destinations);
-    decode_trips(trip_bytes, n, p, trips);
+    decode_trips(trip_bytes, p * n, trips);
     Opening {
         refusal,
         nodes: n,
@@ -131,26 +131,14 @@ fn decode_destinations(bytes: &[u8], p: usize, destinations: &mut [u16; 32])
     }
 }
 
-// The trips from node j to destination k are entry k * n + j.
-fn decode_trips(bytes: &[u8], n: usize, p: usize, trips: &mut [u16])
-    requires { ⌜ (p * n ≤ length (now trips)) × HasRows (now bytes) n p ⌝ }
-    ensures { λ _. ⌜ Holds (length (now (trips .entry))) (entriesIn (now (bytes .entry)) n p) (now (trips .exit)) ⌝ }
+// The entries of the trips, as they stand: the trips from node j to destination k are entry k * n + j.
+fn decode_trips(bytes: &[u8], entries: usize, trips: &mut [u16])
+    requires { ⌜ (entries ≤ length (now trips)) × HasEntries (now bytes) entries ⌝ }
+    ensures { λ _. ⌜ Holds (length (now (trips .entry))) (entriesIn (now (bytes .entry)) entries) (now (trips .exit)) ⌝ }
 {
-    let mut k = 0;
-    while k < p {
-        decode_row(bytes, n, k, trips);
-        k += 1;
-    }
-}
-
-// The trips to destination k, after those to the destinations before it.
-fn decode_row(bytes: &[u8], n: usize, k: usize, trips: &mut [u16])
-    requires { ⌜ (k * n + n ≤ length (now trips)) × HasRow (now bytes) n k × Holds (length (now trips)) (entriesIn (now bytes) n k) (now trips) ⌝ }
-    ensures { λ _. ⌜ Holds (length (now (trips .entry))) (entriesIn (now (bytes .entry)) n (k + 1)) (now (trips .exit)) ⌝ }
-{
-    let mut j = 0;
-    while j < n {
-        trips[k * n + j] = study::trips_from(bytes, n, k, j);
-        j += 1;
+    let mut i = 0;
+    while i < entries {
+        trips[i] = study::trips_from(bytes, entries, 0, i);
+        i += 1;
     }
 }

@@ -69,5 +69,5 @@ pub fn list_start(power: u16, places: usize) -> usize
     if places == ONE_LIST {
         return LISTS;
     }
-    LISTS + STEPS * (4 - power as usize)
+    ALL_LISTS - STEPS * power as usize
 }

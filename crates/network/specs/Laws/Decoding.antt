@@ -7,20 +7,21 @@ use mathlib.Core.List.{List, [], _∷_, _++_, append-assoc}
 use mathlib.Core.Path.{_≡_, refl, sym, _∙_, ap}
 use lib.ListN.{length, getD, take, set, length-append, length-set}
 use lib.Seq.{length-take-le, take-suc-set, getD-take, getD-set-other}
-use Rattle.study.specs.Fields.{tail, head, freeTime, rise, capacity, power, destination, trips, closedByte}
-use Rattle.study.specs.Laws.{accepted, nodes-refused, links-refused, destinations-refused, link-bytes-least, trip-length, part-most, has-link, has-destination, has-trips}
+use Rattle.study.specs.Fields.{tail, head, freeTime, rise, capacity, power, destination, trips, closedByte, HasTrips}
+use Rattle.study.specs.Bytes.{u16}
+use Rattle.study.specs.Laws.{accepted, nodes-refused, links-refused, destinations-refused, link-bytes-least, trip-length, part-most, has-link, has-destination}
 use Rattle.study.specs.Questions.{refusal}
 use Rattle.study.specs.Sections.{nodes, links, destinations, linkSize, linkPart, destinationPart, tripPart, closedPart}
 use Rattle.theory.specs.Finite.{tabulate, rows}
 use Rattle.theory.specs.Study.{AllFourth}
 use Rattle.theory.specs.Laws.Cases.{on-equal}
-use Rattle.theory.specs.Laws.Finite.{length-tabulate, getD-tabulate, tabulate-suc, length-rows}
+use Rattle.theory.specs.Laws.Finite.{length-tabulate, getD-tabulate, tabulate-cong, tabulate-suc, length-rows, rows-flat}
 use Rattle.calls.specs.Study.{powerByte, linkRow, linkRows, destinationNodes, tripEntries}
 use Rattle.calls.specs.Laws.Networks.{links-length, closed-head, fourth-powers}
 use Rattle.network.specs.declared.decoding.Opening.{Opening}
 use Rattle.questions.specs.Sized.{Sized, ClosedHeads}
 use Rattle.questions.specs.Laws.Questions.{entries-fit}
-use Rattle.network.specs.Decoded.{Holds, linkRowsIn, nodesIn, entriesIn, HasLinks, HasDestinations, HasRow, HasRows, ClosedBelow, Room, Decoded, Counts}
+use Rattle.network.specs.Decoded.{Holds, linkRowsIn, nodesIn, entriesIn, HasLinks, HasDestinations, HasEntries, ClosedBelow, Room, Decoded, Counts}
 
 module _ {A : Type 0} (size : ℕ) where
   -- Every array holds the list of no entries.
@@ -109,15 +110,12 @@ module _ (size : ℕ) (linkBytes : List ℕ) (linkSize : ℕ) (closedBytes : Lis
       no-entries [] e = refl
       no-entries (x ∷ list) e = absurd (omega arith)
 
--- The rows of trips before destination k have n entries each,
-pub entries-length : (tripBytes : List ℕ) (n k : ℕ) → length (entriesIn tripBytes n k) ≡ k * n
-unfolding entriesIn
-entries-length tripBytes n k = length-rows k n (λ i. tabulate n (trips tripBytes n i)) (λ i h. length-tabulate n (trips tripBytes n i))
-
--- and its own row comes after them.
-pub entries-next : (tripBytes : List ℕ) (n k : ℕ) → entriesIn tripBytes n k ++ tabulate n (trips tripBytes n k) ≡ entriesIn tripBytes n (k + 1)
-unfolding entriesIn rows
-entries-next tripBytes n k = rw add-one
+-- The entries of the trips, as they stand, are those of every destination, node by node.
+pub entries-all : (tripBytes : List ℕ) (n p : ℕ) → rows p (λ k. tabulate n (trips tripBytes n k)) ≡ entriesIn tripBytes (p * n)
+unfolding entriesIn trips
+entries-all tripBytes n p =
+    rows-flat p n (λ i. u16 tripBytes (2 * i))
+    ∙ tabulate-cong (p * n) (λ i. u16 tripBytes (2 * i)) (λ i. u16 tripBytes (2 * (0 * (p * n) + i))) (λ i h. ap (λ at. u16 tripBytes at) (omega arith))
 
 -- The counts of a file are within bounds: of a refused one they are 0.
 pub counts : (file : List ℕ) {n m p : ℕ} → n ≡ nodes file → m ≡ links file → p ≡ destinations file → Counts file n m p
@@ -152,8 +150,8 @@ module _ (file : List ℕ) where
   destinations-length = length-tabulate (destinations file) (destination (destinationPart file))
 
   pub trips-length : length (tripEntries file) ≡ destinations file * nodes file
-  unfolding tripEntries entriesIn
-  trips-length = entries-length (tripPart file) (nodes file) (destinations file)
+  unfolding tripEntries
+  trips-length = length-rows (destinations file) (nodes file) (λ k. tabulate (nodes file) (trips (tripPart file) (nodes file) k)) (λ k h. length-tabulate (nodes file) _)
 
   -- which are within bounds.
   pub sized : Sized (nodes file) (linkRows file) (destinationNodes file) (tripEntries file)
@@ -201,9 +199,9 @@ module _ {file : List ℕ} {n m p : ℕ} (known : Counts file n m p) {bytes : Li
   unfolding HasDestinations
   destinations-there bytes-are = rw (bytes-are, known .destinations-are) (has-destination file)
 
-  pub trips-there : bytes ≡ tripPart file → HasRows bytes n p
-  unfolding HasRows HasRow
-  trips-there bytes-are = rw (bytes-are, known .nodes-are, known .destinations-are) (λ k hk j hj. has-trips file k j hk hj)
+  pub trips-there : bytes ≡ tripPart file → HasEntries bytes (p * n)
+  unfolding HasEntries HasTrips
+  trips-there bytes-are = rw (bytes-are, known .nodes-are, known .destinations-are) (λ i h. omega (arith, trip-length file))
 
 -- Decoded, they are the file decoded.
 pub decoded :
@@ -214,7 +212,7 @@ pub decoded :
     linkBytes ≡ linkPart file → destinationBytes ≡ destinationPart file → tripBytes ≡ tripPart file → closedBytes ≡ closedPart file →
     Holds linkPlaces (linkRowsIn linkBytes (linkSize file) closedBytes (opening .links)) linkArray →
     Holds 32 (nodesIn destinationBytes (opening .destinations)) nodeArray →
-    Holds entryPlaces (entriesIn tripBytes (opening .nodes) (opening .destinations)) entryArray →
+    Holds entryPlaces (entriesIn tripBytes (opening .destinations * opening .nodes)) entryArray →
     Decoded file opening linkArray nodeArray entryArray
 unfolding linkRows destinationNodes tripEntries linkRowsIn nodesIn entriesIn
 decoded file opening {linkBytes} {destinationBytes} {tripBytes} {closedBytes} {linkArray} {nodeArray} {entryArray} {linkPlaces} {entryPlaces} room refusal-is known l-are d-are t-are c-are l-held d-held t-held =
@@ -228,7 +226,7 @@ decoded file opening {linkBytes} {destinationBytes} {tripBytes} {closedBytes} {l
       trips-within = rw (t-held .long) (room-entries known room);
       links-held = held-front linkPlaces (opening .links) l-held (length-tabulate (opening .links) (linkRow linkBytes (linkSize file) closedBytes)) ∙ rw (l-are, c-are, known .links-are);
       nodes-held = held-front 32 (opening .destinations) d-held (length-tabulate (opening .destinations) (destination destinationBytes)) ∙ rw (d-are, known .destinations-are);
-      entries-held = held-front entryPlaces (opening .destinations * opening .nodes) t-held (entries-length tripBytes (opening .nodes) (opening .destinations)) ∙ rw (t-are, known .nodes-are, known .destinations-are);
+      entries-held = held-front entryPlaces (opening .destinations * opening .nodes) t-held (length-tabulate (opening .destinations * opening .nodes) _) ∙ rw (t-are, known .nodes-are, known .destinations-are) (sym (entries-all (tripPart file) (nodes file) (destinations file)));
     }
 
 -- A refused file counts nothing, so every array holds what it has.
@@ -236,7 +234,7 @@ pub decoded-refused :
     (file : List ℕ) (number : ℕ) {linkArray : List (List ℕ)} {nodeArray entryArray : List ℕ} → number ≡ refusal file → (number ≡ 0 → ⊥) →
     Room file (length linkArray) (length entryArray) → length nodeArray ≡ 32 →
     Decoded file (record { refusal = number; nodes = 0; links = 0; destinations = 0 }) linkArray nodeArray entryArray
-unfolding linkRowsIn nodesIn entriesIn tabulate rows
+unfolding linkRowsIn nodesIn entriesIn tabulate
 decoded-refused file number number-is refused room nodes-long =
     let no : refusal file ≡ 0 → ⊥ = λ e. refused (number-is ∙ e) in
     decoded file _ room number-is (counts file (sym (nodes-refused file no)) (sym (links-refused file no)) (sym (destinations-refused file no))) refl refl refl refl

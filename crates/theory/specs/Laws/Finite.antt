@@ -1,12 +1,12 @@
 -- Sums, tests, searches and lists over the numbers below a bound: the laws of `Finite`.
 use Prim.Native.Nat.{ℕ, zero, suc, _+_, _*_, _≤_, _<_, zero-le, suc-le-suc}
-use native.Mathlib.Nat.{not-suc-le-zero, le-of-suc-le-suc}
+use native.Mathlib.Nat.{not-suc-le-zero, le-of-suc-le-suc, add-zero, add-suc, zero-mul, suc-mul}
 use native.Mathlib.Decide.{decLt}
 use native.Mathlib.Numerals.{add-one}
 use native.Mathlib.Omega.{arith}
 use mathlib.Core.Path.{_≡_, refl, sym, _∙_, ap, fun-ext, ap₂}
 use mathlib.Core.Bool.{Bool, true, false, _&&_, cond, and-false, true≢false}
-use mathlib.Core.List.{List, [], _∷_, _++_}
+use mathlib.Core.List.{List, [], _∷_, _++_, append-nil, append-assoc}
 use mathlib.Core.Option.{Option, none, some, Option·some-injective, Option·none-ne-some, Option·some-ne-none}
 use mathlib.Core.Logic.{_⊎_, inl, inr, ⊎-elim}
 use lib.ListN.{length, getD, length-append, List·getD-append}
@@ -222,6 +222,21 @@ pub tabulate-suc : {A : Type 0} (n : ℕ) (f : ℕ → A) → tabulate (n + 1) f
 tabulate-suc n f = rw add-one (tabulate-snoc n f)
 
 -- Rows that are the same, one by one, make the same list.
+-- A list by index in two parts,
+pub tabulate-append : {A : Type 0} (a b : ℕ) (f : ℕ → A) → tabulate (a + b) f ≡ tabulate a f ++ tabulate b (λ j. f (a + j))
+unfolding tabulate
+tabulate-append a zero f = rw (add-zero a) (sym (append-nil (tabulate a f)))
+tabulate-append a (suc b) f =
+    rw (add-suc a b, tabulate-snoc (a + b) f, tabulate-append a b f, tabulate-snoc b (λ j. f (a + j)))
+    (append-assoc (tabulate a f) (tabulate b (λ j. f (a + j))) (f (a + b) ∷ []))
+
+-- and in rows of equal length.
+pub rows-flat : (p n : ℕ) (f : ℕ → ℕ) → rows p (λ k. tabulate n (λ j. f (k * n + j))) ≡ tabulate (p * n) f
+unfolding rows tabulate
+rows-flat zero n f = rw (zero-mul n)
+rows-flat (suc p) n f =
+    rw (suc-mul p n) (ap (λ xs. xs ++ tabulate n (λ j. f (p * n + j))) (rows-flat p n f) ∙ sym (tabulate-append (p * n) n f))
+
 pub rows-cong : (n : ℕ) (f g : ℕ → List ℕ) → ((k : ℕ) → k < n → f k ≡ g k) → rows n f ≡ rows n g
 unfolding rows
 rows-cong zero f g same = refl

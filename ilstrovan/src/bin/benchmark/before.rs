@@ -9,7 +9,7 @@ mod sys {
     declare_calls!("before");
 }
 
-/// Whether it accepts a study: it refuses version 2 if it does not know that.
+/// Whether it accepts a study: it refuses a version that it does not know.
 pub fn accepts(file: &[u8]) -> bool {
     // SAFETY: pointer and length are those of a slice.
     unsafe { sys::ilstrovan_check(file.as_ptr(), file.len()) == 0 }

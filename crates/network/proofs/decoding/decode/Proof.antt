@@ -4,6 +4,8 @@ use denote.Ref.{now}
 use mathlib.Core.Path.{_≡_, sym, _∙_}
 use Rattle.study.specs.Laws.{accepted, nodes-field, links-field, destinations-field}
 use Rattle.study.specs.Questions.{refusal}
+use native.Mathlib.Omega.{arith}
+use Rattle.questions.specs.Laws.Questions.{entries-fit}
 use Rattle.network.specs.Decoded.{Counts}
 use Rattle.network.specs.Laws.Decoding.{holds-own, counts, room-links, room-entries, links-there, destinations-there, trips-there, decoded, decoded-refused}
 use Rattle.network.proofs.decoding.decode.Statement.{statement}
@@ -72,6 +74,11 @@ decode-destinations-requires c κs =
     let after = parted .before .before .before .before in
     (counted after .destinations-most, destinations-there (counted after) (parted .before .before .accepted-section2 .ensures), start after .pre .1)
 
+mul-decode-trips : tie.Need-mul-decode-trips
+mul-decode-trips c =
+    let known = counted (c .before .before .before .before .before .before .before .before .before .before .before .before .before) in
+    omega (arith, entries-fit (known .nodes-most) (known .destinations-most))
+
 decode-trips-requires : tie.Need-decode-trips-requires
 decode-trips-requires c κs =
     let parted = c .before .before .before .before .before .before .before .before .before .before in
@@ -111,6 +118,7 @@ decode-spec =
     decode-links-requires
     decode-closed-requires
     decode-destinations-requires
+    mul-decode-trips
     decode-trips-requires
     same-length
     same-length-2
