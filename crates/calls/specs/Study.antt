@@ -8,12 +8,12 @@ use Rattle.theory.specs.Finite.{tabulate, rows}
 use Rattle.theory.specs.Network.{Network}
 use Rattle.theory.specs.Study.{network}
 
--- A power (A.5) as a byte: 255 stands for every number that is too large for one.
-abbrev pub powerByte : ℕ → ℕ
-powerByte q = min 255 q
+-- A number as a byte: 255 stands for every number that is too large for one.
+abbrev pub asByte : ℕ → ℕ
+asByte x = min 255 x
 
--- The fields of a link, in the order of the columns of a row. The last is two bytes: the closed byte of its head (A.2), 0 where the file has
--- none, and its power (A.5).
+-- The fields of a link, in the order of the columns of a row. The last is two bytes: its power (A.5), and the closed byte of its
+-- head (A.2), 0 where the file has none.
 unfoldable pub linkRow : List ℕ → ℕ → List ℕ → ℕ → List ℕ
 linkRow linkBytes linkSize closedBytes l =
     tail linkBytes linkSize l
@@ -21,7 +21,7 @@ linkRow linkBytes linkSize closedBytes l =
     ∷ freeTime linkBytes linkSize l
     ∷ rise linkBytes linkSize l
     ∷ capacity linkBytes linkSize l
-    ∷ (256 * closedByte closedBytes (head linkBytes linkSize l) + powerByte (power linkBytes linkSize l))
+    ∷ (256 * asByte (power linkBytes linkSize l) + asByte (closedByte closedBytes (head linkBytes linkSize l)))
     ∷ []
 
 -- The rows of all links, in link order.

@@ -17,7 +17,7 @@ use Rattle.theory.specs.Routes.{routing, IsPath}
 use Rattle.theory.specs.Study.{closed, mayUse, network}
 use Rattle.theory.specs.Laws.Cases.{on-equal, on-test}
 use Rattle.theory.specs.Laws.Permission.{may-open, may-own, may-closed}
-use Rattle.calls.specs.Study.{linkRows, networkOf}
+use Rattle.calls.specs.Study.{asByte, linkRows, networkOf}
 use Rattle.calls.specs.Questions.{packedSize}
 use Rattle.calls.specs.Calls.{checkNumber, packNumber, packOutput, tableNumber}
 use Rattle.calls.specs.Cases.{zoneOnly, computed}
@@ -40,7 +40,7 @@ version-1-open file e node shut =
     omega arith
 
 module _ (file : List ℕ) (l : ℕ) (below : l < networkOf file .links) where
-  closed-is : closed (linkRows file) l ≡ closedByte (closedPart file) (networkOf file .head l)
+  closed-is : closed (linkRows file) l ≡ asByte (closedByte (closedPart file) (networkOf file .head l))
   unfolding networkOf network
   closed-is = closed-head file l below
 
@@ -56,11 +56,11 @@ module _ (file : List ℕ) (l : ℕ) (below : l < networkOf file .links) where
       s = networkOf file .destination k
 
       only : mayUse rows s l ≡ true → Closed file (networkOf file .head l) → networkOf file .head l ≡ s
-      only e shut = may-closed rows s l (closed-is ∙ shut) e
+      only e shut = may-closed rows s l (closed-is ∙ ap asByte shut) e
 
       may : (Closed file (networkOf file .head l) → networkOf file .head l ≡ s) → mayUse rows s l ≡ true
       may f =
-          on-equal (closed rows l) 1 (λ shut. may-own rows s l (f (sym closed-is ∙ shut))) (λ is-open. may-open rows s l is-open)
+          on-equal (closed rows l) 1 (λ shut. may-own rows s l (f (omega (arith, closed-is)))) (λ is-open. may-open rows s l is-open)
 
 -- No link of a path leads into a closed node other than the destination.
 abbrev pub Avoids : List ℕ → ℕ → List ℕ → Type 0

@@ -4,7 +4,7 @@ ghost use mathlib.Core.Path.{_≡_};
 ghost use mathlib.Core.List.{[]};
 ghost use lib.ListN.{length, getD, set};
 ghost use Rattle.study.specs.Fields.{closedByte};
-ghost use Rattle.calls.specs.Study.{powerByte};
+ghost use Rattle.calls.specs.Study.{asByte};
 ghost use Rattle.network.specs.Decoded.{Room, Decoded, Holds, linkRowsIn, nodesIn, entriesIn, HasLinks, HasDestinations, HasEntries};
 use theory::CLOSED_POWER;
 use theory::HEAD;
@@ -78,7 +78,7 @@ fn decode_links(bytes: &[u8], size: usize, m: usize, links: &mut [[u16; 6]])
             study::free_time(bytes, size, l),
             study::rise(bytes, size, l),
             study::capacity(bytes, size, l),
-            power_byte(study::power(bytes, size, l)),
+            256 * power_byte(study::power(bytes, size, l)),
         ];
         l += 1;
     }
@@ -86,7 +86,7 @@ fn decode_links(bytes: &[u8], size: usize, m: usize, links: &mut [[u16; 6]])
 
 // A power as a byte: 255 stands for every number that is too large for one.
 fn power_byte(power: u16) -> u16
-    ensures { λ r. ⌜ r ≡ powerByte power ⌝ }
+    ensures { λ r. ⌜ r ≡ asByte power ⌝ }
 {
     if power < 255 {
         return power;
@@ -111,12 +111,12 @@ fn decode_closed(bytes: &[u8], size: usize, closed: &[u8], m: usize, links: &mut
 
 // A link's row with the closed byte of its head.
 fn with_closed(row: [u16; 6], closed: &[u8]) -> [u16; 6]
-    requires { ⌜ getD row 5 0 ≤ 255 ⌝ }
-    ensures { λ r. ⌜ r ≡ set row 5 (getD row 5 0 + 256 * closedByte (now (closed .entry)) (getD row 1 0)) ⌝ }
+    requires { ⌜ getD row 5 0 ≤ 65280 ⌝ }
+    ensures { λ r. ⌜ r ≡ set row 5 (getD row 5 0 + asByte (closedByte (now (closed .entry)) (getD row 1 0))) ⌝ }
 {
     let byte = study::closed_byte(closed, row[HEAD] as usize) as u16;
     let mut link = row;
-    link[CLOSED_POWER] = row[CLOSED_POWER] + 256 * byte;
+    link[CLOSED_POWER] = row[CLOSED_POWER] + byte;
     link
 }
 

@@ -10,6 +10,7 @@ ghost use Rattle.pages.specs.Lines.{ends, rowLines, Printable};
 use text::put_aligned;
 use text::put_byte;
 use text::put_hundredths;
+use theory::CLOSED_POWER;
 use theory::HEAD;
 use theory::TAIL;
 
@@ -30,7 +31,8 @@ pub fn put_lines(
         let link = links[l];
         let flow = flows[l];
         let volume = volume_of(share, flow);
-        let timed = travel::link_time(link, share, flow, curves);
+        let list = travel::list_start(link[CLOSED_POWER] / 256, travel::ALL_LISTS);
+        let timed = travel::link_time(link, list, share, flow, curves);
         let time = timed.time as u32;
         at = put_line(page, at, l, link[TAIL], link[HEAD], volume, time);
         l += 1;

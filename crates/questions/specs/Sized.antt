@@ -5,6 +5,7 @@ use mathlib.Core.Path.{_≡_}
 use lib.ListN.{length}
 use Rattle.study.specs.Fields.{closedByte}
 use Rattle.theory.specs.Study.{head, closed}
+use Rattle.calls.specs.Study.{asByte}
 
 -- A study is of the size that questions 3 and 5 allow.
 pub record Sized (n : ℕ) (linkList : List (List ℕ)) (nodeList entries : List ℕ) : Type 0 where
@@ -13,6 +14,6 @@ pub record Sized (n : ℕ) (linkList : List (List ℕ)) (nodeList entries : List
   pub few-destinations : length nodeList ≤ 32
   pub entries-long : length entries ≡ length nodeList * n
 
--- The last column of each link's row is the closed byte of its head.
+-- The last column of each link's row tells the closed byte of its head.
 abbrev pub ClosedHeads : List (List ℕ) → List ℕ → Type 0
-ClosedHeads links closedBytes = (l : ℕ) → l < length links → closed links l ≡ closedByte closedBytes (head links l)
+ClosedHeads links closedBytes = (l : ℕ) → l < length links → closed links l ≡ asByte (closedByte closedBytes (head links l))

@@ -61,7 +61,7 @@ fn powers_fit(links: &[[u16; 6]]) -> bool
 {
     let mut l = 0;
     while l < links.len() {
-        if !within(1, 4, links[l][CLOSED_POWER] % 256) {
+        if !within(1, 4, links[l][CLOSED_POWER] / 256) {
             return false;
         }
         l += 1;

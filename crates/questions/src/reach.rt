@@ -99,7 +99,7 @@ fn mark_tails(nodes: usize, links: &[[u16; 6]], all_open: bool, rows: &mut [[u64
         let i = row_place(
             nodes,
             node(links[l][HEAD]),
-            links[l][CLOSED_POWER] / 256,
+            links[l][CLOSED_POWER] % 256,
             all_open,
         );
         mark(i, node(links[l][TAIL]), rows);

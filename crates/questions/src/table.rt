@@ -101,7 +101,7 @@ fn rows_permit(links: &[[u16; 6]], destinations: &[u16], table: &[u32]) -> bool
 {
     let mut l = 0;
     while l < links.len() {
-        if links[l][CLOSED_POWER] / 256 == 1 && !link_permits(links, l, destinations, table) {
+        if links[l][CLOSED_POWER] % 256 == 1 && !link_permits(links, l, destinations, table) {
             return false;
         }
         l += 1;

@@ -58,7 +58,7 @@ fn end_of(link: [u16; 6], end: usize) -> usize
     ensures { λ r. ⌜ r ≡ endOf (link ∷ []) end 0 ⌝ }
 {
     let node = index(link[end]);
-    if link[CLOSED_POWER] / 256 == 1 {
+    if link[CLOSED_POWER] % 256 == 1 {
         128 + node
     } else {
         node

@@ -28,13 +28,13 @@ rise links l = column 3 links l
 abbrev pub capacity : List (List ℕ) → ℕ → ℕ
 capacity links l = column 4 links l
 
--- The last column is two bytes. (A.2) The higher is 1 where the link's head is closed.
+-- The last column is two bytes. (A.2) The lower is 1 where the link's head is closed.
 abbrev pub closed : List (List ℕ) → ℕ → ℕ
-closed links l = column 5 links l / 256
+closed links l = column 5 links l % 256
 
--- (A.5) The lower is the power q.
+-- (A.5) The higher is the power q.
 abbrev pub power : List (List ℕ) → ℕ → ℕ
-power links l = column 5 links l % 256
+power links l = column 5 links l / 256
 
 -- Links of versions 1 and 2 have power 4.
 abbrev pub AllFourth : List (List ℕ) → Type 0

@@ -40,7 +40,7 @@ scaledPower i r = r ^ (4 - i) * 64 ^ i
 
 -- (A.5) The power of a link, by its row.
 abbrev pub rowPower : List ℕ → ℕ
-rowPower link = getD link 5 0 % 256
+rowPower link = getD link 5 0 / 256
 
 -- The time of a link, by its row, at a step.
 abbrev pub rowTime : List ℕ → ℕ → ℕ

@@ -1,5 +1,5 @@
 -- What the functions of this crate ask of their arguments, and the largest numbers that they meet.
-use Prim.Native.Nat.{ℕ, _+_, _*_, _≤_, _<_}
+use Prim.Native.Nat.{ℕ, _+_, _*_, _-_, _≤_, _<_}
 use mathlib.Core.Path.{_≡_}
 use mathlib.Core.List.{List, []}
 use mathlib.Core.Logic.{_⊎_}
@@ -57,15 +57,25 @@ pub record ListPut (i : ℕ) (before after : List ℕ) : Type 0 where
 abbrev pub HasList : ℕ → List ℕ → Type 0
 HasList places link = 1797 ≤ places + 257 * rowPower link
 
+-- A link that fits, curves that have the list of its power, and where in them that list begins.
+pub record ListAt (curves link : List ℕ) (list : ℕ) : Type 0 where
+  pub powers : Powers curves
+  pub fit : LinkFits link
+  pub has-list : HasList (length curves) link
+  pub begins : list ≡ 512 + 257 * (4 - rowPower link)
+
 -- The lists of the powers of all links.
+abbrev pub HasLists : ℕ → List (List ℕ) → Type 0
+HasLists places links = (l : ℕ) → l < length links → HasList places (getD links l [])
+
 pub record LinkPowers (links : List (List ℕ)) (curves : List ℕ) : Type 0 where
   pub powers : Powers curves
-  pub has-list : (l : ℕ) → l < length links → HasList (length curves) (getD links l [])
+  pub has-list : HasLists (length curves) links
 
 -- Room for the curves of links: what is asked of a list that they are put into.
 pub record CurveRoom (links : List (List ℕ)) (places : ℕ) : Type 0 where
   pub room : ListRoom places
-  pub has-list : (l : ℕ) → l < length links → HasList places (getD links l [])
+  pub has-list : HasLists places links
 
 pub record Reciprocals (m : ℕ) (links : List (List ℕ)) (curves : List ℕ) : Type 0 where
   pub reciprocal-at : (l : ℕ) → l < m → getD curves l 0 ≡ reciprocal capacityParts (capacity links l)

@@ -5,11 +5,13 @@ ghost use mathlib.Core.Path.{_≡_};
 ghost use Rattle.theory.specs.Moves.{movedTimes, chosen as chosenOf};
 ghost use Rattle.travel.specs.Links.{roads, totalOf, loadOf};
 ghost use Rattle.travel.specs.Ranges.{Curves, MoveFits};
+use crate::powers::list_start;
 use crate::reciprocals::share_reciprocal;
 use crate::reciprocals::step_by;
 use crate::steps::time_at;
 use crate::table::LOAD;
 use crate::table::TOTAL;
+use theory::CLOSED_POWER;
 
 // What decides whether j qualifies: W × the sum of Y × time, and the sum of S × time.
 struct Sums {
@@ -142,7 +144,8 @@ fn sums_at(links: &[[u16; 6]], flows: &[[u64; 512]; 2], share: u32, j: u32, curv
         let s = flows[TOTAL][l];
         let y = flows[LOAD][l];
         let step = step_by(curves[l], by_share, s + j as u64 * y);
-        let link = time_at(links[l], step, curves);
+        let list = list_start(links[l][CLOSED_POWER] / 256, curves.len());
+        let link = time_at(links[l], list, step, curves);
         loaded += y * link.time;
         spent += s * link.time;
         l += 1;

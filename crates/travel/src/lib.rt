@@ -16,6 +16,7 @@ pub use costs::cost;
 pub use costs::product;
 pub use powers::ALL_LISTS;
 pub use powers::ONE_LIST;
+pub use powers::list_start;
 pub use powers::put_powers;
 pub use reciprocals::put_reciprocals;
 pub use steps::LinkTime;

@@ -60,8 +60,8 @@ fn scaled_power(i: usize, r: u32) -> u64
     product
 }
 
-// Where the list of a power begins, in curves of so many places. Where there is one list it is that of power 4: a loop over links then need
-// not look at their powers.
+// Where the list of a power begins, in curves of so many places or more. Where there is one list it is that of power 4: a loop over links then
+// need not look at their powers.
 pub fn list_start(power: u16, places: usize) -> usize
     requires { ⌜ (power ≤ 4) × (1797 ≤ places + 257 * power) ⌝ }
     ensures { λ r. ⌜ r ≡ 512 + 257 * (4 - power) ⌝ }

@@ -4,7 +4,7 @@ ghost use mathlib.Core.Path.{_≡_};
 ghost use lib.ListN.{length, getD};
 ghost use Rattle.theory.specs.Flows.{step};
 ghost use Rattle.travel.specs.Links.{padded, timed, listTime};
-ghost use Rattle.travel.specs.Ranges.{LinkFits, LinksFit, Powers, HasList, LinkPowers, ShareFits, Within, Clear, TimesFit, mostFlow, mostTime};
+ghost use Rattle.travel.specs.Ranges.{LinksFit, ListAt, LinkPowers, ShareFits, Within, Clear, TimesFit, mostFlow, mostTime};
 use crate::powers::list_start;
 use theory::CAPACITY;
 use theory::CLOSED_POWER;
@@ -30,12 +30,13 @@ pub fn step_of(capacity: u16, share: u32, flow: u64) -> u64
     256
 }
 
-// Time at a step, a + floor(b·r^q / 64^q), and whether that is step 256. No other function makes a `LinkTime`.
-pub fn time_at(link: [u16; 6], step: u64, curves: &[u64]) -> LinkTime
-    requires { ⌜ LinkFits link × (step ≤ 256) × Powers (now curves) × HasList (length (now curves)) link ⌝ }
+// Time at a step, a + floor(b·r^q / 64^q), and whether that is step 256. The list of the link's power begins at `list`. No other function
+// makes a `LinkTime`.
+pub fn time_at(link: [u16; 6], list: usize, step: u64, curves: &[u64]) -> LinkTime
+    requires { ⌜ ListAt (now curves) link list × (step ≤ 256) ⌝ }
     ensures { λ r. ⌜ (r ≡ timed link step) × (r .time ≤ mostTime) ⌝ }
 {
-    let power = curves[list_start(link[CLOSED_POWER] % 256, curves.len()) + step as usize];
+    let power = curves[list + step as usize];
     let time = link[FREE_TIME] as u64 + link[RISE] as u64 * power / 16777216;
     LinkTime {
         time,
@@ -44,11 +45,11 @@ pub fn time_at(link: [u16; 6], step: u64, curves: &[u64]) -> LinkTime
 }
 
 // Time of a link with a flow, at a share, and whether step 256 was reached.
-pub fn link_time(link: [u16; 6], share: u32, flow: u64, curves: &[u64]) -> LinkTime
-    requires { ⌜ LinkFits link × ShareFits share × (flow ≤ mostFlow) × Powers (now curves) × HasList (length (now curves)) link ⌝ }
+pub fn link_time(link: [u16; 6], list: usize, share: u32, flow: u64, curves: &[u64]) -> LinkTime
+    requires { ⌜ ListAt (now curves) link list × ShareFits share × (flow ≤ mostFlow) ⌝ }
     ensures { λ r. ⌜ (r ≡ timed link (step (getD link 4 0) share flow)) × (r .time ≤ mostTime) ⌝ }
 {
-    time_at(link, step_of(link[CAPACITY], share, flow), curves)
+    time_at(link, list, step_of(link[CAPACITY], share, flow), curves)
 }
 
 // Writes the times of the links with the flows of an array, at a share, in place of the first numbers of
@@ -67,7 +68,8 @@ pub fn times(
 {
     let mut l = 0;
     while l < links.len() {
-        let link = link_time(links[l], share, flows[l], curves);
+        let list = list_start(links[l][CLOSED_POWER] / 256, curves.len());
+        let link = link_time(links[l], list, share, flows[l], curves);
         times[l] = link.time as u32;
         l += 1;
     }

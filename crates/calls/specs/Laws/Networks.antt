@@ -18,7 +18,7 @@ use Rattle.theory.specs.Moves.{tableSize}
 use Rattle.theory.specs.Study.{head, freeTime, rise, capacity, closed, power, AllFourth, network}
 use Rattle.theory.specs.Laws.Finite.{length-tabulate, getD-tabulate, all-elim, and-left, and-right, both}
 use Rattle.theory.specs.Laws.Times.{stepTime-least, stepTime-mono}
-use Rattle.calls.specs.Study.{powerByte, linkRow, linkRows, networkOf}
+use Rattle.calls.specs.Study.{asByte, linkRow, linkRows, networkOf}
 use Rattle.calls.specs.Questions.{endsFit, timesFit, destinationsFit, noTripsWithin, totalFits, tableHolds, budgetFits, shareFits}
 use Rattle.calls.specs.Laws.Questions.{Described}
 
@@ -30,15 +30,14 @@ pub links-length : (file : List ℕ) → length (linkRows file) ≡ links file
 unfolding linkRows
 links-length file = length-tabulate (links file) (linkRow (linkPart file) (linkSize file) (closedPart file))
 
--- The last column of a link's row tells the closed byte of its head,
-pub closed-head : (file : List ℕ) (l : ℕ) → l < length (linkRows file) → closed (linkRows file) l ≡ closedByte (closedPart file) (head (linkRows file) l)
+-- The last column of a link's row tells the closed byte of its head and its power, each as a byte.
+pub closed-head : (file : List ℕ) (l : ℕ) → l < length (linkRows file) → closed (linkRows file) l ≡ asByte (closedByte (closedPart file) (head (linkRows file) l))
 unfolding linkRows linkRow
 closed-head file l below =
     rw (getD-tabulate (links file) (linkRow (linkPart file) (linkSize file) (closedPart file)) [] l (omega (arith, links-length file)))
     (omega arith)
 
--- and its power, as a byte.
-pub power-read : (file : List ℕ) (l : ℕ) → l < length (linkRows file) → power (linkRows file) l ≡ powerByte (powerOf (linkPart file) (linkSize file) l)
+pub power-read : (file : List ℕ) (l : ℕ) → l < length (linkRows file) → power (linkRows file) l ≡ asByte (powerOf (linkPart file) (linkSize file) l)
 unfolding linkRows linkRow
 power-read file l below =
     rw (getD-tabulate (links file) (linkRow (linkPart file) (linkSize file) (closedPart file)) [] l (omega (arith, links-length file)))

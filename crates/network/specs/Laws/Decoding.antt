@@ -16,7 +16,7 @@ use Rattle.theory.specs.Finite.{tabulate, rows}
 use Rattle.theory.specs.Study.{AllFourth}
 use Rattle.theory.specs.Laws.Cases.{on-equal}
 use Rattle.theory.specs.Laws.Finite.{length-tabulate, getD-tabulate, tabulate-cong, tabulate-suc, length-rows, rows-flat}
-use Rattle.calls.specs.Study.{powerByte, linkRow, linkRows, destinationNodes, tripEntries}
+use Rattle.calls.specs.Study.{asByte, linkRow, linkRows, destinationNodes, tripEntries}
 use Rattle.calls.specs.Laws.Networks.{links-length, closed-head, fourth-powers}
 use Rattle.network.specs.declared.decoding.Opening.{Opening}
 use Rattle.questions.specs.Sized.{Sized, ClosedHeads}
@@ -59,7 +59,7 @@ module _ {A : Type 0} (size : ℕ) where
 -- A link's row with the closed byte of its head joined to its power.
 row-closed : (linkBytes : List ℕ) (linkSize : ℕ) (closedBytes : List ℕ) (l : ℕ) →
     let row = linkRow linkBytes linkSize [] l in
-    set row 5 (getD row 5 0 + 256 * closedByte closedBytes (getD row 1 0)) ≡ linkRow linkBytes linkSize closedBytes l
+    set row 5 (getD row 5 0 + asByte (closedByte closedBytes (getD row 1 0))) ≡ linkRow linkBytes linkSize closedBytes l
 unfolding linkRow closedByte
 row-closed linkBytes linkSize closedBytes l =
     ap (λ x. tail linkBytes linkSize l ∷ head linkBytes linkSize l ∷ freeTime linkBytes linkSize l ∷ rise linkBytes linkSize l ∷ capacity linkBytes linkSize l ∷ x ∷ [])
@@ -67,16 +67,16 @@ row-closed linkBytes linkSize closedBytes l =
 
 -- A row read field by field, as if every node were open.
 pub row-read : (linkBytes : List ℕ) (linkSize l : ℕ) {t h a b c q : ℕ} → t ≡ tail linkBytes linkSize l → h ≡ head linkBytes linkSize l → a ≡ freeTime linkBytes linkSize l
-    → b ≡ rise linkBytes linkSize l → c ≡ capacity linkBytes linkSize l → q ≡ powerByte (power linkBytes linkSize l)
-    → t ∷ h ∷ a ∷ b ∷ c ∷ q ∷ [] ≡ linkRow linkBytes linkSize [] l
+    → b ≡ rise linkBytes linkSize l → c ≡ capacity linkBytes linkSize l → q ≡ asByte (power linkBytes linkSize l)
+    → t ∷ h ∷ a ∷ b ∷ c ∷ 256 * q ∷ [] ≡ linkRow linkBytes linkSize [] l
 unfolding linkRow closedByte
 row-read linkBytes linkSize l t-is h-is a-is b-is c-is q-is =
     rw (t-is, h-is, a-is, b-is, c-is, q-is)
     (ap (λ x. tail linkBytes linkSize l ∷ head linkBytes linkSize l ∷ freeTime linkBytes linkSize l ∷ rise linkBytes linkSize l ∷ capacity linkBytes linkSize l ∷ x ∷ [])
     (omega arith))
 
--- Without closed bytes the last number of a row is its power, a byte.
-pub row-open : (linkBytes : List ℕ) (linkSize l : ℕ) → getD (linkRow linkBytes linkSize [] l) 5 0 ≤ 255
+-- Without closed bytes the last number of a row is its power, as the higher byte.
+pub row-open : (linkBytes : List ℕ) (linkSize l : ℕ) → getD (linkRow linkBytes linkSize [] l) 5 0 ≤ 65280
 unfolding linkRow closedByte
 row-open linkBytes linkSize l = omega arith
 
@@ -94,7 +94,7 @@ module _ (size : ℕ) (linkBytes : List ℕ) (linkSize : ℕ) (closedBytes : Lis
       }
 
   pub closed-more : {array : List (List ℕ)} {l : ℕ} {row : List ℕ} → m ≤ size → l < m → ClosedBelow size linkBytes linkSize closedBytes m l array
-      → row ≡ set (getD array l []) 5 (getD (getD array l []) 5 0 + 256 * closedByte closedBytes (getD (getD array l []) 1 0)) → ClosedBelow size linkBytes linkSize closedBytes m (l + 1) (set array l row)
+      → row ≡ set (getD array l []) 5 (getD (getD array l []) 5 0 + asByte (closedByte closedBytes (getD (getD array l []) 1 0))) → ClosedBelow size linkBytes linkSize closedBytes m (l + 1) (set array l row)
   unfolding linkRowsIn linkRow
   closed-more {array} {l} {row} room below w is =
       record {

@@ -3,7 +3,7 @@ use Prim.Native.Nat.{ℕ, zero, suc, _+_, _*_, _-_, _/_, _^_, _≤_, _<_, min}
 use native.Mathlib.Nat.{lt-of-le-of-lt, mul-assoc, mul-le-mul, mul-le-mul-left, mul-lt-mul-of-pos-right, mul-div-mul-right, add-sub-of-le, pow-zero, pow-suc, pow-le-pow-left, pow-lt-pow-left, one-le-pow}
 use native.Mathlib.Omega.{arith}
 use mathlib.Core.Path.{_≡_, refl, sym, _∙_, ap}
-use mathlib.Core.List.{List}
+use mathlib.Core.List.{List, []}
 use mathlib.Core.Logic.{_⊎_, inl, inr, ⊎-elim}
 use lib.ListN.{length, getD, set, length-set}
 use lib.Pow.{pow-add}
@@ -13,7 +13,7 @@ use Rattle.theory.specs.Flows.{stepTime}
 use Rattle.theory.specs.Laws.Finite.{below-suc}
 use Rattle.travel.specs.Links.{scaledPower, rowPower, rowTime}
 use Rattle.theory.specs.Study.{AllFourth}
-use Rattle.travel.specs.Ranges.{LinkFits, LinksFit, Powers, ListPut, HasList, LinkPowers, CurveRoom}
+use Rattle.travel.specs.Ranges.{LinksFit, Powers, ListPut, ListAt, LinkPowers, HasLists, CurveRoom}
 
 -- The product of the first k factors of number r of list i: the first i factors are 64, and the others r.
 abbrev pub factors : ℕ → ℕ → ℕ → ℕ
@@ -66,17 +66,27 @@ module _ (i r : ℕ) where
       (lt-of-le-of-lt (mul-le-mul-left (r ^ (4 - i)) (pow-le-pow-left low i))
       (mul-lt-mul-of-pos-right (pow-lt-pow-left h (λ e. omega arith)) (one-le-pow i 256 (omega arith))))
 
+-- All four lists have that of every power that fits.
+pub all-lists : (links : List (List ℕ)) → LinksFit links → HasLists 1540 links
+all-lists links fit l h = omega (arith, fit .link l h .some-power)
+
 -- There is room for the curves of links in 769 places where every power is 4, and in 1,540 for any that fit.
 module _ (links : List (List ℕ)) {places : ℕ} where
   pub room-one : AllFourth links → places ≡ 769 → CurveRoom links places
   room-one fourth are = record { room = inl are; has-list = λ l h. omega (arith, fourth l h, are) }
 
   pub room-all : LinksFit links → places ≡ 1540 → CurveRoom links places
-  room-all fit are = record { room = inr are; has-list = λ l h. omega (arith, fit .link l h .some-power, are) }
+  room-all fit are = record { room = inr are; has-list = rw are (all-lists links fit) }
 
 -- The lists that are put there are those of the links' powers.
 pub link-powers : {links : List (List ℕ)} {places : ℕ} {curves : List ℕ} → CurveRoom links places → Powers curves × (length curves ≡ places) → LinkPowers links curves
 link-powers room put = record { powers = put .0; has-list = λ l h. rw (put .1) (room .has-list l h) }
+
+-- Each of the links has its list there.
+pub list-at : {links : List (List ℕ)} {curves : List ℕ} {l list : ℕ} → LinksFit links → LinkPowers links curves → l < length links
+    → list ≡ 512 + 257 * (4 - rowPower (getD links l [])) → ListAt curves (getD links l []) list
+list-at {l = l} fit powers below is =
+    record { powers = powers .powers; fit = fit .link l below; has-list = powers .has-list l below; begins = is }
 
 -- What a tread rises above the free time, b·r^q / 64^q.
 abbrev pub risenAt : ℕ → ℕ → ℕ → ℕ
@@ -157,14 +167,7 @@ pub lists-all : (lists : ℕ) (curves : List ℕ) → 1 ≤ lists → lists ≤ 
 lists-all lists curves some few all =
     record { lists = lists; some-list = some; few-lists = few; size = all .size; power = all .power }
 
--- A link that fits, curves that have the list of its power, and where in them that list begins:
-pub record ListAt (curves link : List ℕ) (list : ℕ) : Type 0 where
-  pub powers : Powers curves
-  pub fit : LinkFits link
-  pub has-list : HasList (length curves) link
-  pub begins : list ≡ 512 + 257 * (4 - rowPower link)
-
--- the list ends within the curves,
+-- The list of a link's power ends within the curves,
 pub list-within : (curves link : List ℕ) (list : ℕ) → ListAt curves link list → list + 256 < length curves
 list-within curves link list g = omega (arith, g .begins, g .has-list, g .fit .power-fits)
 

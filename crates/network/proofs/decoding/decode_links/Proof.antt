@@ -7,7 +7,7 @@ use lib.ListN.{length}
 use native.Mathlib.Omega.{arith}
 use Prim.Native.Nat.{_≤_, _-_}
 use Rattle.study.specs.Fields.{HasLink}
-use Rattle.calls.specs.Study.{powerByte, linkRow}
+use Rattle.calls.specs.Study.{asByte, linkRow}
 use Rattle.theory.specs.Finite.{tabulate}
 use Rattle.network.specs.Decoded.{Holds, linkRowsIn, HasLinks}
 use Rattle.network.specs.Laws.Decoding.{holds-none, holds-next, row-read}
@@ -50,8 +50,11 @@ power-requires c κs = at-link (c .before .before .before .before .before)
 power-byte-requires : tie.Need-power-byte-requires Inv-loop μ-loop
 power-byte-requires c κs = search needs
 
-mul-t15 : tie.Need-mul-t15 Inv-loop μ-loop
-mul-t15 c = search needs
+mul-t14 : tie.Need-mul-t14 Inv-loop μ-loop
+mul-t14 c = omega (arith, c .power-byte .ensures)
+
+mul-t16 : tie.Need-mul-t16 Inv-loop μ-loop
+mul-t16 c = search needs
 
 slice-set-from-links : tie.Need-slice-set-from-links Inv-loop μ-loop
 slice-set-from-links c = search needs
@@ -72,7 +75,7 @@ loop-again c =
       holds-next _ (linkRow (now (x .bytes)) (x .size) []) (loop .l) (omega arith) (loop .inv .1)
           (row-read _ _ _ (read .before .before .before .before .tail .ensures) (read .before .before .before .head .ensures)
           (read .before .before .free-time .ensures) (read .before .rise .ensures) (read .capacity .ensures)
-          (c .power-byte .ensures ∙ ap powerByte (c .before .power .ensures))),
+          (c .power-byte .ensures ∙ ap asByte (c .before .power .ensures))),
     )
 
 same-length : tie.Need-same-length Inv-loop μ-loop
@@ -97,7 +100,8 @@ decode-links-spec =
     capacity-requires
     power-requires
     power-byte-requires
-    mul-t15
+    mul-t14
+    mul-t16
     slice-set-from-links
     add-l
     loop-less

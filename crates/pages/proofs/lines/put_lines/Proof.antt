@@ -6,6 +6,7 @@ use Prim.Native.Nat.{_*_, _-_, _≤_}
 use lib.ListN.{length}
 use Rattle.theory.specs.Finite.{rows}
 use Rattle.travel.specs.Links.{listTime}
+use Rattle.travel.specs.Laws.Powers.{all-lists, list-at}
 use Rattle.text.specs.Put.{Put}
 use Rattle.text.specs.Laws.Put as puts
 use Rattle.pages.specs.Lines.{rowLine}
@@ -41,12 +42,21 @@ volume-of-requires c κs =
     let within = turn .loop-test .taken in
     (pre .share-fits .some-share, pre .flows-fit _ within, pre .line _ within .volume-most)
 
+array-read-list-start : tie.Need-array-read-list-start Inv-loop μ-loop
+array-read-list-start c = search needs
+
+list-start-requires : tie.Need-list-start-requires Inv-loop μ-loop
+list-start-requires c κs =
+    let turn = c .before .before .before in
+    let fit = turn .before .before .before .before .pre .0 .links-fit in
+    (fit .link _ (turn .loop-test .taken) .power-fits, all-lists _ fit _ (turn .loop-test .taken))
+
 link-time-requires : tie.Need-link-time-requires Inv-loop μ-loop
 link-time-requires c κs =
-    let turn = c .before .before .before in
+    let turn = c .before .before .before .before in
     let pre = turn .before .before .before .before .pre in
     let within = turn .loop-test .taken in
-    (pre .0 .links-fit .link _ within, pre .0 .share-fits, pre .0 .flows-fit _ within, pre .1 .powers, pre .1 .has-list _ within)
+    (list-at (pre .0 .links-fit) (pre .1) within (c .list-start .ensures), pre .0 .share-fits, pre .0 .flows-fit _ within)
 
 cast-time : tie.Need-cast-time Inv-loop μ-loop
 cast-time c = search needs
@@ -61,9 +71,9 @@ put-line-requires : tie.Need-put-line-requires Inv-loop μ-loop
 unfolding listTime
 put-line-requires c κs =
     let timed = c .before .before in
-    let turn = timed .before .before .before .before in
+    let turn = timed .before .before .before .before .before in
     let pre = turn .before .before .before .before .pre .0 in (
-      rw (timed .before .volume-of .ensures, timed .link-time .ensures .0) (pre .line _ (turn .loop-test .taken)),
+      rw (timed .before .before .volume-of .ensures, timed .link-time .ensures .0) (pre .line _ (turn .loop-test .taken)),
       omega (arith, puts.same-length (turn .before .loop .inv .2)),
     )
 
@@ -78,8 +88,8 @@ unfolding rowLine listTime
 loop-again c =
     let put = c .before .before in
     let timed = put .before .before .before in
-    let turn = timed .before .before .before .before in
-    let line = rw (timed .before .volume-of .ensures, timed .link-time .ensures .0) at (put .put-line .ensures .0) in
+    let turn = timed .before .before .before .before .before in
+    let line = rw (timed .before .before .volume-of .ensures, timed .link-time .ensures .0) at (put .put-line .ensures .0) in
     (omega arith, omega arith, puts.then-row _ _ (turn .before .loop .inv .2) line)
 
 same-length : tie.Need-same-length Inv-loop μ-loop
@@ -102,6 +112,8 @@ put-lines-spec =
     mul-flow
     element-copy-out-flow
     volume-of-requires
+    array-read-list-start
+    list-start-requires
     link-time-requires
     cast-time
     array-read-put-line

@@ -11,6 +11,7 @@ use Rattle.theory.specs.Study.{capacity}
 use Rattle.travel.specs.Links.{rowTime, totalOf, loadOf}
 use Rattle.travel.specs.Ranges.{mostFlow, mostTime}
 use Rattle.travel.specs.Laws.Choice.{movedAt, movedTo, moved-flow, moved-none, moved-more, moved-all, moved-most}
+use Rattle.travel.specs.Laws.Powers.{list-at}
 use Rattle.travel.specs.Laws.Reciprocals.{Divisible, share-product, capacity-product, step-by}
 use Rattle.travel.proofs.choice.sums_at.Statement.{statement}
 use Rattle.travel.proofs.choice.sums_at.Tie as tie
@@ -42,7 +43,7 @@ spent-most : (c : tie.Start Inv-loop μ-loop) (l : ℕ) → l ≤ length (c .arg
 spent-most c l p = sum-most c (totalOf (c .args .flows .now)) mostFlow (λ i q. omega (arith, c .pre .0 .totals-fit i q)) l p
 
 abbrev at-loop : tie.After-time-at Inv-loop μ-loop → tie.At-loop Inv-loop μ-loop
-at-loop c = c .before .before .before .before .before .before .before
+at-loop c = c .before .before .before .before .before .before .before .before .before
 
 -- The step of a turn's link after the move, by reciprocals.
 abbrev loop-of : tie.After-shared-slice-known2 Inv-loop μ-loop → tie.At-loop Inv-loop μ-loop
@@ -76,7 +77,7 @@ time-is : (c : tie.After-time-at Inv-loop μ-loop) (amount : ℕ → ℕ) →
     let x = at-loop c .before .before .before .args in
     c .time-at .result .time ≡ movedAt (x .links .now) (x .share) (totalOf (x .flows .now)) (loadOf (x .flows .now)) (x .j) amount (at-loop c .loop .l)
 time-is c amount =
-    let at = c .before .before in
+    let at = c .before .before .before .before in
     ap (λ r. r .time) (c .time-at .ensures .0)
     ∙ ap (rowTime (getD (start (at .before) .args .links .now) (at-loop c .loop .l) [])) (at .step-by .ensures .0 ∙ step-by _ _ _ (divisible (at .before)))
 
@@ -160,6 +161,22 @@ step-by-requires c κs =
     let d = divisible c in
     ((omega (arith, d .flow-most, d .share-most), share-product _ _ _ d), capacity-product _ _ _ d)
 
+mul-list-start : tie.Need-mul-list-start Inv-loop μ-loop
+mul-list-start c = search needs
+
+index-1-list-start : tie.Need-index-1-list-start Inv-loop μ-loop
+index-1-list-start c = search needs
+
+index-2-list-start : tie.Need-index-2-list-start Inv-loop μ-loop
+index-2-list-start c = search needs
+
+list-start-requires : tie.Need-list-start-requires Inv-loop μ-loop
+list-start-requires c κs =
+    let turn = c .before .before in
+    let l = loop-of turn .loop .l in
+    let pre = start turn .pre in
+    (pre .0 .links-fit .link l (omega arith) .power-fits, pre .2 .powers .has-list l (omega arith))
+
 mul-time-at : tie.Need-mul-time-at Inv-loop μ-loop
 mul-time-at c = search needs
 
@@ -168,10 +185,9 @@ shared-slice-copy-out-time-at c = search needs
 
 time-at-requires : tie.Need-time-at-requires Inv-loop μ-loop
 time-at-requires c κs =
-    let turn = c .before .before in
-    let l = loop-of turn .loop .l in
+    let turn = c .before .before .before .before in
     let pre = start turn .pre in
-    (pre .0 .links-fit .link l (omega arith), c .before .step-by .ensures .1, pre .2 .powers .powers, pre .2 .powers .has-list l (omega arith))
+    (list-at (pre .0 .links-fit) (pre .2 .powers) (omega arith) (c .before .list-start .ensures), c .before .before .before .step-by .ensures .1)
 
 mul-loaded : tie.Need-mul-loaded Inv-loop μ-loop
 mul-loaded c = omega (arith, loaded-within (c .before))
@@ -228,6 +244,10 @@ sums-at-spec =
     mul-step-by-2
     add-step-by
     step-by-requires
+    mul-list-start
+    index-1-list-start
+    index-2-list-start
+    list-start-requires
     mul-time-at
     shared-slice-copy-out-time-at
     time-at-requires

@@ -11,7 +11,7 @@ use Rattle.theory.specs.Laws.Finite.{sum-suc}
 use Rattle.travel.specs.Links.{rowPower, rowTime}
 use Rattle.travel.specs.Ranges.{mostTime}
 use Rattle.travel.specs.Laws.Costs.{heights-most}
-use Rattle.travel.specs.Laws.Powers.{ListAt, risenAt, list-within, power-below, rise-most, rise-at, heights-risen}
+use Rattle.travel.specs.Laws.Powers.{risenAt, list-within, power-below, rise-most, rise-at, heights-risen}
 use Rattle.travel.proofs.costs.heights_below.Statement.{statement}
 use Rattle.travel.proofs.costs.heights_below.Tie as tie
 
@@ -20,32 +20,27 @@ abbrev risen-of : List ℕ → ℕ → ℕ
 risen-of link r = sum r (risenAt (getD link 3 0) (rowPower link))
 
 abbrev Inv-loop : tie.InvT-loop
-Inv-loop step curves link rise list risen₀ r₀ risen r = (r ≤ step) × (risen ≡ risen-of link r)
+Inv-loop list step curves link rise risen₀ r₀ risen r = (r ≤ step) × (risen ≡ risen-of link r)
 
 abbrev μ-loop : tie.MeasureT-loop
-μ-loop step curves link rise list risen₀ r₀ risen r = step - r
+μ-loop list step curves link rise risen₀ r₀ risen r = step - r
 
--- The list of the link's power, and the number that a turn reads.
+-- The number that a turn reads.
 abbrev start : tie.At-loop Inv-loop μ-loop → tie.Start Inv-loop μ-loop
-start c = c .before .before .before
-
-list-of : (c : tie.At-loop Inv-loop μ-loop) → ListAt (start c .args .curves .now) (start c .args .t1) (c .before .list-start .result)
-list-of c =
-    let pre = start c .pre in
-    record { powers = pre .2; fit = pre .0; has-list = pre .3; begins = c .before .list-start .ensures }
+start c = c .before
 
 abbrev power-of : tie.At-loop Inv-loop μ-loop → ℕ
-power-of c = getD (start c .args .curves .now) (c .before .list-start .result + c .loop .r) 0
+power-of c = getD (start c .args .curves .now) (start c .args .list + c .loop .r) 0
 
 low : (c : tie.In-loop Inv-loop μ-loop) → power-of (c .before) < 4294967296
-low c = power-below _ _ _ (list-of (c .before)) (c .before .loop .r) (omega arith)
+low c = power-below _ _ _ (start (c .before) .pre .0) (c .before .loop .r) (omega arith)
 
 -- After a turn the sum is that of one tread more.
 turn : (c : tie.In-loop Inv-loop μ-loop) →
     c .before .loop .risen + getD (start (c .before) .args .t1) 3 0 * power-of (c .before) / 16777216 ≡ risen-of (start (c .before) .args .t1) (c .before .loop .r + 1)
 turn c =
     let at-loop = c .before in
-    ap₂ _+_ (at-loop .loop .inv .1) (rise-at _ _ _ (list-of at-loop) (at-loop .loop .r) (omega arith))
+    ap₂ _+_ (at-loop .loop .inv .1) (rise-at _ _ _ (start at-loop .pre .0) (at-loop .loop .r) (omega arith))
     ∙ sym (sum-suc (at-loop .loop .r) (risenAt (getD (start at-loop .args .t1) 3 0) (rowPower (start at-loop .args .t1))))
 
 -- What the treads rise, with the free time for each, is the sum of the heights.
@@ -54,7 +49,7 @@ whole : (c : tie.Start Inv-loop μ-loop) (r : ℕ) →
 whole c r = let link = c .args .t1 in heights-risen (getD link 2 0) (getD link 3 0) (rowPower link) r
 
 most : (c : tie.Start Inv-loop μ-loop) (r : ℕ) → r ≤ 256 → sum r (rowTime (c .args .t1)) ≤ r * mostTime
-most c r h = heights-most (c .args .t1) r (c .pre .0) h
+most c r h = heights-most (c .args .t1) r (c .pre .0 .fit) h
 
 -- That is what the code adds up at the end.
 same : (c : tie.After-loop Inv-loop μ-loop) →
@@ -71,12 +66,6 @@ array-read-rise c = search needs
 cast-rise : tie.Need-cast-rise Inv-loop μ-loop
 cast-rise c = search needs
 
-array-read-list-start : tie.Need-array-read-list-start Inv-loop μ-loop
-array-read-list-start c = search needs
-
-list-start-requires : tie.Need-list-start-requires Inv-loop μ-loop
-list-start-requires c κs = search needs
-
 loop-holds : tie.Need-loop-holds Inv-loop μ-loop
 unfolding sum
 loop-holds c = (search needs, refl)
@@ -88,7 +77,7 @@ mul-risen : tie.Need-mul-risen Inv-loop μ-loop
 mul-risen c = search needs
 
 shared-slice-read-risen : tie.Need-shared-slice-read-risen Inv-loop μ-loop
-shared-slice-read-risen c = omega (arith, list-within _ _ _ (list-of (c .before .before)))
+shared-slice-read-risen c = omega (arith, list-within _ _ _ (start (c .before .before) .pre .0))
 
 cast-risen : tie.Need-cast-risen Inv-loop μ-loop
 cast-risen c = omega (arith, low (c .before))
@@ -98,7 +87,7 @@ cast-risen-2 c = omega (arith, low (c .before))
 
 mul-risen-2 : tie.Need-mul-risen-2 Inv-loop μ-loop
 mul-risen-2 c =
-    omega (arith, rise-most _ _ _ (list-of (c .before .before)) (c .before .before .loop .r) (omega arith))
+    omega (arith, rise-most _ _ _ (start (c .before .before) .pre .0) (c .before .before .loop .r) (omega arith))
 
 add-risen-2 : tie.Need-add-risen-2 Inv-loop μ-loop
 add-risen-2 c =
@@ -138,8 +127,6 @@ heights-below-spec =
     μ-loop
     array-read-rise
     cast-rise
-    array-read-list-start
-    list-start-requires
     loop-holds
     add-risen
     mul-risen

@@ -42,10 +42,10 @@ same : (c : tie.After-time-at) →
     c .before .heights-below .result * width (start c) + c .time-at .result .time * (64 * start c .args .flow - c .before .before .step-of .result * width (start c)) ≡ cost-of (start c)
 same c =
     let x = start c .args in
-    treads-cost (capacity (start c)) (x .share) (x .flow) _ (c .before .before .step-of .ensures .0) (rowTime (x .t1)) _ _ (start c .pre .0 .some-capacity) (search needs) (c .before .heights-below .ensures .0) (ap (λ r. r .time) (c .time-at .ensures .0))
+    treads-cost (capacity (start c)) (x .share) (x .flow) _ (c .before .before .step-of .ensures .0) (rowTime (x .t1)) _ _ (start c .pre .0 .fit .some-capacity) (search needs) (c .before .heights-below .ensures .0) (ap (λ r. r .time) (c .time-at .ensures .0))
 
 most : (c : tie.Start) → cost-of c ≤ 64 * c .args .flow * mostTime
-most c = cost-of-most (c .args .t1) (c .args .share) (c .args .flow) (c .pre .0) (search needs)
+most c = cost-of-most (c .args .t1) (c .args .share) (c .args .flow) (c .pre .0 .fit) (search needs)
 
 array-read-width : tie.Need-array-read-width
 array-read-width c = search needs

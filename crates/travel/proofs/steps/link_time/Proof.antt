@@ -9,7 +9,7 @@ array-read-step-of : tie.Need-array-read-step-of
 array-read-step-of c = search needs
 
 step-of-requires : tie.Need-step-of-requires
-step-of-requires c κs = search needs
+step-of-requires c κs = (c .before .pre .0 .fit .some-capacity, search needs, search needs)
 
 time-at-requires : tie.Need-time-at-requires
 time-at-requires c κs = search needs

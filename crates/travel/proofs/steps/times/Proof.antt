@@ -7,6 +7,7 @@ use lib.ListN.{length}
 use borrow.Author.Needs.{needs}
 use Rattle.travel.specs.Links.{padded, listTime}
 use Rattle.travel.specs.Laws.Padded.{Filled, getD-padded, filled-none, filled-more, filled-all}
+use Rattle.travel.specs.Laws.Powers.{list-at}
 use Rattle.travel.specs.Laws.Times.{listTime-least, listTime-most}
 use Rattle.travel.proofs.steps.times.Statement.{statement}
 use Rattle.travel.proofs.steps.times.Tie as tie
@@ -19,6 +20,21 @@ abbrev μ-loop : tie.MeasureT-loop
 
 loop-holds : tie.Need-loop-holds Inv-loop μ-loop
 loop-holds c = (search needs, filled-none (length (c .before .args .links .now)) _ (c .before .args .times .now) (c .before .pre .1 .1))
+
+mul-list-start : tie.Need-mul-list-start Inv-loop μ-loop
+mul-list-start c = search needs
+
+index-1-list-start : tie.Need-index-1-list-start Inv-loop μ-loop
+index-1-list-start c = search needs
+
+index-2-list-start : tie.Need-index-2-list-start Inv-loop μ-loop
+index-2-list-start c = search needs
+
+list-start-requires : tie.Need-list-start-requires Inv-loop μ-loop
+list-start-requires c κs =
+    let l = c .before .before .loop .l in
+    let pre = c .before .before .before .before .pre in
+    (pre .0 .0 .link l (omega arith) .power-fits, pre .1 .0 .has-list l (omega arith))
 
 mul-link-time : tie.Need-mul-link-time Inv-loop μ-loop
 mul-link-time c = search needs
@@ -34,10 +50,10 @@ element-copy-out-link-time c = search needs
 
 link-time-requires : tie.Need-link-time-requires Inv-loop μ-loop
 link-time-requires c κs =
-    let at-loop = c .before .before .before in
+    let at-loop = c .before .before .before .before .before in
     let l = at-loop .loop .l in
     let pre = at-loop .before .before .pre in
-    (pre .0 .0 .link l (omega arith), search needs, pre .0 .2 l (omega arith), pre .1 .0 .powers, pre .1 .0 .has-list l (omega arith))
+    (list-at (pre .0 .0) (pre .1 .0) (omega arith) (c .before .before .list-start .ensures), search needs, pre .0 .2 l (omega arith))
 
 cast-times : tie.Need-cast-times Inv-loop μ-loop
 cast-times c = search needs
@@ -57,7 +73,7 @@ loop-less c = search needs
 loop-again : tie.Need-loop-again Inv-loop μ-loop
 unfolding listTime
 loop-again c =
-    let at-loop = c .before .before .before .before .before in
+    let at-loop = c .before .before .before .before .before .before .before in
     (search needs, filled-more _ _ _ (at-loop .loop .l) _ (omega arith) (at-loop .before .before .pre .0 .0 .few) (at-loop .loop .inv .1) (ap (λ r. r .time) (c .before .link-time .ensures .0)))
 
 returns : tie.Need-returns Inv-loop μ-loop
@@ -81,6 +97,10 @@ times-spec =
     Inv-loop
     μ-loop
     loop-holds
+    mul-list-start
+    index-1-list-start
+    index-2-list-start
+    list-start-requires
     mul-link-time
     shared-slice-copy-out-link-time
     mul-link-time-2
