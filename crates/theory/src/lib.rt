@@ -9,7 +9,7 @@ pub const FREE_TIME: usize = 2;
 pub const RISE: usize = 3;
 // capacity c
 pub const CAPACITY: usize = 4;
-// two bytes: the higher is 1 where the link's head is closed, the lower is the power q
+// two bytes: the higher is the power q, the lower is 1 where the link's head is closed
 pub const CLOSED_POWER: usize = 5;
 
 // No link, where link numbers are kept.
