@@ -857,40 +857,51 @@ fn question_17_output_of_version_2() {
     }
 }
 
+/// A fault of a study, and the number of the question that refuses it.
+type Fault = (u8, fn(&mut Versioned));
+
+/// Faults for the last questions of a check.
+const TRIP_FAULTS: [Fault; 3] = [
+    (9, |study| {
+        study.draft.trips[0][1] = 1;
+        study.draft.trips[0][2] = 1;
+        study.draft.trips[1][1] = 1;
+    }),
+    (10, |study| study.draft.trips[0][0] = 65_535),
+    (11, |study| {
+        let closed = study.closed.as_mut().unwrap();
+        closed[0] |= 1;
+        closed[1] |= 1;
+    }),
+];
+
+/// With any two of these faults, which stand in the order of the questions, the
+/// first one's number is answered.
+fn the_first_counts(study: &Versioned, faults: &[Fault]) {
+    for first in 0..faults.len() {
+        for second in first..faults.len() {
+            let mut study = study.clone();
+            faults[first].1(&mut study);
+            if first != second {
+                faults[second].1(&mut study);
+            }
+            refused(&study.file(), faults[first].0);
+        }
+    }
+}
+
 /// With faults for several questions at once, the first one counts; 19 comes
 /// between 8 and 9.
 #[test]
 fn the_first_question_counts_in_version_2() {
-    type Fault = (u8, fn(&mut Versioned));
-    let faults: [Fault; 8] = [
+    let faults: [Fault; 5] = [
         (3, |study| study.draft.nodes = 200),
         (6, |study| study.draft.links.push([0, 0, 1, 1, 1])),
         (7, |study| study.draft.links.insert(0, [0, 1, 0, 1, 1])),
         (8, |study| study.draft.destinations.reverse()),
         (19, |study| study.closed = Some(vec![0, 2, 1])),
-        (9, |study| {
-            study.draft.trips[0][1] = 1;
-            study.draft.trips[0][2] = 1;
-            study.draft.trips[1][1] = 1;
-        }),
-        (10, |study| study.draft.trips[0][0] = 65_535),
-        (11, |study| {
-            let closed = study.closed.as_mut().unwrap();
-            closed[0] |= 1;
-            closed[1] |= 1;
-        }),
     ];
-    for first in 0..faults.len() {
-        for second in first..faults.len() {
-            let file = closed_sample_with(|study| {
-                faults[first].1(study);
-                if first != second {
-                    faults[second].1(study);
-                }
-            });
-            refused(&file, faults[first].0);
-        }
-    }
+    the_first_counts(&closed_sample(), &[&faults[..], &TRIP_FAULTS].concat());
 }
 
 /// With faults for several questions at once, the first one counts.
@@ -1088,37 +1099,15 @@ fn questions_4_and_5_in_version_3() {
 /// power is a fault for question 7.
 #[test]
 fn the_first_question_counts_in_version_3() {
-    type Fault = (u8, fn(&mut Versioned));
-    let faults: [Fault; 9] = [
+    let faults: [Fault; 6] = [
         (3, |study| study.draft.nodes = 200),
         (5, |study| study.closed.as_mut().unwrap().push(2)),
         (6, |study| study.draft.links.push([0, 0, 1, 1, 1])),
         (7, |study| study.powers = Some(vec![5, 4, 2])),
         (8, |study| study.draft.destinations.reverse()),
         (19, |study| study.closed.as_mut().unwrap()[1] = 2),
-        (9, |study| {
-            study.draft.trips[0][1] = 1;
-            study.draft.trips[0][2] = 1;
-            study.draft.trips[1][1] = 1;
-        }),
-        (10, |study| study.draft.trips[0][0] = 65_535),
-        (11, |study| {
-            let closed = study.closed.as_mut().unwrap();
-            closed[0] |= 1;
-            closed[1] |= 1;
-        }),
     ];
-    for first in 0..faults.len() {
-        for second in first..faults.len() {
-            let file = power_sample_with(|study| {
-                faults[first].1(study);
-                if first != second {
-                    faults[second].1(study);
-                }
-            });
-            refused(&file, faults[first].0);
-        }
-    }
+    the_first_counts(&power_sample(), &[&faults[..], &TRIP_FAULTS].concat());
     // A wrong end on the last link and a wrong power on the first.
     let file = power_sample_with(|study| {
         study.draft.links[2][1] = 3;
