@@ -33,15 +33,21 @@ pub fn put_powers(curves: &mut [u64])
     }
 }
 
-// Writes list i.
+// Writes list i: the number of step 0, then those of an odd step, 2k - 1, and of the even one after it, 2k. That is the number of step k times
+// 2^(4 - i).
 fn put_list(curves: &mut [u64], i: usize)
     requires { ⌜ (i ≤ 3) × (769 + 257 * i ≤ length (now curves)) ⌝ }
     ensures { λ _. ⌜ ListPut i (now (curves .entry)) (now (curves .exit)) ⌝ }
 {
-    let mut r: usize = 0;
-    while r < STEPS {
-        curves[LISTS + STEPS * i + r] = scaled_power(i, r as u32);
-        r += 1;
+    let list = LISTS + STEPS * i;
+    let doubled: u64 = 1 << (4 - i);
+    curves[list] = scaled_power(i, 0);
+    let mut k: usize = 1;
+    while k < 129 {
+        let odd = 2 * k - 1;
+        curves[list + odd] = scaled_power(i, odd as u32);
+        curves[list + 2 * k] = doubled * curves[list + k];
+        k += 1;
     }
 }
 

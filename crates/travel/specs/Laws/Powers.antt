@@ -1,6 +1,6 @@
 -- The lists of powers: how they are put, and times read off them. Every law holds of any power q and any list i within its limits.
 use Prim.Native.Nat.{ℕ, zero, suc, _+_, _*_, _-_, _/_, _^_, _≤_, _<_, min}
-use native.Mathlib.Nat.{lt-of-le-of-lt, mul-assoc, mul-le-mul, mul-le-mul-left, mul-lt-mul-of-pos-right, mul-div-mul-right, add-sub-of-le, pow-zero, pow-suc, pow-le-pow-left, pow-lt-pow-left, one-le-pow}
+use native.Mathlib.Nat.{lt-of-le-of-lt, mul-assoc, mul-le-mul, mul-le-mul-left, mul-lt-mul-of-pos-right, mul-div-mul-right, add-sub-of-le, add-zero, pow-zero, pow-suc, pow-le-pow-left, pow-lt-pow-left, one-le-pow}
 use native.Mathlib.Omega.{arith}
 use mathlib.Core.Path.{_≡_, refl, sym, _∙_, ap}
 use mathlib.Core.List.{List, []}
@@ -11,6 +11,7 @@ use lib.Seq.{getD-set-same, getD-set-other}
 use Rattle.theory.specs.Finite.{sum}
 use Rattle.theory.specs.Flows.{stepTime}
 use Rattle.theory.specs.Laws.Finite.{below-suc}
+use Rattle.theory.specs.Laws.Times.{pow-mul}
 use Rattle.travel.specs.Links.{scaledPower, rowPower, rowTime}
 use Rattle.theory.specs.Study.{AllFourth}
 use Rattle.travel.specs.Ranges.{LinksFit, Powers, ListPut, ListAt, LinkPowers, HasLists, CurveRoom}
@@ -66,6 +67,10 @@ module _ (i r : ℕ) where
       (lt-of-le-of-lt (mul-le-mul-left (r ^ (4 - i)) (pow-le-pow-left low i))
       (mul-lt-mul-of-pos-right (pow-lt-pow-left h (λ e. omega arith)) (one-le-pow i 256 (omega arith))))
 
+-- That of step 2k is that of step k times 2^(4 - i).
+pub scaled-double : (i k : ℕ) → scaledPower i (2 * k) ≡ 2 ^ (4 - i) * scaledPower i k
+scaled-double i k = rw (pow-mul 2 k (4 - i)) (mul-assoc (2 ^ (4 - i)) (k ^ (4 - i)) (64 ^ i))
+
 -- All four lists have that of every power that fits.
 pub all-lists : (links : List (List ℕ)) → LinksFit links → HasLists 1540 links
 all-lists links fit l h = omega (arith, fit .link l h .some-power)
@@ -110,7 +115,7 @@ pub record PutTo (r i : ℕ) (before now : List ℕ) : Type 0 where
 
 module _ (i : ℕ) (before : List ℕ) where
   -- At first nothing is put,
-  pub put-none : PutTo 0 i before before
+  put-none : PutTo 0 i before before
   put-none = record { size = refl; power = λ k p. omega arith; below = λ at p. refl; above = λ at p. refl }
 
   -- then one number after the other,
@@ -132,6 +137,15 @@ module _ (i : ℕ) (before : List ℕ) where
 
       other : (at : ℕ) → (at ≡ place → ⊥) → getD (set now place x) at 0 ≡ getD now at 0
       other at p = getD-set-other now place at x 0 p
+
+  -- that of step 0 first,
+  pub put-first : (x : ℕ) → x ≡ scaledPower i 0 → 512 + 257 * i < length before → PutTo 1 i before (set before (512 + 257 * i) x)
+  put-first x is h = rw (add-zero (512 + 257 * i)) at (put-more 0 before x is (omega arith) put-none)
+
+  -- and that of step 2k by that of step k,
+  pub put-even : (k : ℕ) (now : List ℕ) → 1 ≤ k → PutTo (2 * k) i before now →
+      2 ^ (4 - i) * getD now (512 + 257 * i + k) 0 ≡ scaledPower i (2 * k)
+  put-even k now some so-far = ap (λ x. 2 ^ (4 - i) * x) (so-far .power k (omega arith)) ∙ sym (scaled-double i k)
 
   -- and after 257 of them the list is put.
   pub put-all : (now : List ℕ) → PutTo 257 i before now → ListPut i before now
