@@ -4,7 +4,7 @@ use mathlib.Core.Path.{_≡_}
 use mathlib.Core.List.{List}
 use lib.ListN.{length, getD, set, replicate}
 use Rattle.theory.specs.Finite.{sum, tabulate}
-use Rattle.theory.specs.Study.{noLink}
+use Rattle.theory.specs.Study.{head, noLink}
 use Rattle.loading.specs.Along.{walkAlong, leaves}
 
 -- Nothing at any of 128 nodes.
@@ -63,6 +63,15 @@ pub record SentBelow (n : ℕ) (links : List (List ℕ)) (next : List ℕ) (k : 
   pub sent : Sent n links next waiting₀ volumes₀ waiting volumes
   pub fewer : linksAhead n links next waiting + count ≤ linksAhead n links next waiting₀
   pub none-left : count ≡ 0 → (j : ℕ) → j < k → (getD next j 0 ≡ noLink → ⊥) → getD waiting j 0 ≡ 0
+
+-- Among the heads of next links, where there is none.
+abbrev pub noHead : ℕ
+noHead = 128
+
+-- The heads of next links, of the nodes below k.
+pub record Heads (k : ℕ) (links : List (List ℕ)) (next heads : List ℕ) : Type 0 where
+  pub size : length heads ≡ 128
+  pub head-at : (j : ℕ) → j < k → (getD heads j 0 ≡ noHead → ⊥) → (getD next j 0 ≡ noLink → ⊥) × (getD heads j 0 ≡ head links (getD next j 0))
 
 -- All of an order's 128 numbers are nodes, where there is a node.
 pub record Nodes (n : ℕ) (order : List ℕ) : Type 0 where

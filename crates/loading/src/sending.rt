@@ -2,12 +2,15 @@
 ghost use mathlib.Core.Path.{_≡_};
 ghost use Prim.Native.Nat.{ℕ, _≤_, _<_};
 ghost use lib.ListN.{length, getD};
-ghost use Rattle.theory.specs.Study.{head};
+ghost use Rattle.theory.specs.Study.{head, noLink};
 ghost use Rattle.loading.specs.Along.{Followable, Sendable, volumesAlong};
-ghost use Rattle.loading.specs.Sending.{ZeroBelow, OwnBelow, Movable, Sending, Sent, SentBelow, Nodes, waitingAfter, volumesAfter};
+ghost use Rattle.loading.specs.Sending.{ZeroBelow, OwnBelow, Movable, Sending, Sent, SentBelow, Heads, Nodes, noHead, waitingAfter, volumesAfter};
 use crate::index;
 use theory::HEAD;
 use theory::NO_LINK;
+
+// Among heads of next links, where there is none.
+const NO_HEAD: u16 = 128;
 
 // The head of link l.
 fn head_of(links: &[[u16; 6]], l: u16) -> usize
@@ -17,16 +20,35 @@ fn head_of(links: &[[u16; 6]], l: u16) -> usize
     index(links[index(l)][HEAD])
 }
 
-// Counts how many next links lead to each node.
-fn count_into(counts: &mut [u16; 128], nodes: usize, links: &[[u16; 6]], next: &[u16; 128])
-    requires { ⌜ Followable nodes (now links) (now next) ⌝ }
+// The head of a next link, or no node where there is none.
+fn head_or_none(links: &[[u16; 6]], l: u16) -> u16
+    requires { ⌜ ((l ≡ noLink → ⊥) → l < length (now links)) ⌝ }
+    ensures { λ r. ⌜ ((r ≡ noHead → ⊥) → (l ≡ noLink → ⊥) × (r ≡ head (now (links .entry)) l)) ⌝ }
+{
+    if l == NO_LINK {
+        return NO_HEAD;
+    }
+    links[index(l)][HEAD]
+}
+
+// Writes the heads of next links, by node, and counts how many of them lead to each node.
+fn put_heads(
+    heads: &mut [u16; 128],
+    counts: &mut [u16; 128],
+    nodes: usize,
+    links: &[[u16; 6]],
+    next: &[u16; 128],
+)
+    requires { ⌜ Followable nodes (now links) (now next) × (length (now heads) ≡ 128) ⌝ }
+    ensures { λ _. ⌜ Heads nodes (now (links .entry)) (now (next .entry)) (now (heads .exit)) ⌝ }
 {
     let mut j: usize = 0;
     while j < nodes {
-        let l = next[j];
-        if l != NO_LINK {
-            let h = head_of(links, l);
-            counts[h] = std::num::wrapping_add_u16(counts[h], 1);
+        let h = head_or_none(links, next[j]);
+        heads[j] = h;
+        if h != NO_HEAD {
+            let i = index(h);
+            counts[i] = std::num::wrapping_add_u16(counts[i], 1);
         }
         j += 1;
     }
@@ -94,19 +116,20 @@ fn send_in_order(
     requires { ⌜ Sending nodes (now links) (now next) (now waiting) (now volumes) ⌝ }
     ensures { λ _. ⌜ Sent nodes (now (links .entry)) (now (next .entry)) (now (waiting .entry)) (now (volumes .entry)) (now (waiting .exit)) (now (volumes .exit)) ⌝ }
 {
+    let mut heads = [0u16; 128];
     let mut counts = [0u16; 128];
-    count_into(&mut counts, nodes, links, next);
+    put_heads(&mut heads, &mut counts, nodes, links, next);
     let mut order = [0u16; 128];
     let mut joined = begin_order(nodes, &counts, &mut order);
     let mut turn: usize = 0;
     while turn < joined {
         let k = index(order[turn]);
         turn += 1;
-        let l = next[k];
-        if l != NO_LINK {
-            let h = head_of(links, l);
-            send(waiting, volumes, k, h);
-            joined = join_order(&mut counts, &mut order, joined, h);
+        let h = heads[k];
+        if h != NO_HEAD {
+            let i = index(h);
+            send(waiting, volumes, k, i);
+            joined = join_order(&mut counts, &mut order, joined, i);
         }
     }
 }

@@ -14,7 +14,7 @@ use Rattle.theory.specs.Laws.Bits.{or-grows}
 use Rattle.theory.specs.Laws.Cases.{on-equal}
 use Rattle.theory.specs.Laws.Finite.{below-suc, sum-cong, sum-zero, sum-term, sum-bound, length-tabulate, getD-tabulate, tabulate-cong}
 use Rattle.loading.specs.Along.{walkAlong, oneIfSame, leaves, volumesAlong, Followable, Sendable}
-use Rattle.loading.specs.Sending.{allZero, ZeroBelow, worth, linksAhead, finalVolumes, waitingAfter, volumesAfter}
+use Rattle.loading.specs.Sending.{allZero, ZeroBelow, Heads, noHead, worth, linksAhead, finalVolumes, waitingAfter, volumesAfter}
 use Rattle.loading.specs.Sending.{OwnBelow, Movable, Sending, Sent, SentBelow, Nodes}
 use Rattle.loading.specs.Laws.Leaves.{same-one, other-none, leaves-none, head-below, sets-out}
 
@@ -245,6 +245,21 @@ sending-ends {n} {links} {next} {waiting} {volumes} {count} s none =
 
     complete : (j : ℕ) → j < 128 → getD volumes j 0 ≡ getD (finalVolumes n links next waiting volumes) j 0
     complete j b = omega (arith, sum-zero n _ (nothing j), final-at n links next waiting volumes j b)
+
+-- The heads of next links are written node by node.
+module _ {links : List (List ℕ)} {next : List ℕ} where
+  pub heads-none : {heads : List ℕ} → length heads ≡ 128 → Heads 0 links next heads
+  heads-none long = record { size = long; head-at = λ j h. absurd (omega arith) }
+
+  pub heads-more : {j : ℕ} {heads : List ℕ} → Heads j links next heads → j < 128 → (h : ℕ)
+      → ((h ≡ noHead → ⊥) → (getD next j 0 ≡ noLink → ⊥) × (h ≡ head links (getD next j 0))) → Heads (j + 1) links next (set heads j h)
+  heads-more {j} {heads} w few h is =
+      record {
+        size = length-set heads j h ∙ w .size;
+        head-at = λ i b. on-equal i j
+            (λ e. rw (e, getD-set-same heads j h 0 (omega (arith, w .size))) is)
+            (λ off. rw (getD-set-other heads j i h 0 off) (w .head-at i (omega (arith, off))));
+      }
 
 -- An order of nodes: node 0 in every place at first,
 pub nodes-begin : (n : ℕ) → Nodes n allZero
