@@ -169,14 +169,23 @@ impl Gauge {
     ///
     /// Let x = 64·S / (c·W), and w its whole part. Computed below is
     /// y = x · (1 + 2⁻⁴⁰) · (1 + e), where e, from four roundings, is less
-    /// than 2⁻⁵⁰ either way. So y is at least x, and at least w. And y − x is
-    /// less than x · 2⁻³⁹ = 64·S · 2⁻³⁹ / (c·W) < 1 / (c·W), because 64·S is
-    /// below 2³²; but x is a fraction over c·W, at most w + 1 − 1 / (c·W). So
-    /// y is less than w + 1, and its whole part is w too.
+    /// than 2⁻⁵⁰ either way. So y is at least x, and more unless x is 0. And
+    /// y − x is less than x · 2⁻³⁹ = 64·S · 2⁻³⁹ / (c·W) < 1 / (c·W), because
+    /// 64·S is below 2³²; but x is a fraction over c·W, at most
+    /// w + 1 − 1 / (c·W). So y is less than w + 1, and its whole part is w
+    /// too.
+    ///
+    /// The smaller of y and 256, less a half, is added to a number so large
+    /// that the sum is rounded to a whole one, and its lowest bits are the
+    /// step: what is added lies above w − ½ and below w + ½. Only for 0 and
+    /// 256 it may lie halfway; both are even, and halfway the even one wins.
     #[inline(always)]
     fn step(&self, flow: u32, part: Part) -> u32 {
+        /// Numbers of its size are 1 apart, and its lowest 51 bits are 0.
+        const LARGE: f64 = 1.5 * (1_u64 << 52) as f64;
         let steps = f64::from(flow) * (self.steps_per_trip * part.0);
-        (steps as u32).min(LAST_STEP)
+        let sum = (steps.min(f64::from(LAST_STEP)) - 0.5) + LARGE;
+        sum.to_bits() as u32 % ROW_LENGTH as u32
     }
 
     /// Time t, for flows of at most share × 65,535 and shares of at most 1,024.
