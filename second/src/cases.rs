@@ -196,6 +196,21 @@ impl List {
         self.call(Kind::Page, file, Lent::Page(None, page), share, 0, 0);
     }
 
+    /// The table that was left last goes through a start, passes, an audit, a
+    /// page, a run and an audit. The share that the run answers.
+    fn through_all_calls(&mut self, file: &[u8], passes: usize, budget: u32) -> u32 {
+        self.start_on(file);
+        let mut share = 1;
+        for _ in 0..passes {
+            self.pass_on(file, &mut share);
+        }
+        self.audit_on(file, share);
+        self.page_on(file, share, paper(15_360));
+        let share = self.run_on(file, budget, 0);
+        self.audit_on(file, share);
+        share
+    }
+
     /// Check, pack, start, pass, run and audit with one file, the last five
     /// with what they need.
     fn each(&mut self, file: &[u8], table: &[u32], output: usize) {

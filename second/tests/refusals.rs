@@ -690,10 +690,7 @@ fn question_4_order_of_four_sections() {
     // Gaps, which are not read.
     for place in 0..5 {
         for length in [1, 2, 8, 1_000] {
-            let bytes = vec![0xFF; length];
-            let mut gaps: [&[u8]; 5] = [&[]; 5];
-            gaps[place] = &bytes;
-            let file = study.file_with_gaps(&gaps);
+            let file = study.file_with_gap(place, length);
             assert_eq!(file.len(), 89 + length);
             accepted(&file);
             refused(&file[..88], 4);

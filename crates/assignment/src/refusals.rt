@@ -23,6 +23,7 @@ pub fn start_refusal(
         return opening;
     }
     let closed = study::accepted_section(file, study::CLOSED);
+    // Links of fewer than 12 bytes have no powers of their own.
     let all_fourth = study::link_size(file) < 12;
     let refusal = questions::study_refusal(nodes, links, destinations, closed, trips, all_fourth);
     if refusal != 0 {

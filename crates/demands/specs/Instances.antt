@@ -22,7 +22,7 @@ use Rattle.calls.specs.Calls.{packOutput, auditAnswer, passAnswer, runAnswer, r
 use Rattle.calls.specs.Laws.Questions.{Described, check-passed, table-both}
 use Rattle.calls.specs.Laws.Reach.{passed-carries}
 use Rattle.calls.specs.Laws.Networks.{sound}
-use Rattle.calls.specs.Laws.Page.{LineFits}
+use Rattle.calls.specs.Laws.Page.{LineFits, link-count}
 use Rattle.demands.specs.Demands.{Certified, demand-3}
 use Rattle.demands.specs.Results.{Fresh}
 use Rattle.demands.specs.Pages.{OfLine}
@@ -133,6 +133,11 @@ town-fourth r = request-A5 .fourth town (omega (arith, computed .first-version))
 -- The town with curves of power 7, which no version has, and the same rival.
 abbrev seventh : Network
 seventh = withCurves (networkOf town) (λ l. 10) (λ l. 10) (λ l. 7)
+
+pub seventh-flow : timeAt seventh 9 (λ l. 16) 0 ≤ timeAt seventh 9 (λ l. 18) 0
+seventh-flow =
+    request-A5 .flows (networkOf town) (sound town town-described) (λ l. 10) (λ l. 10) (λ l. 7) (λ l h. omega arith) 0 (omega (arith, link-count town, computed .roads)) 9 (λ l. 16)
+    (λ l. 18) (omega arith) (omega arith)
 
 pub seventh-bound : 9 * cost seventh 1 (2 ∷ 0 ∷ []) ≤ 1 * cost seventh 9 (16 ∷ 2 ∷ []) + 64 * 9 * gap seventh 1 (2 ∷ 0 ∷ [])
 seventh-bound =

@@ -13,6 +13,7 @@ use Rattle.theory.specs.Flows.{conserves, step, stepTime, timeAt, times, Carrie
 use Rattle.theory.specs.Cost.{cost, gap}
 use Rattle.theory.specs.Study.{network, power as powerIn}
 use Rattle.theory.specs.Laws.Finite.{getD-tabulate}
+use Rattle.theory.specs.Laws.Inequalities.{rising-le}
 use Rattle.theory.specs.Laws.Times.{step-mono, stepTime-mono, stepTime-least, stepTime-fourth}
 use Rattle.theory.specs.Laws.Routings.{times-timed, routing-consistent}
 use Rattle.theory.specs.Laws.Bound.{bound}
@@ -37,6 +38,13 @@ height-row : (file : List ℕ) (l r : ℕ) → l < links file → networkOf file
 unfolding networkOf network linkRows linkRow
 height-row file l r h = rw (getD-tabulate (links file) (linkRow (linkPart file) (linkSize file) (closedPart file)) [] l h)
 
+-- In a sound network a link's time does not fall as its flow grows: its step does not, and its curve does not fall with the step.
+rises-with-flow : (g : Network) → Sound g → (l : ℕ) → l < g .links → (share : ℕ) (flow more : ℕ → ℕ) → 1 ≤ share → flow l ≤ more l
+    → timeAt g share flow l ≤ timeAt g share more l
+rises-with-flow g is-sound l h share flow more some-share grows =
+    rising-le (g .height l) (λ r. is-sound .rising l r h) (step (g .capacity l) share (flow l)) (step (g .capacity l) share (more l))
+    (step-mono (g .capacity l) share (flow l) share (more l) (is-sound .some-capacity l h) some-share some-share (mul-le-mul-right share grows))
+
 module _ (file : List ℕ) (e : checkNumber file ≡ 0) (l : ℕ) (h : l < links file) where
   row-below : l < networkOf file .links
   row-below = omega (arith, link-count file)
@@ -60,13 +68,7 @@ module _ (file : List ℕ) (e : checkNumber file ≡ 0) (l : ℕ) (h : l < links
 
   -- It does not fall as the flow grows.
   pub time-rises : (share : ℕ) (flow more : ℕ → ℕ) → 1 ≤ share → flow l ≤ more l → timeAt (networkOf file) share flow l ≤ timeAt (networkOf file) share more l
-  time-rises share flow more some-share grows =
-      let g = networkOf file in
-      let q = powerIn (linkRows file) l in
-      let is-sound = sound file (check-passed file e .described) in
-      rw (height-row file l (step (g .capacity l) share (flow l)) h, height-row file l (step (g .capacity l) share (more l)) h)
-      (stepTime-mono (freeOf file l) (riseOf file l) q
-      (step-mono (g .capacity l) share (flow l) share (more l) (is-sound .some-capacity l row-below) some-share some-share (mul-le-mul-right share grows)))
+  time-rises = rises-with-flow (networkOf file) (sound file (check-passed file e .described)) l row-below
 
 -- Links of versions 1 and 2 have power 4, and document 01's times.
 pub versions-fourth : (file : List ℕ) → version file < 3 → (l r : ℕ) → l < links file
@@ -106,6 +108,12 @@ module _ (g : Network) (is-sound : Sound g) (a b q : ℕ → ℕ) (some-time : (
         rising = λ l r p. stepTime-mono (a l) (b l) (q l) {r = r} {s = suc r} (omega arith);
         destination-node = is-sound .destination-node;
       }
+
+  -- nor as the flow grows,
+  pub curves-rise : (l : ℕ) → l < g .links → (share : ℕ) (flow more : ℕ → ℕ) → 1 ≤ share → flow l ≤ more l
+      → timeAt (withCurves g a b q) share flow l ≤ timeAt (withCurves g a b q) share more l
+  unfolding withCurves
+  curves-rise l h = rises-with-flow (withCurves g a b q) curves-sound l h
 
   -- and so the gap bounds every rival.
   pub curves-bound : (share : ℕ) (table : List ℕ) → 1 ≤ share → (other : ℕ) (rival : List ℕ) → Carries (withCurves g a b q) other rival

@@ -25,7 +25,7 @@ use Rattle.demands.specs.Results.{Fresh}
 use Rattle.demands.specs.Zones.{Closed, Avoids, OnlyClosed, permitted-exactly, version-1-open, path-avoids, flow-avoids, pack-version, only-closed}
 use Rattle.demands.specs.NextNodes.{word-of, found-exactly, none-exactly}
 use Rattle.demands.specs.PastCurves.{CountsOver, over-when, over-when-fourfold, audit-counts, pass-counts, run-counts, empty-counts}
-use Rattle.demands.specs.Powers.{freeOf, riseOf, powerOf, power-range, curve-exactly, versions-fourth, time-rises, withCurves, curves-bound}
+use Rattle.demands.specs.Powers.{freeOf, riseOf, powerOf, power-range, curve-exactly, versions-fourth, time-rises, withCurves, curves-rise, curves-bound}
 use Rattle.demands.specs.Pages.{Plain, Pointed, OfLine, Largest, decimal-plain, hundredths-pointed, full-road, numbers-range, numbers-fit, line-length, line-place, page-length, page-fresh}
 
 -- A.1, volumes on paper. Whatever table the audit accepts, every number fits its columns (3, 3, 3, 8 and 8), so each line has exactly 30
@@ -123,9 +123,9 @@ request-A4 =
     }
 
 -- A.5, a power for each road. In an accepted study a link's power q is 1 to 4, and its time at step r is a + floor(b·r^q / 64^q); versions 1
--- and 2 have power 4, and document 01's times. A link's time does not fall as its flow grows. The law behind it holds of any power, and so does
--- the bound: with any curves of this form in place of its own, a network's gap bounds every rival. The demands, A.1's widths and A.4's count
--- hold of version 3 as they stand.
+-- and 2 have power 4, and document 01's times. A link's time does not fall as its flow grows. That holds of any power, and so does the bound: with
+-- any curves of this form in place of its own, a network's times do not fall as flow grows, and its gap bounds every rival. The demands, A.1's
+-- widths and A.4's count hold of version 3 as they stand.
 pub record RequestA5 : Type 0 where
   pub range : (file : List ℕ) → checkNumber file ≡ 0 → (l : ℕ) → l < links file → (1 ≤ powerOf file l) × (powerOf file l ≤ 4)
   pub curve : (file : List ℕ) → checkNumber file ≡ 0 → (l : ℕ) → l < links file → (r : ℕ)
@@ -135,6 +135,9 @@ pub record RequestA5 : Type 0 where
   pub flow : (file : List ℕ) → checkNumber file ≡ 0 → (l : ℕ) → l < links file → (share : ℕ) (flow more : ℕ → ℕ) → 1 ≤ share → flow l ≤ more l
       → timeAt (networkOf file) share flow l ≤ timeAt (networkOf file) share more l
   pub rising : (a b q : ℕ) {r s : ℕ} → r ≤ s → stepTime a b q r ≤ stepTime a b q s
+  pub flows : (g : Network) → Sound g → (a b q : ℕ → ℕ) → ((l : ℕ) → l < g .links → 1 ≤ a l)
+      → (l : ℕ) → l < g .links → (share : ℕ) (flow more : ℕ → ℕ) → 1 ≤ share → flow l ≤ more l
+      → timeAt (withCurves g a b q) share flow l ≤ timeAt (withCurves g a b q) share more l
   pub bound : (g : Network) → Sound g → (a b q : ℕ → ℕ) → ((l : ℕ) → l < g .links → 1 ≤ a l)
       → (share : ℕ) (table : List ℕ) → 1 ≤ share → (other : ℕ) (rival : List ℕ) → Carries (withCurves g a b q) other rival
       → other * cost (withCurves g a b q) share table ≤ share * cost (withCurves g a b q) other rival + 64 * other * gap (withCurves g a b q) share table
@@ -147,5 +150,6 @@ request-A5 =
       fourth = versions-fourth;
       flow = time-rises;
       rising = stepTime-mono;
+      flows = curves-rise;
       bound = curves-bound;
     }

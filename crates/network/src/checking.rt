@@ -37,6 +37,7 @@ fn check_in(file: &[u8], links: &mut [[u16; 6]], trips: &mut [u16]) -> u8
     let m = opening.links;
     let p = opening.destinations;
     let entries = p * n;
+    // Links of fewer than 12 bytes have no powers of their own: every power is 4.
     questions::study_refusal(
         n,
         &links[..m],

@@ -168,10 +168,7 @@ pub(super) fn orders(file: &[u8]) -> Vec<Vec<u8>> {
 pub(super) fn gaps(list: &mut List) {
     let study = closed_sample();
     for place in 0..5 {
-        let bytes = vec![0xFF; [1, 8, 300, 2, 7][place]];
-        let mut gaps: [&[u8]; 5] = [&[]; 5];
-        gaps[place] = &bytes;
-        let file = study.file_with_gaps(&gaps);
+        let file = study.file_with_gap(place, [1, 8, 300, 2, 7][place]);
         list.check(&file);
         list.one_of_seven(1 + place, &file);
         // One byte short of the end of the closed bytes.

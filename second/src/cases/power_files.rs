@@ -105,10 +105,7 @@ pub(super) fn offsets_and_lengths(list: &mut List) {
 pub(super) fn gaps(list: &mut List) {
     let study = power_sample();
     for place in 0..5 {
-        let bytes = vec![0xFF; [2, 12, 100, 1, 7][place]];
-        let mut gaps: [&[u8]; 5] = [&[]; 5];
-        gaps[place] = &bytes;
-        let file = study.file_with_gaps(&gaps);
+        let file = study.file_with_gap(place, [2, 12, 100, 1, 7][place]);
         list.check(&file);
         list.one_of_seven(2 + place, &file);
     }

@@ -131,15 +131,6 @@ pub(super) fn full_limits(list: &mut List) {
     list.pack(&file, vec![0; mixed.packed_length()]);
     list.run(&file, vec![7; 32 * 512], 40, 0);
     for study in [mixed, odd] {
-        let file = study.file();
-        list.start_on(&file);
-        let mut share = 1;
-        for _ in 0..4 {
-            list.pass_on(&file, &mut share);
-        }
-        list.audit_on(&file, share);
-        list.page_on(&file, share, paper(15_360));
-        let share = list.run_on(&file, 30, 0);
-        list.audit_on(&file, share);
+        list.through_all_calls(&study.file(), 4, 30);
     }
 }

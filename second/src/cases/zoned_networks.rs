@@ -166,16 +166,7 @@ pub(super) fn full_limits(list: &mut List) {
     // length.
     list.run(&studies[0].file(), vec![7; 32 * 512], 25, 0);
     for study in &studies {
-        let file = study.file();
-        list.start_on(&file);
-        let mut share = 1;
-        for _ in 0..3 {
-            list.pass_on(&file, &mut share);
-        }
-        list.audit_on(&file, share);
-        list.page_on(&file, share, paper(15_360));
-        let share = list.run_on(&file, 60, 0);
-        list.audit_on(&file, share);
+        let share = list.through_all_calls(&study.file(), 3, 60);
         // The other study's closed nodes are others.
         list.audit_on(&studies[0].file(), share);
     }

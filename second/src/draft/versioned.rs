@@ -136,6 +136,15 @@ impl Versioned {
             .write(self.version(), &self.sections(), &all_gaps)
     }
 
+    /// The file with one gap, of so many bytes, before this section or, in the
+    /// last place, behind all.
+    pub fn file_with_gap(&self, place: usize, length: usize) -> Vec<u8> {
+        let bytes = vec![0xFF; length];
+        let mut gaps: Vec<&[u8]> = vec![&[]; place];
+        gaps.push(&bytes);
+        self.file_with_gaps(&gaps)
+    }
+
     /// The sections of this version.
     fn sections(&self) -> Vec<Vec<u8>> {
         let mut sections = self.draft.sections().to_vec();
