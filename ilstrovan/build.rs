@@ -36,7 +36,7 @@ fn main() {
     }
     println!("cargo::rustc-link-lib=static=interface");
     println!("cargo::rustc-env=ILSTROVAN_ARCHIVE={}", archive.display());
-    println!("cargo::rustc-check-cfg=cfg(before, before_page)");
+    println!("cargo::rustc-check-cfg=cfg(before, before_page, before_note)");
     println!("cargo::rerun-if-env-changed={BEFORE}");
     match env::var_os(BEFORE) {
         Some(before) => link_both(archive.as_os_str(), &before),
@@ -48,7 +48,16 @@ fn main() {
 /// `before_check` and so on.
 fn link_both(archive: &OsStr, before: &OsStr) {
     let out = PathBuf::from(env::var_os("OUT_DIR").expect("cargo sets OUT_DIR"));
-    let calls = ["check", "pack", "start", "pass", "run", "audit", "page"];
+    let calls = [
+        "check",
+        "pack",
+        "start",
+        "pass",
+        "run",
+        "audit",
+        "page",
+        "take_back",
+    ];
     let renamed = calls.map(|call| format!("--redefine-sym=ilstrovan_{call}=before_{call}"));
     let copied = copy_aligned(archive, &[], &out.join("libinterface.a"))
         && copy_aligned(before, &renamed, &out.join("libbefore.a"));
@@ -62,6 +71,9 @@ fn link_both(archive: &OsStr, before: &OsStr) {
     if names(before, "ilstrovan_page") {
         println!("cargo::rustc-cfg=before_page");
     }
+    if names(before, "ilstrovan_take_back") {
+        println!("cargo::rustc-cfg=before_note");
+    }
 }
 
 /// Copies an archive and has each of its functions begin at a multiple of 64
@@ -74,7 +86,8 @@ fn copy_aligned(archive: &OsStr, options: &[String], copy: &Path) -> bool {
     objcopy.status().is_ok_and(|status| status.success())
 }
 
-/// Whether an archive names this call: builds before the page lack it.
+/// Whether an archive names this call: builds before the page lack it, and those
+/// before notes lack taking back.
 fn names(archive: &OsStr, call: &str) -> bool {
     let bytes = fs::read(archive).unwrap_or_default();
     bytes

@@ -1,26 +1,27 @@
 /*
  * Ilstrovan: equilibrium assignment of trips to a road network.
  *
- * Seven calls over a study file in memory and a flow table that the caller
- * lends. Every number they return or write is proved to be the one that
- * documents 01 and 02 define, for any bytes, any table and any numbers. Link
- * with target/staticlib/libinterface.a, which `rt staticlib interface` writes
- * for x86-64 Linux; it needs only the C library.
+ * Eight calls over a study file in memory, and a flow table and a note that the
+ * caller lends. Every number they return or write is proved to be the one that
+ * documents 01 and 02 define, for any bytes, any table, any note and any
+ * numbers. Link with target/staticlib/libinterface.a, which
+ * `rt staticlib interface` writes for x86-64 Linux; it needs only the C
+ * library.
  *
  * Returned by every call
  *   0 where the call is accepted, otherwise the number of the first question
  *   that refuses (ilstrovan_refusal below). A refused call writes 0 to each
- *   number of `answer` and leaves the table, the output and the page as they
- *   were.
+ *   number of `answer` and leaves the table, the output, the page and the note
+ *   as they were.
  *
  * Memory
  *   Everything belongs to the caller: nothing is allocated, kept or freed, and
  *   no pointer is used after the call returns. A pointer is never NULL, not
  *   even with a length of 0, is aligned for its type, and points to as many
  *   elements as the length after it says. What a call writes (output, table,
- *   page, answer) overlaps nothing else that the call is handed, and no other
- *   thread touches it meanwhile; what a call only reads may be shared. Calls
- *   on separate memory may run in any number of threads.
+ *   page, answer, the note of a pass) overlaps nothing else that the call is
+ *   handed, and no other thread touches it meanwhile; what a call only reads
+ *   may be shared. Calls on separate memory may run in any number of threads.
  *
  * Stack
  *   A call needs at most 512 KiB of stack.
@@ -46,6 +47,15 @@
  *                          never written.
  *   page, page_length      Room for a page, in bytes, at least 30 times links.
  *                          Later bytes are never written.
+ *   note, note_length      The note of a move and how many numbers it holds, at
+ *                          least 1 + destinations * nodes: 4097 are enough for
+ *                          any study. First stands j, how many loadings the
+ *                          move added, then the next link of each node: that
+ *                          of node v to the destination at position k at
+ *                          1 + k * nodes + v, 65535 for none, as at the
+ *                          destination itself and at a node without a path.
+ *                          A doubling has j = 0 and 65535 throughout. Later
+ *                          numbers are never written.
  *   share                  The share W of the table, 1 to 1024.
  *   budget                 The most tables a run judges, 1 to 1024.
  *   excess                 The excess at which a run ends, 0 to 65535
@@ -100,7 +110,8 @@ enum ilstrovan_refusal {
     /* A node has trips to a destination to which it has no path that leads
        through no closed node. */
     ILSTROVAN_UNREACHABLE = 11,
-    /* The table holds fewer than destinations times links numbers. */
+    /* The table holds fewer than destinations times links numbers, or the note
+       fewer than 1 + destinations times nodes. */
     ILSTROVAN_TABLE_LENGTH = 12,
     /* The budget is not 1 to 1024. */
     ILSTROVAN_BUDGET = 13,
@@ -119,13 +130,23 @@ enum ilstrovan_refusal {
     ILSTROVAN_CLOSED_BYTES = 19,
     /* The table has flow on a link into a closed node that is not flow to that
        node. Asked after 16. */
-    ILSTROVAN_CLOSED_FLOW = 20
+    ILSTROVAN_CLOSED_FLOW = 20,
+    /* The note, with j above 0, does not lead from some node with trips to the
+       destination within as many links as there are nodes, each of them a link
+       out of the node it stands at, and none into a closed node that is not the
+       destination. Asked after 20. */
+    ILSTROVAN_NOTED_PATHS = 21,
+    /* The note's j is not below the share, the table has less flow somewhere
+       than j times the note's loading, or, with j = 0, the share or a flow is
+       odd. Asked after 21. */
+    ILSTROVAN_NOTED_FLOW = 22
 };
 
 /* What a pass did: answer[0] of ilstrovan_pass. A refused pass has 0. */
 enum ilstrovan_outcome {
     ILSTROVAN_MOVED = 1,         /* it moved the table */
-    ILSTROVAN_PASS_FINEST = 2    /* there is no move; the table is as it was */
+    ILSTROVAN_PASS_FINEST = 2    /* there is no move; the table and the note are
+                                    as they were */
 };
 
 /* How a run ended: answer[0] of ilstrovan_run. A refused run has 0. */
@@ -151,13 +172,28 @@ uint8_t ilstrovan_pack(const uint8_t *file, size_t file_length,
 uint8_t ilstrovan_start(const uint8_t *file, size_t file_length,
                         uint32_t *table, size_t table_length);
 
-/* Judges `table` and moves it towards least times. Writes the outcome
-   (ilstrovan_outcome), the gap and the cost of the judged table, the share of
-   the table as it is now, and how many links of the judged table are over.
-   Refusals as start, then 14 to 16, then 20. */
+/* Judges `table` and moves it towards least times: adds j loadings to it and j
+   to its share, or doubles both. Writes the outcome (ilstrovan_outcome), the
+   gap and the cost of the judged table, the share of the table as it is now,
+   and how many links of the judged table are over; and to `note` the move, for
+   ilstrovan_take_back. Where there is no move the note is as it was. Refusals
+   as start, 12 of the note too, then 14 to 16, then 20. */
 uint8_t ilstrovan_pass(const uint8_t *file, size_t file_length,
                        uint32_t *table, size_t table_length,
-                       uint32_t share, uint64_t answer[5]);
+                       uint32_t share, uint16_t *note, size_t note_length,
+                       uint64_t answer[5]);
+
+/* Takes a move back out of `table`: lessens the table by j times the loading
+   along the note's links, and the share by j; or, with j = 0, halves both and
+   reads no link of the note. Writes the share of the table as it is now.
+   Directly after a pass that moved, with the file, the table, the share and the
+   note as that pass left them, this restores exactly the table and the share
+   that it judged; but the note may be anybody's. Refusals as pass, then 21,
+   then 22. */
+uint8_t ilstrovan_take_back(const uint8_t *file, size_t file_length,
+                            uint32_t *table, size_t table_length,
+                            uint32_t share, const uint16_t *note,
+                            size_t note_length, uint64_t answer[1]);
 
 /* Starts, then judges and moves until the gap is at most excess times share
    times trips, there is no move, or the budget is used up. `table` then holds

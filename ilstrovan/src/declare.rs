@@ -1,8 +1,9 @@
 //! How the calls of a static library are declared: once, for this library's and
 //! for those of an earlier build, beside which the benchmark times them.
 
-/// Declares the calls of a static library whose names begin with a prefix. Each
-/// returns the refusal number or 0, and writes all of `answer`.
+/// Declares the calls of a static library whose names begin with a prefix, but
+/// for those that are lent a note. Each returns the refusal number or 0, and
+/// writes all of `answer`.
 macro_rules! declare_calls {
     ($prefix:literal) => {
         unsafe extern "C" {
@@ -26,17 +27,6 @@ macro_rules! declare_calls {
                 file_length: usize,
                 table: *mut u32,
                 table_length: usize,
-            ) -> u8;
-
-            /// Pass: outcome, gap, cost, share, over.
-            #[link_name = concat!($prefix, "_pass")]
-            pub fn ilstrovan_pass(
-                file: *const u8,
-                file_length: usize,
-                table: *mut u32,
-                table_length: usize,
-                share: u32,
-                answer: *mut [u64; 5],
             ) -> u8;
 
             /// Run: ending, tables judged, share, gap, cost, over.
@@ -72,6 +62,39 @@ macro_rules! declare_calls {
                 share: u32,
                 page: *mut u8,
                 page_length: usize,
+            ) -> u8;
+        }
+    };
+}
+
+/// Declares the calls that are lent a note (A.6), in the same way.
+macro_rules! declare_noted_calls {
+    ($prefix:literal) => {
+        unsafe extern "C" {
+            /// Pass: outcome, gap, cost, share, over.
+            #[link_name = concat!($prefix, "_pass")]
+            pub fn ilstrovan_pass(
+                file: *const u8,
+                file_length: usize,
+                table: *mut u32,
+                table_length: usize,
+                share: u32,
+                note: *mut u16,
+                note_length: usize,
+                answer: *mut [u64; 5],
+            ) -> u8;
+
+            /// Taking back: share.
+            #[link_name = concat!($prefix, "_take_back")]
+            pub fn ilstrovan_take_back(
+                file: *const u8,
+                file_length: usize,
+                table: *mut u32,
+                table_length: usize,
+                share: u32,
+                note: *const u16,
+                note_length: usize,
+                answer: *mut [u64; 1],
             ) -> u8;
         }
     };

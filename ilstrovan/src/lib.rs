@@ -31,6 +31,16 @@
 //!     "  1   0   1     0.22     0.15\n",
 //! ];
 //! assert_eq!(page, lines.concat().as_bytes());
+//!
+//! // A pass notes its move: one loading, from node 0 by link 1.
+//! let (mut table, mut note) = ([16, 0], [0; 3]);
+//! let pass = ilstrovan::pass(&file, &mut table, 8, &mut note)?;
+//! assert_eq!((table, pass.share), ([16, 2], 9));
+//! assert_eq!(note, [1, 1, ilstrovan::NO_LINK]);
+//!
+//! // By the note the move is taken back.
+//! let share = ilstrovan::take_back(&file, &mut table, pass.share, &note)?;
+//! assert_eq!((table, share), ([16, 0], 8));
 //! # Ok::<(), ilstrovan::Refusal>(())
 //! ```
 //!
@@ -54,12 +64,19 @@ pub use refusal::Refusal;
 /// Bytes of a link's line on a page.
 pub const LINE_BYTES: usize = 30;
 
+/// In a note, what a node without a next link has.
+pub const NO_LINK: u16 = 65_535;
+
+/// Numbers in the longest note, that of 32 destinations and 128 nodes: as many
+/// are enough for any study.
+pub const LONGEST_NOTE: usize = 1 + 32 * 128;
+
 /// What a pass did.
 #[derive(Clone, Copy, Debug, PartialEq, Eq)]
 pub enum Outcome {
     /// It moved the table.
     Moved,
-    /// There is no move: the table is as it was.
+    /// There is no move: the table and the note are as they were.
     Finest,
 }
 
@@ -145,9 +162,17 @@ pub fn start(file: &[u8], table: &mut [u32]) -> Result<(), Refusal> {
     Refusal::of(number)
 }
 
-/// Judges a table of this share and moves it towards least times. Refusals as
-/// [`start`], then 14 to 16, then 20.
-pub fn pass(file: &[u8], table: &mut [u32], share: u32) -> Result<Pass, Refusal> {
+/// Judges a table of this share and moves it towards least times: adds j loadings
+/// to it and j to its share, or doubles both. Writes the move to the start of
+/// `note`, for [`take_back`]. Refusals as [`start`], 12 of the note too, then 14
+/// to 16, then 20.
+///
+/// A note holds 1 + destinations × nodes numbers, at most [`LONGEST_NOTE`]. First
+/// stands j; then, destination by destination, the next link of each node, or
+/// [`NO_LINK`], as at the destination itself and at a node without a path. A
+/// doubling has j = 0 and [`NO_LINK`] throughout. Where there is no move the note
+/// is as it was.
+pub fn pass(file: &[u8], table: &mut [u32], share: u32, note: &mut [u16]) -> Result<Pass, Refusal> {
     let mut answer = [0; 5];
     // SAFETY: as in `pack`, and `answer` is an array of five numbers.
     let number = unsafe {
@@ -157,6 +182,8 @@ pub fn pass(file: &[u8], table: &mut [u32], share: u32) -> Result<Pass, Refusal>
             table.as_mut_ptr(),
             table.len(),
             share,
+            note.as_mut_ptr(),
+            note.len(),
             &mut answer,
         )
     };
@@ -172,6 +199,54 @@ pub fn pass(file: &[u8], table: &mut [u32], share: u32) -> Result<Pass, Refusal>
         share: share as u32,
         over: over as u32,
     })
+}
+
+/// Takes a move back out of a table of this share: lessens the table by j times
+/// the loading along the note's links and the share by j, or, with j = 0, halves
+/// both. Hands back the share of the table as it is now. Refusals as [`pass`],
+/// then 21, then 22.
+///
+/// Directly after a pass that moved, with the file, the table, the share and the
+/// note as that pass left them, this restores exactly the table and the share that
+/// it judged. But the note may be anybody's. With j = 0 its links are not read.
+///
+/// ```
+/// # let numbers: [u16; 29] = [
+/// #     1, 2, 2, 1, 32, 0, 20, 0, 52, 0, 2, 0, 54, 0, 4, 0, //
+/// #     0, 1, 10, 10, 2, 0, 1, 15, 0, 1, 1, 2, 0,
+/// # ];
+/// # let file: Vec<u8> = numbers.into_iter().flat_map(u16::to_le_bytes).collect();
+/// // The first pass over the start of the town of two roads is a doubling.
+/// let (mut table, mut note) = ([0; 2], [0; 3]);
+/// ilstrovan::start(&file, &mut table)?;
+/// let pass = ilstrovan::pass(&file, &mut table, 1, &mut note)?;
+/// assert_eq!((table, pass.share, note[0]), ([4, 0], 2, 0));
+///
+/// assert_eq!(ilstrovan::take_back(&file, &mut table, 2, &note), Ok(1));
+/// assert_eq!(table, [2, 0]);
+/// // A share of 1 is odd.
+/// let refused = ilstrovan::take_back(&file, &mut table, 1, &note).unwrap_err();
+/// assert_eq!(refused.number(), 22);
+/// # Ok::<(), ilstrovan::Refusal>(())
+/// ```
+pub fn take_back(file: &[u8], table: &mut [u32], share: u32, note: &[u16]) -> Result<u32, Refusal> {
+    let mut answer = [0];
+    // SAFETY: as in `pack`, and `answer` is an array of one number.
+    let number = unsafe {
+        sys::ilstrovan_take_back(
+            file.as_ptr(),
+            file.len(),
+            table.as_mut_ptr(),
+            table.len(),
+            share,
+            note.as_ptr(),
+            note.len(),
+            &mut answer,
+        )
+    };
+    Refusal::of(number)?;
+    let [share] = answer;
+    Ok(share as u32)
 }
 
 /// Starts, then judges and moves until the gap is within the excess, there is no

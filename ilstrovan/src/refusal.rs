@@ -5,7 +5,7 @@ use std::fmt;
 use std::num::NonZeroU8;
 
 /// What the numbers mean, from 1 on.
-const WORDS: [&str; 20] = [
+const WORDS: [&str; 22] = [
     "the file is not 32 to 65,536 bytes long",
     "the version is not 1, 2 or 3",
     "nodes are not 2 to 128, links 1 to 512 or destinations 1 to 32, or there are more destinations than nodes",
@@ -17,7 +17,7 @@ const WORDS: [&str; 20] = [
     "a destination has trips to itself",
     "there are more than 65,535 trips in all",
     "a node has trips to a destination to which it has no path that leads through no closed node",
-    "the table holds fewer than destinations times links numbers",
+    "the table holds fewer than destinations times links numbers, or the note fewer than 1 + destinations times nodes",
     "the budget is not 1 to 1,024",
     "the share is not 1 to 1,024",
     "a link's total flow is above share times trips",
@@ -26,6 +26,8 @@ const WORDS: [&str; 20] = [
     "the page slice is shorter than 30 bytes a link",
     "a node's closed byte is neither 0 nor 1",
     "the table has flow on a link into a closed node that is not flow to that node",
+    "the note does not lead from every node with trips to the destination, along links that may carry them",
+    "the note has no fewer loadings than the share, or more than the table holds, or a share or flow to be halved is odd",
 ];
 
 /// The first question that refused a call. The call changed nothing.

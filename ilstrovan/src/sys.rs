@@ -2,3 +2,4 @@
 //! repository says what each parameter is and what a caller owes.
 
 declare_calls!("ilstrovan");
+declare_noted_calls!("ilstrovan");

@@ -2,73 +2,17 @@
 //! every number answered, and everything lent.
 
 mod common;
+mod pair;
+mod studies;
 
 use common::Proved;
 use ilstrovan::LINE_BYTES;
+use pair::{Numbers, Pair};
 use second::cases;
-use second::draft::{Dice, Draft, Plan, Versioned, grid};
+use second::draft::{Dice, Plan, Versioned};
 use second::format::Layout;
-use second::stream::{Call, Calls, Kind, Lent, Player, Reply, Second};
-
-/// Both implementations, side by side.
-#[derive(Default)]
-struct Pair {
-    second: Player,
-    proved: Player,
-    calls: u64,
-    accepted: u64,
-    /// Answers that count links past their curves.
-    over: u64,
-    /// Pages by the number answered.
-    pages: [u64; 21],
-}
-
-impl Pair {
-    /// Makes one call on both, and compares what comes of it.
-    fn play(&mut self, call: &Call) -> Reply {
-        let expected = self.second.play(&Second, call);
-        let reply = self.proved.play(&Proved, call);
-        let (kind, number) = (call.kind, self.calls);
-        assert_eq!(reply, expected, "answer of call {number}, a {kind:?}");
-        let same = self.proved == self.second;
-        assert!(same, "what call {number}, a {kind:?}, left differs");
-        self.calls += 1;
-        self.accepted += u64::from(reply.refusal() == 0);
-        self.over += u64::from(reply.over() > 0);
-        if let Reply::Page(number) = reply {
-            self.pages[usize::from(number)] += 1;
-        }
-        reply
-    }
-
-    fn call(&mut self, kind: Kind, file: &[u8], lent: Lent, numbers: Numbers) -> Reply {
-        self.play(&Call {
-            kind,
-            file: Some(file.to_vec()),
-            lent,
-            share: numbers.share,
-            budget: numbers.budget,
-            excess: numbers.excess,
-        })
-    }
-}
-
-/// What a call is handed besides the file and what it is lent.
-#[derive(Clone, Copy, Default)]
-struct Numbers {
-    share: u32,
-    budget: u32,
-    excess: u16,
-}
-
-impl Numbers {
-    fn share(share: u32) -> Self {
-        Numbers {
-            share,
-            ..Numbers::default()
-        }
-    }
-}
+use second::stream::{Calls, Kind, Lent, Reply};
+use studies::{blank_note, closing, large, large_closed, powered, small_closed};
 
 /// The list of recorded calls.
 #[test]
@@ -79,7 +23,8 @@ fn recorded_calls() {
     }
     assert!(pair.calls > 5_500, "{} calls", pair.calls);
     assert!(pair.over > 500, "{} with links over", pair.over);
-    assert!(pair.pages[0] > 150, "{:?}", pair.pages);
+    let pages = pair.answered(Kind::Page);
+    assert!(pages[0] > 150, "{pages:?}");
 }
 
 /// Small studies of version 1, whole and damaged.
@@ -87,16 +32,19 @@ fn recorded_calls() {
 fn random_calls_on_small_studies() {
     let mut dice = Dice::new(2_026);
     let mut pair = Pair::default();
-    while pair.calls < 160_000 {
+    while pair.calls < 180_000 {
         let study = Plan::small(&mut dice).draft(&mut dice).into();
         round(&mut pair, &mut dice, &study, 1_024);
     }
     assert!(pair.accepted > pair.calls / 3, "{} accepted", pair.accepted);
     assert!(pair.over > pair.calls / 50, "{} with links over", pair.over);
+    let (pages, back) = (pair.answered(Kind::Page), pair.answered(Kind::TakeBack));
     // A page puts every question but those of a run and of a pack.
-    assert!(pair.pages[0] > 10_000, "{:?}", pair.pages);
-    let never = (0..=20).filter(|&number| pair.pages[number] == 0);
-    assert!(never.eq([13, 17, 19, 20]), "{:?}", pair.pages);
+    assert!(pages[0] > 10_000, "{pages:?}");
+    assert_eq!(pair.never(Kind::Page), [13, 17, 19, 20, 21, 22]);
+    // Taking back puts those of a note, and none to a page.
+    assert!(back[0] > 1_500, "{back:?}");
+    assert_eq!(pair.never(Kind::TakeBack), [13, 17, 18, 19, 20]);
 }
 
 /// Small studies of version 2, whole and damaged.
@@ -104,16 +52,18 @@ fn random_calls_on_small_studies() {
 fn random_calls_on_small_studies_with_closed_nodes() {
     let mut dice = Dice::new(2_028);
     let mut pair = Pair::default();
-    while pair.calls < 160_000 {
+    while pair.calls < 210_000 {
         let study = small_closed(&mut dice);
         round(&mut pair, &mut dice, &study, 1_024);
     }
     assert!(pair.accepted > pair.calls / 3, "{} accepted", pair.accepted);
     assert!(pair.over > pair.calls / 50, "{} with links over", pair.over);
-    assert!(pair.pages[0] > 10_000, "{:?}", pair.pages);
-    assert!(pair.pages[20] > 1_000, "{:?}", pair.pages);
-    let never = (0..=20).filter(|&number| pair.pages[number] == 0);
-    assert!(never.eq([13, 17]), "{:?}", pair.pages);
+    let (pages, back) = (pair.answered(Kind::Page), pair.answered(Kind::TakeBack));
+    assert!(pages[0] > 10_000, "{pages:?}");
+    assert!(pages[20] > 1_000, "{pages:?}");
+    assert_eq!(pair.never(Kind::Page), [13, 17, 21, 22]);
+    assert!(back[0] > 1_500, "{back:?}");
+    assert_eq!(pair.never(Kind::TakeBack), [13, 17, 18]);
 }
 
 /// Small studies of version 3, with closed nodes and without, whole and damaged.
@@ -121,17 +71,19 @@ fn random_calls_on_small_studies_with_closed_nodes() {
 fn random_calls_on_small_studies_with_powers() {
     let mut dice = Dice::new(2_031);
     let mut pair = Pair::default();
-    while pair.calls < 160_000 {
+    while pair.calls < 180_000 {
         let study = small_closed(&mut dice);
         let study = powered(&mut dice, study);
         round(&mut pair, &mut dice, &study, 1_024);
     }
     assert!(pair.accepted > pair.calls / 3, "{} accepted", pair.accepted);
     assert!(pair.over > pair.calls / 50, "{} with links over", pair.over);
-    assert!(pair.pages[0] > 10_000, "{:?}", pair.pages);
-    assert!(pair.pages[7] > 500, "{:?}", pair.pages);
-    let never = (0..=20).filter(|&number| pair.pages[number] == 0);
-    assert!(never.eq([13, 17]), "{:?}", pair.pages);
+    let (pages, back) = (pair.answered(Kind::Page), pair.answered(Kind::TakeBack));
+    assert!(pages[0] > 10_000, "{pages:?}");
+    assert!(pages[7] > 500, "{pages:?}");
+    assert_eq!(pair.never(Kind::Page), [13, 17, 21, 22]);
+    assert!(back[0] > 1_500, "{back:?}");
+    assert_eq!(pair.never(Kind::TakeBack), [13, 17, 18]);
 }
 
 /// Studies of version 1 up to every limit.
@@ -139,13 +91,14 @@ fn random_calls_on_small_studies_with_powers() {
 fn random_calls_on_large_studies() {
     let mut dice = Dice::new(2_027);
     let mut pair = Pair::default();
-    while pair.calls < 5_000 {
+    while pair.calls < 6_000 {
         let study = large(&mut dice);
         round(&mut pair, &mut dice, &study, 40);
     }
     assert!(pair.accepted > pair.calls / 3, "{} accepted", pair.accepted);
     assert!(pair.over > pair.calls / 50, "{} with links over", pair.over);
-    assert!(pair.pages[0] > 300, "{:?}", pair.pages);
+    let pages = pair.answered(Kind::Page);
+    assert!(pages[0] > 300, "{pages:?}");
 }
 
 /// Studies of version 2 up to every limit.
@@ -153,14 +106,15 @@ fn random_calls_on_large_studies() {
 fn random_calls_on_large_studies_with_closed_nodes() {
     let mut dice = Dice::new(2_029);
     let mut pair = Pair::default();
-    while pair.calls < 5_000 {
+    while pair.calls < 6_000 {
         let study = large_closed(&mut dice);
         round(&mut pair, &mut dice, &study, 40);
     }
     assert!(pair.accepted > pair.calls / 3, "{} accepted", pair.accepted);
     assert!(pair.over > pair.calls / 50, "{} with links over", pair.over);
-    assert!(pair.pages[0] > 300, "{:?}", pair.pages);
-    assert!(pair.pages[20] > 50, "{:?}", pair.pages);
+    let pages = pair.answered(Kind::Page);
+    assert!(pages[0] > 300, "{pages:?}");
+    assert!(pages[20] > 50, "{pages:?}");
 }
 
 /// Studies of version 3 up to every limit.
@@ -168,14 +122,15 @@ fn random_calls_on_large_studies_with_closed_nodes() {
 fn random_calls_on_large_studies_with_powers() {
     let mut dice = Dice::new(2_032);
     let mut pair = Pair::default();
-    while pair.calls < 5_000 {
+    while pair.calls < 8_000 {
         let study = large_closed(&mut dice);
         let study = powered(&mut dice, study);
         round(&mut pair, &mut dice, &study, 40);
     }
-    assert!(pair.accepted > pair.calls / 3, "{} accepted", pair.accepted);
+    assert!(pair.accepted > pair.calls / 4, "{} accepted", pair.accepted);
     assert!(pair.over > pair.calls / 50, "{} with links over", pair.over);
-    assert!(pair.pages[0] > 300, "{:?}", pair.pages);
+    let pages = pair.answered(Kind::Page);
+    assert!(pages[0] > 300, "{pages:?}");
 }
 
 /// Files of about 2,048 bytes, up to which the calls lend fewer places for their
@@ -193,7 +148,8 @@ fn random_calls_on_files_of_about_2048_bytes() {
         }
     }
     assert!(pair.accepted > pair.calls / 2, "{} accepted", pair.accepted);
-    assert!(pair.pages[0] > 300, "{:?}", pair.pages);
+    let pages = pair.answered(Kind::Page);
+    assert!(pages[0] > 300, "{pages:?}");
 }
 
 /// A study of many links and few trips, or of many trips and fewer links, whose
@@ -241,102 +197,17 @@ fn open_nodes_and_fourth_powers_make_no_difference() {
         let [first, second, third] = files.map(|file| {
             let audit = Proved.audit(&file, &table, 10);
             let (mut moved, mut ended) = (table.clone(), table.clone());
-            let pass = Proved.pass(&file, &mut moved, 10);
+            let mut note = vec![7; draft.note_length()];
+            let pass = Proved.pass(&file, &mut moved, 10, &mut note);
             let run = Proved.run(&file, &mut ended, 20, 0);
-            (Proved.check(&file), audit, pass, run, moved, ended)
+            let mut back = moved.clone();
+            let taken = Proved.take_back(&file, &mut back, pass.share, &note);
+            let answers = (Proved.check(&file), audit, pass, run, taken);
+            (answers, moved, note, ended, back)
         });
         assert_eq!(first, second);
         assert_eq!(first, third);
     }
-}
-
-/// A small study of version 2, most of them with trips.
-fn small_closed(dice: &mut Dice) -> Versioned {
-    loop {
-        let study = any_closed(dice);
-        if study.draft.total() > 0 || dice.once_in(8) {
-            return study;
-        }
-    }
-}
-
-/// A study of few links or, two in three, of several ways round: from none to
-/// all of its nodes closed, or zones beside streets.
-fn any_closed(dice: &mut Dice) -> Versioned {
-    let mut plan = Plan::small(dice);
-    if !dice.once_in(3) {
-        plan.nodes = (3, 7);
-        plan.links = (10, 24);
-    }
-    let draft = plan.draft(dice);
-    if dice.once_in(3) {
-        let zones = dice.between(1, 4) as u16;
-        return plan.with_zones(dice, draft.nodes, zones, draft.links);
-    }
-    let tenths = dice.between(0, 10);
-    closing(dice, draft, tenths)
-}
-
-/// The study with so many nodes in ten closed. In one of eight, trips may have no
-/// path.
-fn closing(dice: &mut Dice, draft: Draft, tenths: u64) -> Versioned {
-    let whole = draft.clone();
-    let mut study = draft.closing_some(dice, tenths);
-    if dice.once_in(8) {
-        study.draft = whole;
-    }
-    study
-}
-
-/// The study in version 3. In one of twenty a power is not 1 to 4.
-fn powered(dice: &mut Dice, study: Versioned) -> Versioned {
-    let mut study = study.with_some_powers(dice);
-    if let Some(powers) = &mut study.powers
-        && dice.once_in(20)
-    {
-        let link = dice.index(powers.len());
-        powers[link] = dice.pick(&[0, 5, 6, 255, 256, 257, 260, 1_024, 65_535]);
-    }
-    study
-}
-
-/// How a study of 40 to 128 nodes is to turn out.
-fn large_plan(dice: &mut Dice) -> Plan {
-    Plan {
-        nodes: (40, 128),
-        links: (100, 512),
-        destinations: 32,
-        time: dice.pick(&[2, 60, 500, 16_383]),
-        capacity: dice.pick(&[3, 100, 900, 65_535]),
-        trips: dice.pick(&[1, 14, 30, 900]),
-        tenths: dice.between(1, 10),
-    }
-}
-
-/// A study of 40 to 128 nodes, a street grid or any network.
-fn large(dice: &mut Dice) -> Versioned {
-    let plan = large_plan(dice);
-    if dice.once_in(2) {
-        return plan.draft(dice).into();
-    }
-    let (wide, high) = dice.pick(&[(8, 8), (16, 8), (25, 5), (42, 3)]);
-    let links = grid(dice, wide, high, 512, plan.time, plan.capacity);
-    plan.with_links(dice, wide * high, links).into()
-}
-
-/// The same with some nodes closed, or zones beside a grid.
-fn large_closed(dice: &mut Dice) -> Versioned {
-    if dice.once_in(2) {
-        let tenths = dice.pick(&[0, 1, 1, 2, 3, 5, 10]);
-        let draft = large(dice).draft;
-        return closing(dice, draft, tenths);
-    }
-    let plan = large_plan(dice);
-    let (wide, high) = dice.pick(&[(8, 8), (12, 8), (16, 6), (24, 4)]);
-    let zones = dice.between(1, 32) as u16;
-    let most = 512 - 4 * usize::from(zones);
-    let links = grid(dice, wide, high, most, plan.time, plan.capacity);
-    plan.with_zones(dice, wide * high, zones, links)
 }
 
 /// Calls of every kind with one study, its file whole or damaged.
@@ -378,7 +249,8 @@ fn round_of(pair: &mut Pair, dice: &mut Dice, study: &Versioned, file: &[u8], bu
     pair.call(Kind::Audit, file, Lent::Table(table.clone()), given);
     let lent = Lent::Page(Some(table.clone()), paper(dice, study));
     pair.call(Kind::Page, file, lent, given);
-    pair.call(Kind::Pass, file, Lent::Table(table), given);
+    let lent = Lent::Noted(Some(table), Some(blank_note(dice, study)));
+    pair.call(Kind::Pass, file, lent, given);
     follow(pair, dice, study, file, share);
 }
 
@@ -413,28 +285,36 @@ fn started(file: &[u8], study: &Versioned, share: u32) -> Vec<u32> {
     table
 }
 
-/// Passes, audits and pages of the table as the call before left it, most of
-/// them at the share reached.
+/// A pass of the table as the call before left it, then passes, audits, pages and
+/// moves taken back, most of them at the share reached.
 fn follow(pair: &mut Pair, dice: &mut Dice, study: &Versioned, file: &[u8], share: u32) {
     let mut reached = share;
+    let mut kind = Kind::Pass;
     for _ in 0..dice.between(1, 6) {
-        let share = if dice.once_in(4) {
+        let share = if dice.once_in(6) {
             let any = dice.any_u32();
             dice.pick(&[0, reached + 1, 2 * reached, 1_025, any])
         } else {
             reached
         };
-        let kind = dice.pick(&[Kind::Pass, Kind::Pass, Kind::Audit, Kind::Page]);
         let lent = match kind {
             Kind::Page => Lent::Page(None, paper(dice, study)),
+            Kind::Pass => Lent::Noted(None, Some(blank_note(dice, study))),
+            Kind::TakeBack => Lent::Noted(None, None),
             _ => Lent::Same,
         };
-        let reply = pair.call(kind, file, lent, Numbers::share(share));
-        if let Reply::Pass(answer) = reply
-            && answer.refusal == 0
-        {
-            reached = answer.share;
+        match pair.call(kind, file, lent, Numbers::share(share)) {
+            Reply::Pass(answer) if answer.refusal == 0 => reached = answer.share,
+            Reply::TakeBack(answer) if answer.refusal == 0 => reached = answer.share,
+            _ => {}
         }
+        kind = dice.pick(&[
+            Kind::Pass,
+            Kind::Pass,
+            Kind::Audit,
+            Kind::Page,
+            Kind::TakeBack,
+        ]);
     }
 }
 

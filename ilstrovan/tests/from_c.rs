@@ -40,13 +40,23 @@ fn town() {
 
     let ran = Command::new(&program).output().expect("the program runs");
     assert!(ran.status.success(), "{ran:?}");
-    let expected = expected() + &expected_of_the_zone() + &expected_of_powers();
-    assert_eq!(String::from_utf8_lossy(&ran.stdout), expected);
+    let expected = [
+        expected(),
+        expected_of_taking_back(),
+        expected_of_the_zone(),
+        expected_of_powers(),
+    ];
+    assert_eq!(String::from_utf8_lossy(&ran.stdout), expected.concat());
 }
 
 fn table_words(table: &[u32]) -> String {
     let numbers: Vec<String> = table.iter().map(u32::to_string).collect();
     format!("table {}", numbers.join(" "))
+}
+
+fn note_words(note: &[u16]) -> String {
+    let numbers: Vec<String> = note.iter().map(u16::to_string).collect();
+    format!("note {}", numbers.join(" "))
 }
 
 fn audit_words(a: AuditAnswer) -> String {
@@ -110,10 +120,14 @@ fn expected() -> String {
     }
 
     table[..2].copy_from_slice(&[16, 0]);
+    let mut note = [6, 5, 4];
     for share in [8, 1_025] {
-        line(pass_words(second::pass(&file, &mut table, share)));
+        line(pass_words(second::pass(
+            &file, &mut table, share, &mut note,
+        )));
         line(table_words(&table));
     }
+    line(note_words(&note));
 
     // A page slice a byte too short, then one just long enough.
     assert_eq!(table[..2], [16, 2]);
@@ -130,11 +144,59 @@ fn expected() -> String {
     let audited = second::audit(&busy, &table, 1);
     assert_eq!(audited.over, 1);
     line(audit_words(audited));
-    line(pass_words(second::pass(&busy, &mut table, 1)));
+    let mut note = [6, 5, 4, 3];
+    line(pass_words(second::pass(&busy, &mut table, 1, &mut note)));
     line(table_words(&table));
+    line(note_words(&note));
     line(run_words(second::run(&busy, &mut table, 1, 0)));
     line(table_words(&table));
     lines
+}
+
+/// What the program is to print of moves taken back and of notes that are
+/// refused: the cases that the request's text settles.
+fn expected_of_taking_back() -> String {
+    let lines = [
+        // One loading by link 1, and back.
+        "pass 0 1 80 11904 9 0",
+        "table 16 2 9",
+        "note 1 1 65535 3",
+        "take back 0 8",
+        "table 16 0 9",
+        "note 1 1 65535 3",
+        "take back 22 0",
+        "table 16 0 9",
+        "note 1 1 65535 3",
+        // A doubling, and back.
+        "pass 0 1 10 1488 2 0",
+        "table 4 0 9",
+        "note 0 65535 65535 3",
+        "take back 0 1",
+        "table 2 0 9",
+        "note 0 65535 65535 3",
+        "take back 22 0",
+        "table 2 0 9",
+        "note 0 65535 65535 3",
+        // Notes that are too short.
+        "pass 12 0 0 0 0 0",
+        "pass 12 0 0 0 0 0",
+        "table 16 2 9",
+        "note 6 5 4 3",
+    ];
+    let mut text = lines.map(|line| format!("{line}\n")).concat();
+    for (number, flows, j, link) in [
+        (12, "16 2", 1, 1),
+        (12, "16 2", 1, 1),
+        (21, "16 2", 1, 65_535),
+        (21, "16 2", 9, 2),
+        (22, "16 2", 9, 0),
+        (22, "16 2", 2, 1),
+        (22, "16 2", 0, 65_535),
+        (22, "17 3", 0, 65_535),
+    ] {
+        text += &format!("take back {number} 0\ntable {flows} 9\nnote {j} {link} 65535\n");
+    }
+    text + "take back 0 1\ntable 0 2 9\nnote 8 0 65535\n"
 }
 
 /// What the program is to print of the town with a zone: the figures of the
@@ -154,16 +216,20 @@ fn expected_of_the_zone() -> String {
         // Through the closed zone.
         "audit 20 0 0 0",
         "pass 20 0 0 0 0 0",
+        "take back 20 0",
         "page 20",
         "page 20",
         "table 2 3 0 0 9",
+        "note 6 5 4 3 2 1",
         "blank 120",
         // A part of a trip lost in the zone.
         "audit 16 0 0 0",
         "pass 16 0 0 0 0 0",
+        "take back 16 0",
         "page 16",
         "page 16",
         "table 2 2 0 0 9",
+        "note 6 5 4 3 2 1",
         "blank 120",
     ]);
     let mut table = [9; 5];
@@ -188,13 +254,15 @@ fn expected_of_the_zone() -> String {
 fn expected_of_powers() -> String {
     let mut lines = String::new();
     let mut line = |words: String| writeln!(lines, "{words}").expect("a string takes all");
+    let mut note = [6, 5, 4];
     for power in 0..=5 {
         let file = Draft::town().with_powers(vec![power, 4]).file();
         let mut table = [16, 2, 9];
         line(format!("check {}", second::check(&file)));
         line(audit_words(second::audit(&file, &table, 9)));
-        line(pass_words(second::pass(&file, &mut table, 9)));
+        line(pass_words(second::pass(&file, &mut table, 9, &mut note)));
         line(table_words(&table));
+        line(note_words(&note));
         line(run_words(second::run(&file, &mut table, 10, 0)));
         line(table_words(&table));
     }

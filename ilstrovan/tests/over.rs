@@ -94,9 +94,11 @@ fn judge(crowd: &Crowd, tally: &mut Tally) {
     assert_eq!((audited.refusal, audited.over), (0, over));
 
     let (mut table, mut other) = (crowd.table.clone(), crowd.table.clone());
-    let passed = Proved.pass(file, &mut table, crowd.share);
-    assert_eq!(passed, Second.pass(file, &mut other, crowd.share));
-    assert_eq!(table, other);
+    let (mut note, mut other_note) = ([7; 3], [7; 3]);
+    let passed = Proved.pass(file, &mut table, crowd.share, &mut note);
+    let expected = Second.pass(file, &mut other, crowd.share, &mut other_note);
+    assert_eq!(passed, expected);
+    assert_eq!((&table, note), (&other, other_note));
     assert_eq!(passed.over, over);
     assert!(passed.outcome == MOVED || passed.outcome == FINEST);
 
@@ -116,7 +118,7 @@ fn refuse(crowd: &Crowd) {
     let audited = Proved.audit(&crowd.file, &table, crowd.share);
     assert!(audited.refusal == 15 || audited.refusal == 16);
     assert_eq!(audited.over, 0);
-    let passed = Proved.pass(&crowd.file, &mut table, crowd.share);
+    let passed = Proved.pass(&crowd.file, &mut table, crowd.share, &mut [7; 3]);
     assert_eq!((passed.refusal, passed.over), (audited.refusal, 0));
 }
 

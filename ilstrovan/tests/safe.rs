@@ -1,9 +1,12 @@
 //! The safe functions on the town of two roads, document 01's cases and those of
-//! request A.4, and on towns with a zone, those of request A.2.
+//! requests A.4 and A.6, and on towns with a zone, those of request A.2.
 
 mod zone;
 
-use ilstrovan::{Audit, Ending, Outcome, Pass, Run, audit, check, pack, pass, run, start};
+use ilstrovan::{
+    Audit, Ending, LONGEST_NOTE, NO_LINK, Outcome, Pass, Run, audit, check, pack, pass, run, start,
+    take_back,
+};
 use second::draft::{Draft, Versioned};
 use zone::zone;
 
@@ -26,13 +29,15 @@ fn accepted_calls() {
     let Audit { gap, cost, over } = audit(&file, &table, 1).expect("accepted");
     assert_eq!((gap, over), (10, 0));
 
-    let moved = pass(&file, &mut table, 1).expect("accepted");
+    let mut note = [7; 4];
+    let moved = pass(&file, &mut table, 1, &mut note).expect("accepted");
     assert_eq!((moved.outcome, moved.gap), (Outcome::Moved, gap));
     assert_eq!(moved.cost, cost);
     table = [16, 0, 7];
-    let moved = pass(&file, &mut table, 8).expect("accepted");
+    let moved = pass(&file, &mut table, 8, &mut note).expect("accepted");
     assert_eq!((moved.outcome, moved.share), (Outcome::Moved, 9));
     assert_eq!(table, [16, 2, 7]);
+    assert_eq!(note, [1, 1, NO_LINK, 7]);
     let best = Audit {
         gap: 0,
         cost: 13_104,
@@ -66,11 +71,14 @@ fn finest() {
     start(&file, &mut table).expect("accepted");
     let mut share = 1;
     let last: Pass = loop {
-        let answer = pass(&file, &mut table, share).expect("accepted");
+        let mut note = [7; 3];
+        let answer = pass(&file, &mut table, share, &mut note).expect("accepted");
         share = answer.share;
         if answer.outcome == Outcome::Finest {
+            assert_eq!(note, [7; 3]);
             break answer;
         }
+        assert_eq!(note[2], NO_LINK);
     };
     let mut ended_with = [0; 2];
     let ended = run(&file, &mut ended_with, 1_024, 0).expect("accepted");
@@ -90,10 +98,11 @@ fn links_past_their_curves() {
     let over = |table: &[u32], share| audit(&file, table, share).expect("accepted").over;
     assert_eq!((over(&[8, 0], 1), over(&[511, 1], 64)), (1, 0));
 
-    let mut table = [8, 0];
-    let moved = pass(&file, &mut table, 1).expect("accepted");
+    let (mut table, mut note) = ([8, 0], [0; 3]);
+    let moved = pass(&file, &mut table, 1, &mut note).expect("accepted");
     assert_eq!((moved.outcome, moved.over), (Outcome::Moved, 1));
     assert_eq!((moved.share, table), (4, [8, 24]));
+    assert_eq!(note, [3, 1, NO_LINK]);
     assert_eq!(over(&table, 4), 0);
 
     let ended = run(&file, &mut table, 1, 0).expect("accepted");
@@ -110,13 +119,116 @@ fn refused_calls() {
     assert_eq!(refusal(pack(&file, &mut [0; 57])), 17);
     assert_eq!(refusal(start(&file, &mut [])), 12);
     assert_eq!(refusal(run(&file, &mut table, 0, 0)), 13);
-    assert_eq!(refusal(pass(&file, &mut table, 1_025)), 14);
+    let mut note = [7; 3];
+    assert_eq!(refusal(pass(&file, &mut table, 1_025, &mut note)), 14);
     assert_eq!(refusal(audit(&file, &[19, 0], 9)), 15);
-    assert_eq!(refusal(pass(&file, &mut table, 9)), 16);
-    assert_eq!(table, [16, 1, 7]);
+    assert_eq!(refusal(pass(&file, &mut table, 9, &mut note)), 16);
+    assert_eq!(refusal(pass(&file, &mut table, 1_025, &mut note[..2])), 12);
+    assert_eq!((table, note), ([16, 1, 7], [7; 3]));
 
     let words = audit(&file, &table, 9).expect_err("a refusal").to_string();
     assert_eq!(words, "refused 16: the table does not conserve");
+}
+
+/// Every move of the town from its start on, and all of them back.
+#[test]
+fn moves_and_back() {
+    let file = Draft::town().file();
+    let mut table = [0; 3];
+    start(&file, &mut table).expect("accepted");
+    let mut moves = vec![];
+    let mut share = 1;
+    for (step, link, left) in [
+        (0, NO_LINK, [4, 0, 0]),
+        (0, NO_LINK, [8, 0, 0]),
+        (0, NO_LINK, [16, 0, 0]),
+        (1, 1, [16, 2, 0]),
+    ] {
+        let (judged, mut note) = ((table, share), [7; 4]);
+        share = pass(&file, &mut table, share, &mut note)
+            .expect("accepted")
+            .share;
+        assert_eq!(note, [step, link, NO_LINK, 7]);
+        assert_eq!(table, left);
+        moves.push((judged, note));
+    }
+    for (judged, note) in moves.into_iter().rev() {
+        share = take_back(&file, &mut table, share, &note).expect("accepted");
+        assert_eq!((table, share), judged);
+    }
+    assert_eq!((table, share), ([2, 0, 0], 1));
+}
+
+/// A note of somebody else's: the second loading of link 1, and the longest.
+#[test]
+fn notes_of_others() {
+    let file = Draft::town().file();
+    let mut table = [12, 6, 7];
+    let mut note = [0; LONGEST_NOTE];
+    note[..2].copy_from_slice(&[2, 1]);
+    assert_eq!(take_back(&file, &mut table, 9, &note), Ok(7));
+    assert_eq!(table, [12, 2, 7]);
+    // Halved, whatever its links are.
+    assert_eq!(take_back(&file, &mut [16, 4], 10, &[0, 99, 98]), Ok(5));
+}
+
+#[test]
+fn notes_that_are_refused() {
+    let file = Draft::town().file();
+    let mut table = [16, 2, 7];
+    let note = [1, 1, NO_LINK];
+    for length in 0..3 {
+        let number = refusal(take_back(&file, &mut table, 0, &note[..length]));
+        assert_eq!(number, 12, "{length}");
+    }
+    assert_eq!(refusal(take_back(&file, &mut table[..1], 9, &note)), 12);
+    assert_eq!(refusal(take_back(&file, &mut table, 0, &note)), 14);
+    assert_eq!(refusal(take_back(&file, &mut [19, 0], 9, &note)), 15);
+    assert_eq!(refusal(take_back(&file, &mut table, 8, &note)), 16);
+
+    // No link, and links that there are not; the share is asked about later.
+    for link in [2, 512, NO_LINK] {
+        assert_eq!(refusal(take_back(&file, &mut table, 9, &[9, link, 0])), 21);
+    }
+    // As many loadings as the share, more flow than there is, odd numbers.
+    for note in [[9, 0, 0], [2, 1, 0], [0, 1, 0]] {
+        assert_eq!(refusal(take_back(&file, &mut table, 9, &note)), 22);
+    }
+    assert_eq!(refusal(take_back(&file, &mut [17, 3], 10, &[0; 3])), 22);
+    assert_eq!(table, [16, 2, 7]);
+
+    let words = |note| {
+        let result = take_back(&file, &mut [16, 2], 9, note);
+        result.expect_err("a refusal").to_string()
+    };
+    assert_eq!(
+        words(&[1, 2, 0]),
+        "refused 21: the note does not lead from every node with trips to the destination, along links that may carry them"
+    );
+    assert_eq!(
+        words(&[9, 0, 0]),
+        "refused 22: the note has no fewer loadings than the share, or more than the table holds, or a share or flow to be halved is odd"
+    );
+}
+
+/// By the zone, node 1, when it is open; round it when it is closed.
+#[test]
+fn notes_of_a_zone() {
+    let mut study = zone();
+    study.trips = vec![vec![8, 0, 0, 0]];
+    let by_the_zone = [1, 0, 1, NO_LINK, 3];
+    let round_it = [1, 2, 1, NO_LINK, 3];
+    let file = study.clone().closing(&[]).file();
+    let mut table = [8, 8, 8, 8];
+    assert_eq!(take_back(&file, &mut table.clone(), 2, &round_it), Ok(1));
+    assert_eq!(take_back(&file, &mut table, 2, &by_the_zone), Ok(1));
+    assert_eq!(table, [0, 0, 8, 8]);
+
+    let file = study.closing(&[1]).file();
+    let mut table = [0, 0, 16, 16];
+    assert_eq!(refusal(take_back(&file, &mut table, 2, &by_the_zone)), 21);
+    assert_eq!(take_back(&file, &mut table, 2, &round_it), Ok(1));
+    assert_eq!(table, [0, 0, 8, 8]);
 }
 
 fn closed_zone() -> Versioned {
@@ -165,8 +277,10 @@ fn calls_that_a_zone_refuses() {
         refused.to_string(),
         "refused 20: the table has flow on a link into a closed node that is not flow to that node"
     );
-    assert_eq!(refusal(pass(&file, &mut through, 1)), 20);
-    assert_eq!(through, [2, 3, 0, 0]);
+    let mut note = [7; 5];
+    assert_eq!(refusal(pass(&file, &mut through, 1, &mut note)), 20);
+    assert_eq!(refusal(take_back(&file, &mut through, 1, &note)), 20);
+    assert_eq!((through, note), ([2, 3, 0, 0], [7; 5]));
     assert_eq!(refusal(audit(&file, &[2, 2, 0, 0], 1)), 16);
 
     // A closed byte of 2 is asked about before trips to itself.

@@ -72,6 +72,14 @@ static void show_table(const uint32_t *table)
     show_numbers(table, 3);
 }
 
+static void show_note(const uint16_t *note, size_t count)
+{
+    printf("note");
+    for (size_t i = 0; i < count; i++)
+        printf(" %u", (unsigned)note[i]);
+    printf("\n");
+}
+
 /* Shows whether the lines are there, from byte 2 on, and how many of the 64
    bytes are blank. */
 static void show_page(const uint8_t *page)
@@ -92,20 +100,25 @@ static void start_and_audit(const uint8_t *file, uint32_t *table)
     show("audit", ilstrovan_audit(file, sizeof zone, table, 4, 1, audited), audited, 3);
 }
 
-/* A table that no call accepts, and what is left of it and of a page. */
+/* A table that no call accepts, and what is left of it, of a page and of a
+   note. */
 static void refuse(const uint8_t *file, uint32_t *table)
 {
     uint8_t page[120];
-    uint64_t passed[5] = {1, 2, 3, 4, 5}, audited[3] = {6, 7, 8};
+    uint16_t note[6] = {6, 5, 4, 3, 2, 1};
+    uint64_t passed[5] = {1, 2, 3, 4, 5}, audited[3] = {6, 7, 8}, taken[1] = {9};
     unsigned blank = 0;
     memset(page, 0xEE, sizeof page);
     show("audit", ilstrovan_audit(file, sizeof zone, table, 4, 1, audited), audited, 3);
-    show("pass", ilstrovan_pass(file, sizeof zone, table, 4, 1, passed), passed, 5);
+    show("pass", ilstrovan_pass(file, sizeof zone, table, 4, 1, note, 5, passed), passed, 5);
+    show("take back", ilstrovan_take_back(file, sizeof zone, table, 4, 1, note, 5, taken),
+         taken, 1);
     show("page", ilstrovan_page(file, sizeof zone, table, 4, 1, page, sizeof page), NULL, 0);
     show("page", ilstrovan_page(file, sizeof zone, table, 4, 1, page, 119), NULL, 0);
     for (size_t i = 0; i < sizeof page; i++)
         blank += page[i] == 0xEE;
     show_numbers(table, 5);
+    show_note(note, 6);
     printf("blank %u\n", blank);
 }
 
@@ -160,15 +173,78 @@ static void busy_town(void)
 {
     uint8_t busy[sizeof town];
     uint32_t table[3] = {8, 0, 9};
+    uint16_t note[4] = {6, 5, 4, 3};
     uint64_t passed[5], ended[6], audited[3];
 
     memcpy(busy, town, sizeof town);
     busy[TOWN_TRIPS] = 8;
     show("audit", ilstrovan_audit(busy, sizeof busy, table, 3, 1, audited), audited, 3);
-    show("pass", ilstrovan_pass(busy, sizeof busy, table, 3, 1, passed), passed, 5);
+    show("pass", ilstrovan_pass(busy, sizeof busy, table, 3, 1, note, 4, passed), passed, 5);
     show_table(table);
+    show_note(note, 4);
     show("run", ilstrovan_run(busy, sizeof busy, table, 3, 1, 0, ended), ended, 6);
     show_table(table);
+}
+
+/* A pass of a table of the town at a share, and the move taken back, twice: the
+   second time there is nothing left to take back. */
+static void move_and_back(uint32_t flow, uint32_t share)
+{
+    uint32_t table[3] = {flow, 0, 9};
+    uint16_t note[4] = {6, 5, 4, 3};
+    uint64_t passed[5], taken[1];
+
+    show("pass", ilstrovan_pass(town, sizeof town, table, 2, share, note, 4, passed), passed, 5);
+    show_table(table);
+    show_note(note, 4);
+    share = (uint32_t)passed[3];
+    for (int turn = 0; turn < 2; turn++) {
+        show("take back", ilstrovan_take_back(town, sizeof town, table, 2, share, note, 3, taken),
+             taken, 1);
+        show_table(table);
+        show_note(note, 4);
+        share = (uint32_t)taken[0];
+    }
+}
+
+/* A note that somebody else wrote. */
+static void take_back_by(uint32_t *table, uint32_t share, uint16_t j, uint16_t link, size_t length)
+{
+    uint16_t note[3] = {j, link, 65535};
+    uint64_t taken[1] = {9};
+    show("take back", ilstrovan_take_back(town, sizeof town, table, 3, share, note, length, taken),
+         taken, 1);
+    show_table(table);
+    show_note(note, 3);
+}
+
+/* Moves of the town taken back, and the refusals of a note. */
+static void taking_back(void)
+{
+    uint32_t table[3] = {16, 2, 9}, odd[3] = {17, 3, 9};
+    uint16_t note[4] = {6, 5, 4, 3};
+    uint64_t passed[5];
+
+    move_and_back(16, 8);
+    move_and_back(2, 1);
+
+    /* A note that is too short, for a share of 0 too. */
+    show("pass", ilstrovan_pass(town, sizeof town, table, 3, 9, note, 2, passed), passed, 5);
+    show("pass", ilstrovan_pass(town, sizeof town, table, 3, 0, note, 0, passed), passed, 5);
+    show_table(table);
+    show_note(note, 4);
+    take_back_by(table, 9, 1, 1, 2);
+    take_back_by(table, 0, 1, 1, 0);
+    /* No link, and a link that there is not. */
+    take_back_by(table, 9, 1, 65535, 3);
+    take_back_by(table, 9, 9, 2, 3);
+    /* As many loadings as the share, more than the table holds, and odd numbers. */
+    take_back_by(table, 9, 9, 0, 3);
+    take_back_by(table, 9, 2, 1, 3);
+    take_back_by(table, 9, 0, 65535, 3);
+    take_back_by(odd, 10, 0, 65535, 3);
+    /* A note that another pass could have left. */
+    take_back_by(table, 9, 8, 0, 3);
 }
 
 /* Every power from 0 to 5 on link 0. */
@@ -176,6 +252,7 @@ static void town_with_powers(void)
 {
     uint8_t file[sizeof curved], output[sizeof curved + 1];
     uint32_t table[3] = {16, 2, 9};
+    uint16_t note[3] = {6, 5, 4};
     uint64_t passed[5], ended[6], audited[3];
 
     memcpy(file, curved, sizeof curved);
@@ -185,8 +262,9 @@ static void town_with_powers(void)
         table[1] = 2;
         show("check", ilstrovan_check(file, sizeof file), NULL, 0);
         show("audit", ilstrovan_audit(file, sizeof file, table, 3, 9, audited), audited, 3);
-        show("pass", ilstrovan_pass(file, sizeof file, table, 3, 9, passed), passed, 5);
+        show("pass", ilstrovan_pass(file, sizeof file, table, 3, 9, note, 3, passed), passed, 5);
         show_table(table);
+        show_note(note, 3);
         show("run", ilstrovan_run(file, sizeof file, table, 3, 10, 0, ended), ended, 6);
         show_table(table);
     }
@@ -201,6 +279,7 @@ int main(void)
 {
     uint8_t output[60], page[64];
     uint32_t table[3] = {7, 8, 9};
+    uint16_t note[3] = {6, 5, 4};
     uint64_t passed[5], ended[6], audited[3];
 
     show("check", ilstrovan_check(town, sizeof town), NULL, 0);
@@ -227,10 +306,11 @@ int main(void)
 
     table[0] = 16;
     table[1] = 0;
-    show("pass", ilstrovan_pass(town, sizeof town, table, 3, 8, passed), passed, 5);
+    show("pass", ilstrovan_pass(town, sizeof town, table, 3, 8, note, 3, passed), passed, 5);
     show_table(table);
-    show("pass", ilstrovan_pass(town, sizeof town, table, 3, 1025, passed), passed, 5);
+    show("pass", ilstrovan_pass(town, sizeof town, table, 3, 1025, note, 3, passed), passed, 5);
     show_table(table);
+    show_note(note, 3);
 
     memset(page, 0xEE, sizeof page);
     show("page", ilstrovan_page(town, sizeof town, table, 3, 9, page + 2, 59), NULL, 0);
@@ -240,6 +320,7 @@ int main(void)
     show_table(table);
 
     busy_town();
+    taking_back();
     town_with_a_zone();
     town_with_powers();
     return 0;

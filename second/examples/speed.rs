@@ -1,16 +1,18 @@
 //! Times of the calls on a few studies: `cargo run --release --example speed`.
 //!
 //! Each time is the shortest of many tries, in microseconds. Passes, audits
-//! and pages are of the table a run ends with. First come studies of version
-//! 1, then pairs of a study with closed nodes and the same one with all nodes
-//! open, then studies with powers of several kinds and the same ones with power
-//! 4 on all links.
+//! and pages are of the table a run ends with. What is taken back is the first
+//! move by loadings after a start, and `move` is the pass that makes it. First
+//! come studies of version 1, then pairs of a study with closed nodes and the
+//! same one with all nodes open, then studies with powers of several kinds and
+//! the same ones with power 4 on all links, then studies in which nobody goes to
+//! most destinations.
 
 use std::hint::black_box;
 use std::time::{Duration, Instant};
 
 use second::draft::{Dice, Draft, DraftLink, Plan, Versioned, grid};
-use second::{audit, check, page, pass, run, start};
+use second::{audit, check, page, pass, run, start, take_back};
 
 /// Shortest time of a call over half a second of tries, in microseconds.
 fn shortest<T>(mut call: impl FnMut() -> T) -> f64 {
@@ -22,6 +24,21 @@ fn shortest<T>(mut call: impl FnMut() -> T) -> f64 {
         best = best.min(now.elapsed());
     }
     best.as_secs_f64() * 1e6
+}
+
+/// The tables before and after the first move by loadings from a start, with
+/// their shares and the note.
+fn first_move(file: &[u8], length: usize, note: &mut [u16]) -> [(Vec<u32>, u32); 2] {
+    let mut table = vec![0; length];
+    assert_eq!(start(file, &mut table), 0);
+    let mut share = 1;
+    loop {
+        let before = (table.clone(), share);
+        share = pass(file, &mut table, share, note).share;
+        if note[0] > 0 {
+            return [before, (table, share)];
+        }
+    }
 }
 
 /// One line of times for one study.
@@ -36,21 +53,34 @@ fn show(name: &str, study: impl Into<Versioned>) {
     let copying = shortest(|| other.copy_from_slice(black_box(&table)));
     let checking = shortest(|| check(black_box(&file)));
     let starting = shortest(|| start(&file, &mut other));
+    let mut note = vec![0; 1 + draft.destinations.len() * usize::from(draft.nodes)];
     let passing = shortest(|| {
         other.copy_from_slice(&table);
-        pass(&file, &mut other, answer.share)
+        pass(&file, &mut other, answer.share, &mut note)
     });
+    let [before, after] = first_move(&file, table.len(), &mut note);
+    let moving = shortest(|| {
+        other.copy_from_slice(&before.0);
+        pass(&file, &mut other, before.1, &mut note)
+    });
+    let taking_back = shortest(|| {
+        other.copy_from_slice(&after.0);
+        take_back(&file, &mut other, after.1, &note)
+    });
+    assert_eq!(other, before.0);
     let auditing = shortest(|| audit(&file, &table, answer.share));
     let mut bytes = vec![0; 30 * draft.links.len()];
     let paging = shortest(|| page(&file, &table, answer.share, &mut bytes));
     let running = shortest(|| run(&file, &mut other, 1_024, 0));
     println!(
-        "{name:20} {:3} {:3} {:2} {:5} {checking:8.2} {starting:8.2} {:8.2} {auditing:8.2} {paging:8.2} {running:10.1} {:5} {:8.2}",
+        "{name:20} {:3} {:3} {:2} {:5} {checking:8.2} {starting:8.2} {:8.2} {:8.2} {:8.2} {auditing:8.2} {paging:8.2} {running:10.1} {:5} {:8.2}",
         draft.nodes,
         draft.links.len(),
         draft.destinations.len(),
         draft.total(),
         passing - copying,
+        moving - copying,
+        taking_back - copying,
         answer.judged,
         running / f64::from(answer.judged),
     );
@@ -77,7 +107,7 @@ fn study(dice: &mut Dice, nodes: u16, links: &[DraftLink], destinations: u64, tr
 
 fn main() {
     println!(
-        "{:20} {:>3} {:>3} {:>2} {:>5} {:>8} {:>8} {:>8} {:>8} {:>8} {:>10} {:>5} {:>8}",
+        "{:20} {:>3} {:>3} {:>2} {:>5} {:>8} {:>8} {:>8} {:>8} {:>8} {:>8} {:>8} {:>10} {:>5} {:>8}",
         "study",
         "n",
         "m",
@@ -86,6 +116,8 @@ fn main() {
         "check",
         "start",
         "pass",
+        "move",
+        "back",
         "audit",
         "page",
         "run",
@@ -126,6 +158,19 @@ fn main() {
     for destinations in [1, 8, 32] {
         powers(&mut dice, destinations);
     }
+    for idle in [0, 8, 24, 31] {
+        idle_destinations(&mut dice, idle);
+    }
+}
+
+/// A street grid 16 by 8 with 32 destinations, to so many of which nobody goes.
+fn idle_destinations(dice: &mut Dice, idle: usize) {
+    let links = grid(dice, 16, 8, 512, 300, 800);
+    let mut draft = study(dice, 128, &links, 32, 15);
+    for trips in draft.trips.iter_mut().take(idle) {
+        trips.fill(0);
+    }
+    show(&format!("{idle} idle"), draft);
 }
 
 /// A street grid 16 by 8 with mixed powers, with power 1 on all links and with

@@ -1,7 +1,7 @@
 //! Judging a table and moving it.
 
 use crate::format::{MOST_LINKS, MOST_NODES};
-use crate::least_times::{LANES, Times, Trees, nodes_before};
+use crate::least_times::{LANES, NO_LINK, Times, Trees, nodes_before};
 use crate::loading::load;
 use crate::network::{Adjacency, ByLink, ByNode, Study, at_node};
 use crate::questions::LARGEST_SHARE;
@@ -61,14 +61,18 @@ struct Difference {
     difference: i64,
 }
 
-/// Puts the destinations with trips into groups of neighbours.
-fn groups(study: &Study, adjacency: &Adjacency) -> Vec<Group> {
-    let mut left: Vec<(usize, u8)> = study
+/// The destinations with trips, or those without any, after their positions.
+fn destinations(study: &Study, with_trips: bool) -> Vec<(usize, u8)> {
+    study
         .rows()
         .enumerate()
-        .filter(|(_, (_, trips))| trips.iter().any(|&count| count != 0))
+        .filter(|(_, (_, trips))| trips.iter().any(|&count| count != 0) == with_trips)
         .map(|(position, (destination, _))| (position, destination))
-        .collect();
+        .collect()
+}
+
+/// Puts these destinations, after their positions, into groups of neighbours.
+fn groups(mut left: Vec<(usize, u8)>, adjacency: &Adjacency) -> Vec<Group> {
     let mut groups = Vec::with_capacity(left.len().div_ceil(LANES));
     while let Some(&(_, first)) = left.first() {
         if left.len() > LANES {
@@ -92,6 +96,17 @@ fn groups(study: &Study, adjacency: &Adjacency) -> Vec<Group> {
     groups
 }
 
+impl Group {
+    /// Copies the next links into the rows of a note, one of `nodes` numbers
+    /// for each position.
+    fn copy_next_links(&self, nodes: usize, rows: &mut [u16]) {
+        for (lane, &position) in self.positions.iter().enumerate() {
+            let next_links = self.trees.tree(lane).next_links();
+            rows[position * nodes..][..nodes].copy_from_slice(&next_links[..nodes]);
+        }
+    }
+}
+
 impl<'a> Assignment<'a> {
     /// A study with a table of this share and these totals by link.
     pub fn new(
@@ -106,7 +121,7 @@ impl<'a> Assignment<'a> {
             adjacency,
             gauges: roads.iter().copied().map(Gauge::of).collect(),
             link_times: Times::new(adjacency),
-            groups: groups(study, adjacency),
+            groups: groups(destinations(study, true), adjacency),
             share,
             totals,
             times: [0; MOST_LINKS],
@@ -145,7 +160,9 @@ impl<'a> Assignment<'a> {
             {
                 let trips = &self.study.trips[position * nodes..][..nodes];
                 let tree = group.trees.tree(lane);
-                load(&self.study.heads, tree, trips, leaving, &mut self.loading);
+                load(&self.study.heads, tree, trips, leaving, |link, flow| {
+                    self.loading[link] += flow;
+                });
             }
         }
     }
@@ -296,6 +313,37 @@ impl<'a> Assignment<'a> {
                     }
                 }
             }
+        }
+    }
+
+    /// Writes a move from this table, once the loading is found, into a note of
+    /// 1 + p·n numbers.
+    pub fn write_note(&self, chosen: Move, note: &mut [u16]) {
+        match chosen {
+            Move::Add(step) => {
+                note[0] = step as u16;
+                self.write_next_links(&mut note[1..]);
+            }
+            Move::Double => {
+                note[0] = 0;
+                note[1..].fill(NO_LINK);
+            }
+        }
+    }
+
+    /// Writes every node's next link at these times into the rows of a note,
+    /// for every destination. Those without trips are searched only here.
+    fn write_next_links(&self, rows: &mut [u16]) {
+        let nodes = self.study.nodes;
+        for group in &self.groups {
+            group.copy_next_links(nodes, rows);
+        }
+        for mut group in groups(destinations(self.study, false), self.adjacency) {
+            group.trees.find_distances(&self.link_times, self.adjacency);
+            group
+                .trees
+                .find_next_links(&self.link_times, self.adjacency);
+            group.copy_next_links(nodes, rows);
         }
     }
 }

@@ -1,15 +1,17 @@
-//! The seven public calls.
+//! The eight public calls.
 //!
 //! Where questions 1 to 11 are put, question 19 comes after 8; where questions
-//! 14 to 16 are put, question 20 comes after 16.
+//! 14 to 16 are put, question 20 comes after 16. Question 12 is put to the note
+//! too where one is lent.
 
 use crate::assignment::{Assignment, Move};
 use crate::columns::{LINE_BYTES, Line};
 use crate::format::{MOST_LINKS, Sections};
 use crate::network::{Adjacency, ByLink, Study};
+use crate::note::{ask_paths, halve, take_out};
 use crate::questions::{LARGEST_BUDGET, LARGEST_SHARE, Question};
 use crate::staircase::{Gauge, Part};
-use crate::tables::{ask_carrying, ask_conservation, ask_length, ask_totals};
+use crate::tables::{ask_carrying, ask_conservation, ask_length, ask_note_length, ask_totals};
 
 /// A pass moved the table.
 pub const MOVED: u8 = 1;
@@ -72,6 +74,15 @@ pub struct AuditAnswer {
     pub over: u32,
 }
 
+/// What taking back answers.
+#[derive(Clone, Copy, Debug, Default, PartialEq, Eq)]
+pub struct TakeBackAnswer {
+    /// The first question answered "no", or 0.
+    pub refusal: u8,
+    /// Share of the table that is left.
+    pub share: u32,
+}
+
 /// The number that answers a call with nothing else to tell.
 fn number(result: Result<(), Question>) -> u8 {
     result.map_or_else(Question::number, |()| 0)
@@ -123,17 +134,26 @@ fn start_table<'a>(
     empty
 }
 
-/// Judges a table and moves it. Questions 1 to 12, then 14 to 16 and 20.
-pub fn pass(file: &[u8], table: &mut [u32], share: u32) -> PassAnswer {
-    try_pass(file, table, share).unwrap_or_else(|question| PassAnswer {
+/// Judges a table and moves it. The note of a move has the number of loadings
+/// that were added, j, or 0 for a doubling; then for each destination every
+/// node's next link, 65,535 where it has none and throughout for a doubling.
+/// Questions 1 to 12, then 14 to 16 and 20.
+pub fn pass(file: &[u8], table: &mut [u32], share: u32, note: &mut [u16]) -> PassAnswer {
+    try_pass(file, table, share, note).unwrap_or_else(|question| PassAnswer {
         refusal: question.number(),
         ..PassAnswer::default()
     })
 }
 
-fn try_pass(file: &[u8], table: &mut [u32], share: u32) -> Result<PassAnswer, Question> {
+fn try_pass(
+    file: &[u8],
+    table: &mut [u32],
+    share: u32,
+    note: &mut [u16],
+) -> Result<PassAnswer, Question> {
     let study = Study::read(file)?;
     let used = ask_length(&study, table.len())?;
+    let noted = ask_note_length(&study, note.len())?;
     let table = &mut table[..used];
     let adjacency = Adjacency::of(&study);
     let totals = accept(&study, &adjacency, table, share)?;
@@ -145,6 +165,7 @@ fn try_pass(file: &[u8], table: &mut [u32], share: u32) -> Result<PassAnswer, Qu
     let (cost, over) = assignment.cost_and_over();
     let chosen = assignment.choose_move();
     if let Some(chosen) = chosen {
+        assignment.write_note(chosen, &mut note[..noted]);
         assignment.make_move(chosen, table);
     }
     Ok(PassAnswer {
@@ -170,6 +191,42 @@ fn accept(
     ask_conservation(study, adjacency, table, share)?;
     ask_carrying(study, adjacency, table, &totals)?;
     Ok(totals)
+}
+
+/// Takes the move that a note tells of back out of a table: so many loadings
+/// along the note's links, or a doubling. Questions 1 to 12, then 14 to 16 and
+/// 20, then 21 and 22.
+pub fn take_back(file: &[u8], table: &mut [u32], share: u32, note: &[u16]) -> TakeBackAnswer {
+    match try_take_back(file, table, share, note) {
+        Ok(share) => TakeBackAnswer { refusal: 0, share },
+        Err(question) => TakeBackAnswer {
+            refusal: question.number(),
+            share: 0,
+        },
+    }
+}
+
+/// Hands back the share that is left.
+fn try_take_back(
+    file: &[u8],
+    table: &mut [u32],
+    share: u32,
+    note: &[u16],
+) -> Result<u32, Question> {
+    let study = Study::read(file)?;
+    let used = ask_length(&study, table.len())?;
+    let noted = ask_note_length(&study, note.len())?;
+    let table = &mut table[..used];
+    let adjacency = Adjacency::of(&study);
+    accept(&study, &adjacency, table, share)?;
+
+    match u32::from(note[0]) {
+        0 => halve(table, share),
+        step => {
+            let loading = ask_paths(&study, &note[1..noted])?;
+            take_out(&loading, step, table, share)
+        }
+    }
 }
 
 /// Starts, then judges and moves until one of the three endings. Questions 1

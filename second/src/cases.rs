@@ -4,8 +4,9 @@
 //! call that puts it, small studies of all kinds with tables of all kinds
 //! (made by passes, wandering, with cycles, damaged), and studies at every
 //! limit; after all these, pages of the same kinds of tables; after these,
-//! studies of version 2 with closed nodes; after these, links past the curve; and
-//! after these, studies of version 3 with powers.
+//! studies of version 2 with closed nodes; after these, links past the curve;
+//! after these, studies of version 3 with powers; and after these, notes and
+//! taking back.
 //!
 //! New calls go to the end of the list, so that a recording made before is the
 //! beginning of the next one.
@@ -19,6 +20,8 @@ mod past_the_curve;
 mod power_files;
 mod power_networks;
 mod powers;
+mod taking_back;
+mod taking_back_networks;
 mod zoned_networks;
 mod zones;
 
@@ -97,6 +100,25 @@ pub fn all() -> Vec<Call> {
     power_networks::random_studies(&mut list);
     power_networks::long_runs(&mut list);
     power_networks::full_limits(&mut list);
+
+    taking_back::town(&mut list);
+    taking_back::all_moves_of_the_town(&mut list);
+    taking_back::notes_of_the_town(&mut list);
+    taking_back::halves(&mut list);
+    taking_back::files(&mut list);
+    taking_back::numbers_of_a_note(&mut list);
+    taking_back::walks(&mut list);
+    taking_back::forbidden_links(&mut list);
+    taking_back::order_of_questions(&mut list);
+    taking_back::sequences(&mut list);
+    taking_back_networks::destinations_without_trips(&mut list);
+    taking_back_networks::nodes_without_a_path(&mut list);
+    taking_back_networks::random_studies(&mut list);
+    taking_back_networks::made_notes(&mut list);
+    taking_back_networks::long_line(&mut list);
+    taking_back_networks::single_limits(&mut list);
+    taking_back_networks::most_links(&mut list);
+    taking_back_networks::full_limits(&mut list);
     list.calls
 }
 
@@ -148,8 +170,16 @@ impl List {
         self.call(Kind::Run, file, Lent::Table(table), 0, budget, excess);
     }
 
+    /// A pass with the note that was left last; the first pass of all is lent
+    /// one that is long enough for every study.
     fn pass(&mut self, file: &[u8], table: Vec<u32>, share: u32) -> Reply {
-        self.call(Kind::Pass, file, Lent::Table(table), share, 0, 0)
+        self.call(Kind::Pass, file, self.noted(Some(table)), share, 0, 0)
+    }
+
+    /// What that pass is lent.
+    fn noted(&self, table: Option<Vec<u32>>) -> Lent {
+        let first = self.player.note.is_empty();
+        Lent::Noted(table, first.then(|| patterned_note(LONG_NOTE)))
     }
 
     fn audit(&mut self, file: &[u8], table: Vec<u32>, share: u32) {
@@ -164,7 +194,7 @@ impl List {
     /// A pass on the table as the call before left it. Moves `share` on to the
     /// share reached.
     fn pass_on(&mut self, file: &[u8], share: &mut u32) {
-        if let Reply::Pass(answer) = self.call(Kind::Pass, file, Lent::Same, *share, 0, 0)
+        if let Reply::Pass(answer) = self.call(Kind::Pass, file, self.noted(None), *share, 0, 0)
             && answer.refusal == 0
         {
             *share = answer.share;
@@ -981,6 +1011,16 @@ fn full_limits(list: &mut List) {
             list.audit(&file, table, share);
         }
     }
+}
+
+/// Numbers of a note that is longer than any study needs.
+const LONG_NOTE: usize = 4_100;
+
+/// A note before the call, with as many different numbers as it can have.
+fn patterned_note(length: usize) -> Vec<u16> {
+    (0..length as u32)
+        .map(|place| (40_503 * place + 12_345) as u16)
+        .collect()
 }
 
 /// A page slice before the call, without a byte of 0 in it.

@@ -1,10 +1,11 @@
-//! Studies and tables in the making, for tests and recordings.
+//! Studies, tables and notes in the making, for tests and recordings.
 //!
 //! A [`Draft`] is a study of version 1; with closed nodes or powers it becomes a
 //! [`Versioned`] one.
 
 use crate::format::{LINK_BYTES, Layout, VERSION};
 
+mod noted;
 mod versioned;
 
 pub use versioned::Versioned;

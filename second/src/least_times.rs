@@ -29,8 +29,8 @@ type Lanes = [i32; LANES];
 /// and it still fits with one more link's time on top.
 const FAR: i32 = 1 << 30;
 
-/// Stands for no next link.
-const NO_LINK: u16 = u16::MAX;
+/// Stands for no next link, in a note too.
+pub const NO_LINK: u16 = u16::MAX;
 
 /// A link as its tail sees it.
 #[derive(Clone, Copy, Default)]
@@ -175,10 +175,7 @@ impl Trees {
     /// The tree of one lane.
     #[inline]
     pub fn tree(&self, lane: usize) -> Tree<'_> {
-        Tree {
-            nodes: &self.nodes,
-            next_links: &self.next_links[lane],
-        }
+        Tree::new(&self.nodes, &self.next_links[lane])
     }
 
     /// A node's distance in a lane, if it has one.
@@ -390,6 +387,19 @@ pub struct Tree<'a> {
 }
 
 impl<'a> Tree<'a> {
+    /// A tree of next links, [`NO_LINK`] where there is none. Among the nodes
+    /// are all that have one.
+    #[inline]
+    pub fn new(nodes: &'a [u8], next_links: &'a ByNode<u16>) -> Self {
+        Tree { nodes, next_links }
+    }
+
+    /// The next links by node.
+    #[inline]
+    pub fn next_links(&self) -> &'a ByNode<u16> {
+        self.next_links
+    }
+
     /// All nodes that have a next link, and perhaps some that have none.
     #[inline]
     pub fn nodes(&self) -> &'a [u8] {

@@ -4,19 +4,20 @@ use crate::format::MOST_NODES;
 use crate::least_times::Tree;
 use crate::network::{ByLink, ByNode, at_node};
 
-/// Sends the trips to one destination along its next links and adds them to
-/// the totals by link. Writes down the trips that leave each node, all of
-/// them by its next link.
+/// Sends the trips to one destination along its next links, and calls `send`
+/// with each link and its trips. Writes down the trips that leave each node,
+/// all of them by its next link.
 ///
 /// A node's turn comes when all nodes whose next link leads to it have had
-/// theirs, for then it has all its passing trips.
+/// theirs, for then it has all its passing trips. Trips stay where there is no
+/// next link, and where next links go round.
 #[inline]
 pub fn load(
     heads: &ByLink<u8>,
     tree: Tree<'_>,
     trips: &[u16],
     leaving: &mut ByNode<u32>,
-    totals: &mut ByLink<u32>,
+    mut send: impl FnMut(usize, u32),
 ) {
     for (all, &own) in leaving.iter_mut().zip(trips) {
         *all = u32::from(own);
@@ -47,7 +48,7 @@ pub fn load(
         };
         let head = heads[link];
         let flow = leaving[at_node(node)];
-        totals[link] += flow;
+        send(link, flow);
         leaving[at_node(head)] += flow;
         waits_for[at_node(head)] -= 1;
         queue[at_node(joined)] = head;

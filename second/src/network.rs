@@ -190,4 +190,9 @@ impl Study {
     pub fn table_length(&self) -> usize {
         self.destination_count * self.links
     }
+
+    /// Numbers a note must hold, 1 + p·n.
+    pub fn note_length(&self) -> usize {
+        1 + self.destination_count * self.nodes
+    }
 }

@@ -1,6 +1,6 @@
 //! The questions a call puts before it does anything, and their numbers.
 
-/// The largest share a pass, an audit or a page accepts, and a run ever
+/// The largest share that a lent table is accepted with, and a run ever
 /// reaches.
 pub const LARGEST_SHARE: u32 = 1_024;
 
@@ -13,7 +13,7 @@ pub const LARGEST_TOTAL: u32 = 65_535;
 /// A question; used as an error it is the first question answered "no".
 ///
 /// They are put in the order of their numbers, but for 19, which comes after
-/// 8, and 20, which comes after 16 and before 18.
+/// 8, and 20, which comes after 16 and before 18 and 21.
 #[derive(Clone, Copy, Debug, PartialEq, Eq)]
 #[repr(u8)]
 pub enum Question {
@@ -40,7 +40,7 @@ pub enum Question {
     Total = 10,
     /// 11: does every node with trips have a path?
     Paths = 11,
-    /// 12: is the flow table long enough?
+    /// 12: are the flow table and the note long enough?
     TableLength = 12,
     /// 13: is the budget 1 to 1,024?
     Budget = 13,
@@ -58,6 +58,10 @@ pub enum Question {
     ClosedBytes = 19,
     /// 20: may every link carry the flow it has?
     Carrying = 20,
+    /// 21: does the note lead from every node with trips to the destination?
+    NotedPaths = 21,
+    /// 22: can what the note says be taken out of the table and its share?
+    NotedFlow = 22,
 }
 
 impl Question {

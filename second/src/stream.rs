@@ -5,24 +5,30 @@
 //! All numbers are little-endian. Call follows call without padding:
 //!
 //! ```text
-//! u8   kind: 1 check, 2 pack, 3 start, 4 pass, 5 run, 6 audit, 7 page;
-//!      0 ends the stream, and nothing follows it
+//! u8   kind: 1 check, 2 pack, 3 start, 4 pass, 5 run, 6 audit, 7 page,
+//!      8 take back; 0 ends the stream, and nothing follows it
 //! u32  length of the file in bytes, F
 //!      F bytes of the file
 //! u32  length of what is lent, L: for a pack, the output's bytes; for a
-//!      start, pass, run, audit or page, the table's numbers; 0 for a check
-//!      L bytes (pack), or L numbers u32 (start, pass, run, audit, page)
+//!      start, pass, run, audit, page or take back, the table's numbers; 0 for
+//!      a check
+//!      L bytes (pack), or L numbers u32 (all others)
 //! u32  length of the page slice in bytes, P (page only)
 //!      P bytes, the page slice as it is lent (page only)
+//! u32  length of the note in numbers, N (pass and take back only)
+//!      N numbers u16, the note as it is lent (pass and take back only)
 //! u32  share    (0 where the call takes none)
 //! u32  budget   (0 where the call takes none)
 //! u16  excess   (0 where the call takes none)
 //! ```
 //!
-//! A length F or L of 0xFFFF_FFFF is followed by no bytes or numbers. As F it
+//! A length F, L or N of 0xFFFF_FFFF is followed by no bytes or numbers. As F it
 //! means the same file as in the call before. As L it means the table as the
 //! call before left it, its length included; it is used only where the call
-//! before is a start, pass, run, audit or page too. P has no such length.
+//! before is a start, pass, run, audit, page or take back too. As N it means the
+//! note as the last call that was lent one left it, its length included,
+//! whatever calls came in between; before any such call it means an empty note.
+//! P has no such length.
 //!
 //! # The answers
 //!
@@ -36,21 +42,23 @@
 //! run <refusal> <ending> <judged> <share> <gap> <cost> <over> <digest>
 //! audit <refusal> <gap> <cost> <over> <digest>
 //! page <refusal> <digest>
+//! take_back <refusal> <share> <digest>
 //! ```
 //!
 //! Outcome: 0 refused, 1 moved, 2 finest. Ending: 0 refused, 1 reached,
 //! 2 finest, 3 spent. Over: how many links of the judged table are on step
 //! 256, and 0 in a refusal. The digest is the 64-bit FNV-1a digest of all that
 //! was lent, as the call leaves it, in 16 hexadecimal digits: the output's
-//! bytes of a pack, the table's numbers as little-endian bytes of a start,
-//! pass, run or audit (all of them, also those after the first p·m), the page
-//! slice's bytes of a page (all of them, also those after the first 30m, but
-//! not its table, which it cannot change), no bytes at all of a check.
+//! bytes of a pack; the table's numbers as little-endian bytes of a start, run
+//! or audit (all of them, also those after the first p·m); the same of a pass
+//! or take back, and after them the note's numbers as little-endian bytes (all
+//! of them, also those after the first 1 + p·n); the page slice's bytes of a
+//! page (all of them, also those after the first 30m, but not its table, which
+//! it cannot change); no bytes at all of a check.
 
-use crate::calls::{self, AuditAnswer, PassAnswer, RunAnswer};
-use crate::format::{u16_at, u32_at};
+use crate::calls::{self, AuditAnswer, PassAnswer, RunAnswer, TakeBackAnswer};
 
-/// The length that stands for "as the call before left it".
+/// The length that stands for "as it was left".
 const SAME: u32 = u32::MAX;
 
 /// Which call.
@@ -71,11 +79,13 @@ pub enum Kind {
     Audit = 6,
     /// Page.
     Page = 7,
+    /// Taking back.
+    TakeBack = 8,
 }
 
 impl Kind {
     /// All kinds.
-    pub const ALL: [Kind; 7] = [
+    pub const ALL: [Kind; 8] = [
         Kind::Check,
         Kind::Pack,
         Kind::Start,
@@ -83,6 +93,7 @@ impl Kind {
         Kind::Run,
         Kind::Audit,
         Kind::Page,
+        Kind::TakeBack,
     ];
 
     /// The word a line of answers begins with.
@@ -95,12 +106,18 @@ impl Kind {
             Kind::Run => "run",
             Kind::Audit => "audit",
             Kind::Page => "page",
+            Kind::TakeBack => "take_back",
         }
     }
 
     /// Whether the call is lent a flow table.
     pub fn has_table(self) -> bool {
         !matches!(self, Kind::Check | Kind::Pack)
+    }
+
+    /// Whether the call is lent a note.
+    pub fn has_note(self) -> bool {
+        matches!(self, Kind::Pass | Kind::TakeBack)
     }
 }
 
@@ -118,6 +135,9 @@ pub enum Lent {
     /// This table, or none for the table as the call before left it, and this
     /// page slice.
     Page(Option<Vec<u32>>, Vec<u8>),
+    /// This table, or none for the table as the call before left it, and this
+    /// note, or none for the note as it was left last.
+    Noted(Option<Vec<u32>>, Option<Vec<u16>>),
 }
 
 /// One recorded call.
@@ -129,7 +149,7 @@ pub struct Call {
     pub file: Option<Vec<u8>>,
     /// What is lent.
     pub lent: Lent,
-    /// Share, for a pass, an audit or a page.
+    /// Share, for a pass, an audit, a page or taking back.
     pub share: u32,
     /// Budget, for a run.
     pub budget: u32,
@@ -145,12 +165,16 @@ pub fn write_calls(calls: &[Call]) -> Vec<u8> {
         write_bytes(&mut stream, call.file.as_deref());
         match &call.lent {
             Lent::Nothing => stream.extend(0_u32.to_le_bytes()),
-            Lent::Same => write_table(&mut stream, None),
-            Lent::Table(table) => write_table(&mut stream, Some(table)),
+            Lent::Same => write_numbers(&mut stream, None, u32::to_le_bytes),
+            Lent::Table(table) => write_numbers(&mut stream, Some(table), u32::to_le_bytes),
             Lent::Output(output) => write_bytes(&mut stream, Some(output)),
             Lent::Page(table, page) => {
-                write_table(&mut stream, table.as_deref());
+                write_numbers(&mut stream, table.as_deref(), u32::to_le_bytes);
                 write_bytes(&mut stream, Some(page));
+            }
+            Lent::Noted(table, note) => {
+                write_numbers(&mut stream, table.as_deref(), u32::to_le_bytes);
+                write_numbers(&mut stream, note.as_deref(), u16::to_le_bytes);
             }
         }
         stream.extend(call.share.to_le_bytes());
@@ -163,93 +187,123 @@ pub fn write_calls(calls: &[Call]) -> Vec<u8> {
 
 /// Writes a length and its bytes, or the length of what stays the same.
 fn write_bytes(stream: &mut Vec<u8>, bytes: Option<&[u8]>) {
-    let length = bytes.map_or(SAME, |bytes| bytes.len() as u32);
-    stream.extend(length.to_le_bytes());
-    stream.extend(bytes.into_iter().flatten());
+    write_numbers(stream, bytes, u8::to_le_bytes);
 }
 
-/// Writes a length and its numbers, or the length of what stays the same.
-fn write_table(stream: &mut Vec<u8>, table: Option<&[u32]>) {
-    let length = table.map_or(SAME, |table| table.len() as u32);
+/// Writes a length and its numbers, of so many bytes each, or the length of
+/// what stays the same.
+fn write_numbers<T: Copy, const BYTES: usize>(
+    stream: &mut Vec<u8>,
+    numbers: Option<&[T]>,
+    bytes: fn(T) -> [u8; BYTES],
+) {
+    let length = numbers.map_or(SAME, |numbers| numbers.len() as u32);
     stream.extend(length.to_le_bytes());
-    let numbers = table.into_iter().flatten();
-    stream.extend(numbers.flat_map(|number| number.to_le_bytes()));
+    let numbers = numbers.into_iter().flatten();
+    stream.extend(numbers.flat_map(|&number| bytes(number)));
 }
 
 /// Reads a stream, or tells what is wrong with it.
 pub fn read_calls(stream: &[u8]) -> Result<Vec<Call>, String> {
-    let mut rest = stream;
-    let mut take = |length: usize| -> Result<&[u8], String> {
-        let (here, after) = rest
-            .split_at_checked(length)
-            .ok_or_else(|| "the stream ends within a call".to_string())?;
-        rest = after;
-        Ok(here)
-    };
+    let mut reader = Reader(stream);
     let mut calls: Vec<Call> = Vec::new();
     loop {
-        let byte = take(1)?[0];
+        let [byte] = reader.bytes()?;
         if byte == 0 {
             break;
         }
         let kind = *Kind::ALL
             .get(usize::from(byte) - 1)
             .ok_or_else(|| format!("there is no kind {byte}"))?;
-        let length = u32_at(take(4)?, 0);
-        let file = if length != SAME {
-            Some(take(length as usize)?.to_vec())
-        } else if calls.is_empty() {
-            return Err("the first call has no file".to_string());
-        } else {
-            None
-        };
-        let length = u32_at(take(4)?, 0);
-        let lent = if length == SAME {
-            if !kind.has_table() || !calls.last().is_some_and(|call| call.kind.has_table()) {
-                return Err("there is no table to take over".to_string());
-            }
-            Lent::Same
-        } else if kind == Kind::Check {
-            if length != 0 {
-                return Err("a check is lent nothing".to_string());
-            }
-            Lent::Nothing
-        } else if kind == Kind::Pack {
-            Lent::Output(take(length as usize)?.to_vec())
-        } else {
-            let numbers = take(4 * length as usize)?.chunks_exact(4);
-            Lent::Table(numbers.map(|bytes| u32_at(bytes, 0)).collect())
-        };
-        let lent = if kind == Kind::Page {
-            let length = u32_at(take(4)?, 0);
-            let page = take(length as usize)?.to_vec();
-            match lent {
-                Lent::Table(table) => Lent::Page(Some(table), page),
-                _ => Lent::Page(None, page),
-            }
-        } else {
-            lent
-        };
-        let share = u32_at(take(4)?, 0);
-        let budget = u32_at(take(4)?, 0);
-        let excess = u16_at(take(2)?, 0);
-        calls.push(Call {
-            kind,
-            file,
-            lent,
-            share,
-            budget,
-            excess,
-        });
+        let call = reader.call(kind, calls.last())?;
+        calls.push(call);
     }
-    if rest.is_empty() {
+    if reader.0.is_empty() {
         Ok(calls)
     } else {
         Err("the stream goes on after its end".to_string())
     }
 }
 
-/// The seven calls, whoever answers them.
+/// What is left of a stream.
+struct Reader<'a>(&'a [u8]);
+
+impl Reader<'_> {
+    /// The next bytes.
+    fn take(&mut self, length: usize) -> Result<&[u8], String> {
+        let (here, after) = self
+            .0
+            .split_at_checked(length)
+            .ok_or_else(|| "the stream ends within a call".to_string())?;
+        self.0 = after;
+        Ok(here)
+    }
+
+    /// So many bytes.
+    fn bytes<const BYTES: usize>(&mut self) -> Result<[u8; BYTES], String> {
+        let mut bytes = [0; BYTES];
+        bytes.copy_from_slice(self.take(BYTES)?);
+        Ok(bytes)
+    }
+
+    /// A length and its numbers, of so many bytes each; none for the length of
+    /// what stays the same.
+    fn numbers<T, const BYTES: usize>(
+        &mut self,
+        number: fn([u8; BYTES]) -> T,
+    ) -> Result<Option<Vec<T>>, String> {
+        let length = u32::from_le_bytes(self.bytes()?);
+        if length == SAME {
+            return Ok(None);
+        }
+        let (chunks, _) = self.take(BYTES * length as usize)?.as_chunks();
+        Ok(Some(chunks.iter().map(|&bytes| number(bytes)).collect()))
+    }
+
+    /// A call of this kind after this one.
+    fn call(&mut self, kind: Kind, before: Option<&Call>) -> Result<Call, String> {
+        let file = self.numbers(u8::from_le_bytes)?;
+        if file.is_none() && before.is_none() {
+            return Err("the first call has no file".to_string());
+        }
+        Ok(Call {
+            kind,
+            file,
+            lent: self.lent(kind, before)?,
+            share: u32::from_le_bytes(self.bytes()?),
+            budget: u32::from_le_bytes(self.bytes()?),
+            excess: u16::from_le_bytes(self.bytes()?),
+        })
+    }
+
+    /// What a call of this kind after this one is lent.
+    fn lent(&mut self, kind: Kind, before: Option<&Call>) -> Result<Lent, String> {
+        if !kind.has_table() {
+            let output = self.numbers(u8::from_le_bytes)?;
+            return match (kind, output) {
+                (Kind::Pack, Some(output)) => Ok(Lent::Output(output)),
+                (Kind::Check, Some(output)) if output.is_empty() => Ok(Lent::Nothing),
+                (Kind::Check, Some(_)) => Err("a check is lent nothing".to_string()),
+                _ => Err("there is no table to take over".to_string()),
+            };
+        }
+        let table = self.numbers(u32::from_le_bytes)?;
+        if table.is_none() && !before.is_some_and(|call| call.kind.has_table()) {
+            return Err("there is no table to take over".to_string());
+        }
+        if kind.has_note() {
+            return Ok(Lent::Noted(table, self.numbers(u16::from_le_bytes)?));
+        }
+        if kind == Kind::Page {
+            let page = self.numbers(u8::from_le_bytes)?;
+            let page = page.ok_or_else(|| "a page slice is not taken over".to_string())?;
+            return Ok(Lent::Page(table, page));
+        }
+        Ok(table.map_or(Lent::Same, Lent::Table))
+    }
+}
+
+/// The eight calls, whoever answers them.
 pub trait Calls {
     /// Check.
     fn check(&self, file: &[u8]) -> u8;
@@ -258,13 +312,16 @@ pub trait Calls {
     /// Start.
     fn start(&self, file: &[u8], table: &mut [u32]) -> u8;
     /// Pass.
-    fn pass(&self, file: &[u8], table: &mut [u32], share: u32) -> PassAnswer;
+    fn pass(&self, file: &[u8], table: &mut [u32], share: u32, note: &mut [u16]) -> PassAnswer;
     /// Run.
     fn run(&self, file: &[u8], table: &mut [u32], budget: u32, excess: u16) -> RunAnswer;
     /// Audit.
     fn audit(&self, file: &[u8], table: &[u32], share: u32) -> AuditAnswer;
     /// Page.
     fn page(&self, file: &[u8], table: &[u32], share: u32, page: &mut [u8]) -> u8;
+    /// Taking back.
+    fn take_back(&self, file: &[u8], table: &mut [u32], share: u32, note: &[u16])
+    -> TakeBackAnswer;
 }
 
 /// The calls of this library.
@@ -283,8 +340,8 @@ impl Calls for Second {
         calls::start(file, table)
     }
 
-    fn pass(&self, file: &[u8], table: &mut [u32], share: u32) -> PassAnswer {
-        calls::pass(file, table, share)
+    fn pass(&self, file: &[u8], table: &mut [u32], share: u32, note: &mut [u16]) -> PassAnswer {
+        calls::pass(file, table, share, note)
     }
 
     fn run(&self, file: &[u8], table: &mut [u32], budget: u32, excess: u16) -> RunAnswer {
@@ -297,6 +354,16 @@ impl Calls for Second {
 
     fn page(&self, file: &[u8], table: &[u32], share: u32, page: &mut [u8]) -> u8 {
         calls::page(file, table, share, page)
+    }
+
+    fn take_back(
+        &self,
+        file: &[u8],
+        table: &mut [u32],
+        share: u32,
+        note: &[u16],
+    ) -> TakeBackAnswer {
+        calls::take_back(file, table, share, note)
     }
 }
 
@@ -317,6 +384,8 @@ pub enum Reply {
     Audit(AuditAnswer),
     /// Page.
     Page(u8),
+    /// Taking back.
+    TakeBack(TakeBackAnswer),
 }
 
 impl Reply {
@@ -330,6 +399,7 @@ impl Reply {
             Reply::Pass(answer) => answer.refusal,
             Reply::Run(answer) => answer.refusal,
             Reply::Audit(answer) => answer.refusal,
+            Reply::TakeBack(answer) => answer.refusal,
         }
     }
 
@@ -375,6 +445,9 @@ impl Reply {
                 over,
             }) => format!("audit {refusal} {gap} {cost} {over} {digest:016x}"),
             Reply::Page(refusal) => format!("page {refusal} {digest:016x}"),
+            Reply::TakeBack(TakeBackAnswer { refusal, share }) => {
+                format!("take_back {refusal} {share} {digest:016x}")
+            }
         }
     }
 }
@@ -399,6 +472,8 @@ pub struct Player {
     pub output: Vec<u8>,
     /// The page slice as the last page left it.
     pub page: Vec<u8>,
+    /// The note as the last pass or taking back left it.
+    pub note: Vec<u16>,
 }
 
 impl Player {
@@ -407,7 +482,25 @@ impl Player {
         if let Some(file) = &call.file {
             self.file.clone_from(file);
         }
-        match &call.lent {
+        self.take_over(&call.lent);
+        let (file, table) = (&self.file, &mut self.table);
+        let (page, note) = (&mut self.page, &mut self.note);
+        let share = call.share;
+        match call.kind {
+            Kind::Check => Reply::Check(implementation.check(file)),
+            Kind::Pack => Reply::Pack(implementation.pack(file, &mut self.output)),
+            Kind::Start => Reply::Start(implementation.start(file, table)),
+            Kind::Pass => Reply::Pass(implementation.pass(file, table, share, note)),
+            Kind::Run => Reply::Run(implementation.run(file, table, call.budget, call.excess)),
+            Kind::Audit => Reply::Audit(implementation.audit(file, table, share)),
+            Kind::Page => Reply::Page(implementation.page(file, table, share, page)),
+            Kind::TakeBack => Reply::TakeBack(implementation.take_back(file, table, share, note)),
+        }
+    }
+
+    /// Puts what a call is lent in the place of what was left.
+    fn take_over(&mut self, lent: &Lent) {
+        match lent {
             Lent::Nothing | Lent::Same => {}
             Lent::Table(table) => self.table.clone_from(table),
             Lent::Output(output) => self.output.clone_from(output),
@@ -417,26 +510,27 @@ impl Player {
                 }
                 self.page.clone_from(page);
             }
-        }
-        let (file, table) = (&self.file, &mut self.table);
-        match call.kind {
-            Kind::Check => Reply::Check(implementation.check(file)),
-            Kind::Pack => Reply::Pack(implementation.pack(file, &mut self.output)),
-            Kind::Start => Reply::Start(implementation.start(file, table)),
-            Kind::Pass => Reply::Pass(implementation.pass(file, table, call.share)),
-            Kind::Run => Reply::Run(implementation.run(file, table, call.budget, call.excess)),
-            Kind::Audit => Reply::Audit(implementation.audit(file, table, call.share)),
-            Kind::Page => Reply::Page(implementation.page(file, table, call.share, &mut self.page)),
+            Lent::Noted(table, note) => {
+                if let Some(table) = table {
+                    self.table.clone_from(table);
+                }
+                if let Some(note) = note {
+                    self.note.clone_from(note);
+                }
+            }
         }
     }
 
     /// Digest of what the last call, of this kind, was lent.
     pub fn digest(&self, kind: Kind) -> u64 {
+        let table = self.table.iter().flat_map(|number| number.to_le_bytes());
+        let note = self.note.iter().flat_map(|number| number.to_le_bytes());
         match kind {
             Kind::Check => digest([]),
             Kind::Pack => digest(self.output.iter().copied()),
             Kind::Page => digest(self.page.iter().copied()),
-            _ => digest(self.table.iter().flat_map(|number| number.to_le_bytes())),
+            Kind::Pass | Kind::TakeBack => digest(table.chain(note)),
+            Kind::Start | Kind::Run | Kind::Audit => digest(table),
         }
     }
 }

@@ -1,5 +1,5 @@
-//! Lent flow tables: question 12, and questions 15, 16 and 20 for tables that
-//! anybody may have made.
+//! Lent flow tables: question 12, for notes too, and questions 15, 16 and 20
+//! for tables that anybody may have made.
 
 use crate::format::MOST_LINKS;
 use crate::network::{Adjacency, ByLink, Study, at_link};
@@ -8,6 +8,13 @@ use crate::questions::Question;
 /// Question 12, put to a table's length. Hands back the length in use, p·m.
 pub fn ask_length(study: &Study, length: usize) -> Result<usize, Question> {
     let used = study.table_length();
+    Question::TableLength.ask(length >= used)?;
+    Ok(used)
+}
+
+/// Question 12, put to a note's length. Hands back the length in use, 1 + p·n.
+pub fn ask_note_length(study: &Study, length: usize) -> Result<usize, Question> {
+    let used = study.note_length();
     Question::TableLength.ask(length >= used)?;
     Ok(used)
 }

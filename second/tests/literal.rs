@@ -5,7 +5,7 @@ mod definitions;
 
 use second::draft::{Dice, Draft, Plan, Versioned, grid};
 use second::stream::{Call, Kind, Lent, Player, Reply, Second};
-use second::{cases, pack};
+use second::{MOVED, PassAnswer, TakeBackAnswer, cases, pack};
 
 use definitions::Literal;
 
@@ -16,11 +16,62 @@ struct Pair {
     slow: Player,
     made: usize,
     /// How many calls were answered with each number.
-    numbers: [usize; 21],
+    numbers: [usize; 23],
     /// Pages not refused.
     pages: usize,
     /// Answers that count links on step 256.
     over: usize,
+    /// Takings back not refused.
+    taken_back: usize,
+}
+
+/// A note of numbers without any sense, mostly long enough.
+fn garbage_note(dice: &mut Dice, study: &Versioned) -> Vec<u16> {
+    let length = study.draft.note_length() + dice.pick(&[0, 0, 1, 7]);
+    let length = length - usize::from(dice.once_in(15));
+    (0..length).map(|_| dice.any_u32() as u16).collect()
+}
+
+/// This share or, once in four times, another one.
+fn nearly(dice: &mut Dice, share: u32) -> u32 {
+    let others = [0, share - 1, share + 1, 2 * share, share / 2, 1_024, 1_025];
+    if dice.once_in(4) {
+        dice.pick(&others)
+    } else {
+        share
+    }
+}
+
+/// A note with a few numbers changed and perhaps cut short, for a table of this
+/// share.
+fn damaged_note(dice: &mut Dice, study: &Versioned, note: &[u16], share: u32) -> Vec<u16> {
+    let links = &study.draft.links;
+    let mut other = note.to_vec();
+    for _ in 0..dice.between(1, 3) {
+        let place = dice.index(note.len());
+        let node = place.wrapping_sub(1) % usize::from(study.draft.nodes);
+        let own: Vec<usize> = (0..links.len())
+            .filter(|&link| usize::from(links[link][0]) == node)
+            .collect();
+        other[place] = match dice.below(6) {
+            0 => u16::MAX,
+            1 => (links.len() + dice.index(3) - 1) as u16,
+            2 => dice.any_u32() as u16,
+            3 => dice.index(links.len()) as u16,
+            _ if own.is_empty() => u16::MAX,
+            _ => dice.pick(&own) as u16,
+        };
+    }
+    if dice.once_in(3) {
+        let share = share as u16;
+        let steps = [0, 1, note[0] / 2, note[0] + 1, share.max(1) - 1, share];
+        let more = [share.saturating_add(1), 1_024, 1_025, u16::MAX];
+        other[0] = dice.pick(&[&steps[..], &more].concat());
+    } else {
+        other[0] = note[0];
+    }
+    other.truncate(note.len() - usize::from(dice.once_in(30)));
+    other
 }
 
 impl Pair {
@@ -37,6 +88,7 @@ impl Pair {
         self.numbers[usize::from(fast.refusal())] += 1;
         self.pages += usize::from(fast == Reply::Page(0));
         self.over += usize::from(fast.over() > 0);
+        self.taken_back += usize::from(call.kind == Kind::TakeBack && fast.refusal() == 0);
         fast
     }
 
@@ -76,6 +128,102 @@ impl Pair {
         self.call(Kind::Page, file, lent, share, 0, 0);
     }
 
+    /// A pass or taking back with this table, or with the table as the call
+    /// before left it, and with this note, or with the note as it was left last.
+    fn noted(
+        &mut self,
+        kind: Kind,
+        file: &[u8],
+        table: Option<&Vec<u32>>,
+        share: u32,
+        note: Option<Vec<u16>>,
+    ) -> Reply {
+        let lent = Lent::Noted(table.cloned(), note);
+        self.call(kind, file, lent, share, 0, 0)
+    }
+
+    /// A pass of this table, or of the table as the call before left it, with a
+    /// note of its own. A move is taken back and made again; in between, notes
+    /// that are not quite the same are tried.
+    fn pass(
+        &mut self,
+        dice: &mut Dice,
+        study: &Versioned,
+        file: &[u8],
+        table: Option<&Vec<u32>>,
+        share: u32,
+    ) -> Option<PassAnswer> {
+        let before = table.unwrap_or(&self.fast.table).clone();
+        let note = garbage_note(dice, study);
+        let reply = self.noted(Kind::Pass, file, table, share, Some(note.clone()));
+        let Reply::Pass(answer) = reply else {
+            unreachable!("a pass answers as a pass");
+        };
+        if answer.outcome != MOVED {
+            assert_eq!(self.fast.note, note);
+            return (answer.refusal == 0).then_some(answer);
+        }
+        let (after, note) = (self.fast.table.clone(), self.fast.note.clone());
+        let reply = self.noted(Kind::TakeBack, file, None, answer.share, None);
+        assert_eq!(reply, Reply::TakeBack(TakeBackAnswer { refusal: 0, share }));
+        assert!(self.fast.table == before && self.fast.note == note);
+        for _ in 0..3 {
+            let share = nearly(dice, answer.share);
+            let note = damaged_note(dice, study, &note, share);
+            self.noted(Kind::TakeBack, file, Some(&after), share, Some(note));
+        }
+        self.noted(Kind::Pass, file, Some(&before), share, Some(note));
+        assert!(self.fast.table == after);
+        Some(answer)
+    }
+
+    /// Taking back with notes that nobody's passes have made, out of a table
+    /// that has their loadings and of others.
+    fn made_notes(
+        &mut self,
+        dice: &mut Dice,
+        study: &Versioned,
+        file: &[u8],
+        made: &[u32],
+        share: u32,
+    ) {
+        let step = dice.pick(&[0, 1, 2, 63, 64, 65, 500, 1_023]);
+        let note = study.some_note(dice, step);
+        let mut table = made.to_vec();
+        study.add_noted(&note, &mut table);
+        let grown = share + u32::from(step);
+        let reply = self.noted(
+            Kind::TakeBack,
+            file,
+            Some(&table),
+            grown,
+            Some(note.clone()),
+        );
+        if step > 0 && reply.refusal() == 0 {
+            assert_eq!(reply, Reply::TakeBack(TakeBackAnswer { refusal: 0, share }));
+            assert_eq!(self.fast.table, made);
+        }
+        for _ in 0..3 {
+            let share = nearly(dice, grown);
+            let note = damaged_note(dice, study, &note, share);
+            self.noted(Kind::TakeBack, file, Some(&table), share, Some(note));
+        }
+        let other = study.some_note(dice, step);
+        self.noted(Kind::TakeBack, file, Some(&table), grown, Some(other));
+        let doubled: Vec<u32> = made.iter().map(|flow| 2 * flow).collect();
+        let note = vec![0; study.draft.note_length()];
+        self.noted(Kind::TakeBack, file, Some(&doubled), 2 * share, Some(note));
+        self.noted(Kind::TakeBack, file, None, share, None);
+    }
+
+    /// At least so many times the note was at fault, or what it says; and more
+    /// often something was taken back.
+    fn has_takings_back(&self, least: usize) {
+        let refused = &self.numbers[21..];
+        assert!(refused.iter().all(|&count| count > least), "{refused:?}");
+        assert!(self.taken_back > 3 * least, "{}", self.taken_back);
+    }
+
     /// All calls there are, with tables of all kinds, for one study.
     fn study(&mut self, dice: &mut Dice, study: &Versioned, file: &[u8]) {
         let length = study.draft.table_length();
@@ -100,14 +248,9 @@ impl Pair {
             } else {
                 share
             };
-            let kind = if dice.once_in(4) {
-                Kind::Audit
-            } else {
-                Kind::Pass
-            };
-            if let Reply::Pass(answer) = self.call(kind, file, Lent::Same, handed, 0, 0)
-                && answer.refusal == 0
-            {
+            if dice.once_in(4) {
+                self.call(Kind::Audit, file, Lent::Same, handed, 0, 0);
+            } else if let Some(answer) = self.pass(dice, study, file, None, handed) {
                 share = answer.share;
             }
             if dice.once_in(3) {
@@ -131,19 +274,20 @@ impl Pair {
             ])
         };
         let mut made = study.wandering_table(dice, share);
-        self.call(Kind::Pass, file, table(&made), share, 0, 0);
+        self.pass(dice, study, file, Some(&made), share);
         self.call(Kind::Audit, file, table(&made), share, 0, 0);
         self.page(dice, study, file, Some(&made), share);
+        self.made_notes(dice, study, file, &made, share);
         let most = share * study.draft.total() as u32;
         let amount = dice.pick(&[1, 2, share, most / 2, most]);
         if study.add_cycle(dice, &mut made, amount) {
-            self.call(Kind::Pass, file, table(&made), share, 0, 0);
+            self.pass(dice, study, file, Some(&made), share);
             self.call(Kind::Audit, file, Lent::Same, share, 0, 0);
             self.page(dice, study, file, Some(&made), share);
         }
         if study.closed.is_some() {
             let mut through = study.draft.wandering_table(dice, share);
-            self.call(Kind::Pass, file, table(&through), share, 0, 0);
+            self.pass(dice, study, file, Some(&through), share);
             self.page(dice, study, file, Some(&through), share);
             through.clone_from(&made);
             study.draft.add_cycle(dice, &mut through, 1);
@@ -154,11 +298,13 @@ impl Pair {
         made[place] = dice.any_u32();
         self.call(Kind::Audit, file, table(&made), share, 0, 0);
         self.page(dice, study, file, None, share);
-        self.call(Kind::Pass, file, table(&made), share, 0, 0);
+        self.pass(dice, study, file, Some(&made), share);
+        let note = study.some_note(dice, 1);
+        self.noted(Kind::TakeBack, file, Some(&made), share, Some(note));
     }
 }
 
-/// Thousands of small studies, all seven calls.
+/// Thousands of small studies, all eight calls.
 #[test]
 fn small_studies() {
     let mut dice = Dice::new(2_026);
@@ -172,6 +318,7 @@ fn small_studies() {
     assert!(pair.numbers[0] > 50_000);
     assert!(pair.pages > 15_000, "{}", pair.pages);
     assert!(pair.over > 10_000, "{}", pair.over);
+    pair.has_takings_back(8_000);
 }
 
 /// A small study of version 2: with some nodes closed or all destinations or
@@ -203,7 +350,7 @@ fn small_closed_study(dice: &mut Dice) -> Versioned {
     }
 }
 
-/// Thousands of small studies with closed nodes, all seven calls.
+/// Thousands of small studies with closed nodes, all eight calls.
 #[test]
 fn small_studies_with_closed_nodes() {
     let mut dice = Dice::new(2_027);
@@ -217,6 +364,7 @@ fn small_studies_with_closed_nodes() {
     assert!(pair.numbers[20] > 4_000, "{:?}", pair.numbers);
     assert!(pair.pages > 15_000, "{}", pair.pages);
     assert!(pair.over > 10_000, "{}", pair.over);
+    pair.has_takings_back(8_000);
 }
 
 /// A study with powers at random, and mostly with closed nodes.
@@ -228,7 +376,7 @@ fn some_powers_and_zones(dice: &mut Dice, draft: Draft) -> Versioned {
     }
 }
 
-/// Thousands of small studies with powers, all seven calls.
+/// Thousands of small studies with powers, all eight calls.
 #[test]
 fn small_studies_with_powers() {
     let mut dice = Dice::new(2_031);
@@ -248,6 +396,7 @@ fn small_studies_with_powers() {
     assert!(pair.numbers[20] > 1_000, "{:?}", pair.numbers);
     assert!(pair.pages > 20_000, "{}", pair.pages);
     assert!(pair.over > 20_000, "{}", pair.over);
+    pair.has_takings_back(8_000);
 }
 
 /// A few nodes with many links side by side, of like times and several powers,
@@ -368,7 +517,7 @@ fn paths_to_many_destinations() {
 
 /// Makes every call but pack with each of these files, which are to be answered
 /// alike, and compares what the calls answer and leave.
-fn compare_alike(files: &[Vec<u8>], table: &[u32], share: u32) {
+fn compare_alike(files: &[Vec<u8>], table: &[u32], share: u32, note: &[u16]) {
     let page = vec![1; 30 * 20];
     for (kind, budget) in [
         (Kind::Check, 0),
@@ -377,6 +526,7 @@ fn compare_alike(files: &[Vec<u8>], table: &[u32], share: u32) {
         (Kind::Run, 30),
         (Kind::Start, 0),
         (Kind::Page, 0),
+        (Kind::TakeBack, 0),
     ] {
         let answered = files.iter().map(|file| {
             let call = Call {
@@ -385,6 +535,9 @@ fn compare_alike(files: &[Vec<u8>], table: &[u32], share: u32) {
                 lent: match kind {
                     Kind::Check => Lent::Nothing,
                     Kind::Page => Lent::Page(Some(table.to_vec()), page.clone()),
+                    Kind::Pass | Kind::TakeBack => {
+                        Lent::Noted(Some(table.to_vec()), Some(note.to_vec()))
+                    }
                     _ => Lent::Table(table.to_vec()),
                 },
                 share,
@@ -393,7 +546,7 @@ fn compare_alike(files: &[Vec<u8>], table: &[u32], share: u32) {
             };
             let mut player = Player::default();
             let reply = player.play(&Second, &call);
-            (reply, player.table, player.page)
+            (reply, player.table, player.page, player.note)
         });
         let answered: Vec<_> = answered.collect();
         assert!(answered.iter().all(|other| *other == answered[0]));
@@ -415,7 +568,8 @@ fn all_open_is_version_1() {
         ];
         let share = dice.pick(&[1, 9, 512, 1_024]);
         let table = draft.wandering_table(&mut dice, share);
-        compare_alike(&files, &table, share);
+        let note = Versioned::from(draft).some_note(&mut dice, 1);
+        compare_alike(&files, &table, share, &note);
     }
 }
 
@@ -432,15 +586,14 @@ fn all_powers_4_is_version_2() {
         let files = [study.file(), twin.file()];
         let share = dice.pick(&[1, 9, 512, 1_024]);
         let mut table = study.wandering_table(&mut dice, share);
-        compare_alike(&files, &table, share);
-        compare_alike(
-            &files,
-            &study.draft.wandering_table(&mut dice, share),
-            share,
-        );
+        let step = dice.pick(&[0, 1, 8]);
+        let note = study.some_note(&mut dice, step);
+        compare_alike(&files, &table, share, &note);
+        let through = study.draft.wandering_table(&mut dice, share);
+        compare_alike(&files, &through, share, &note);
         let place = dice.index(table.len());
         table[place] = dice.any_u32();
-        compare_alike(&files, &table, share);
+        compare_alike(&files, &table, share, &note);
 
         let mut packed = vec![0; twin.packed_length()];
         assert_eq!(pack(&files[0], &mut packed), 0);
@@ -546,6 +699,9 @@ fn damaged_files() {
                 Kind::Check => Lent::Nothing,
                 Kind::Pack => Lent::Output(vec![2; dice.index(300)]),
                 Kind::Page => Lent::Page(Some(vec![0; dice.index(20)]), vec![3; dice.index(600)]),
+                Kind::Pass | Kind::TakeBack => {
+                    Lent::Noted(Some(vec![1; dice.index(20)]), Some(vec![4; dice.index(40)]))
+                }
                 _ => Lent::Table(vec![1; dice.index(20)]),
             };
             let number = dice.below(3) as u32;
@@ -598,6 +754,10 @@ fn senseless_files() {
                 Kind::Check => Lent::Nothing,
                 Kind::Pack => Lent::Output(vec![7; dice.index(120)]),
                 Kind::Page => Lent::Page(Some(table.clone()), vec![7; dice.index(120)]),
+                Kind::Pass | Kind::TakeBack => {
+                    let note = (0..dice.index(9)).map(|_| dice.any_u32() as u16).collect();
+                    Lent::Noted(Some(table.clone()), Some(note))
+                }
                 _ => Lent::Table(table.clone()),
             };
             let number = dice.any_u32();
@@ -614,6 +774,7 @@ fn recorded_calls() {
         pair.play(&call);
     }
     assert!(pair.made >= 2_400 && pair.pages >= 190 && pair.over >= 500);
+    assert!(pair.taken_back >= 200, "{}", pair.taken_back);
 }
 
 /// Networks of a larger size, with many destinations, in version 1, with closed
@@ -652,4 +813,5 @@ fn larger_studies() {
         pair.study(&mut dice, &study, &file);
     }
     assert!(pair.numbers[20] > 50, "{:?}", pair.numbers);
+    pair.has_takings_back(300);
 }

@@ -2,7 +2,33 @@
 
 use second::draft::{Dice, Draft, DraftLink, Plan, Versioned, grid};
 use second::staircase::Road;
-use second::{FINEST, MOVED, REACHED, SPENT, audit, check, pack, page, pass, run, start};
+use second::{
+    FINEST, MOVED, PassAnswer, REACHED, SPENT, TakeBackAnswer, audit, check, pack, page, run,
+    start, take_back,
+};
+
+/// A pass that is taken back where it moves the table, and made again.
+#[track_caller]
+fn pass(file: &[u8], table: &mut [u32], share: u32) -> PassAnswer {
+    let mut note = vec![7; 4_100];
+    let before = table.to_vec();
+    let answer = second::pass(file, table, share, &mut note);
+    if answer.outcome != MOVED {
+        assert_eq!(note, vec![7; 4_100]);
+        return answer;
+    }
+    let (after, noted) = (table.to_vec(), note.clone());
+    assert_eq!(take_back(file, table, answer.share, &note), left(share));
+    assert!(table == before && note == noted);
+    assert_eq!(second::pass(file, table, share, &mut note), answer);
+    assert!(table == after && note == noted);
+    answer
+}
+
+/// A taking back that is made and leaves this share.
+fn left(share: u32) -> TakeBackAnswer {
+    TakeBackAnswer { refusal: 0, share }
+}
 
 fn draft(nodes: u16, links: &[DraftLink], destinations: &[u16], trips: &[&[u16]]) -> Draft {
     Draft {
@@ -792,4 +818,309 @@ fn powers_at_the_limits() {
         assert!(study.file().len() <= 14_568);
         pack_and_run(&study);
     }
+}
+
+/// The note of the first move by loadings from a start.
+fn first_note(study: &Versioned) -> Vec<u16> {
+    let file = study.file();
+    let mut table = vec![0; study.draft.table_length()];
+    assert_eq!(start(&file, &mut table), 0);
+    let mut note = vec![9; study.draft.note_length()];
+    let mut share = 1;
+    loop {
+        let answer = second::pass(&file, &mut table, share, &mut note);
+        assert_eq!(answer.outcome, MOVED);
+        if note[0] > 0 {
+            return note;
+        }
+        assert!(note[1..].iter().all(|&link| link == 65_535));
+        share = answer.share;
+    }
+}
+
+#[test]
+fn what_the_note_has() {
+    // To 2 and to 3; 4 goes round with 5, and from there nobody gets away.
+    let links = [
+        [0, 1, 4, 0, 1],
+        [1, 2, 4, 0, 1],
+        [0, 2, 8, 0, 1],
+        [2, 1, 3, 0, 1],
+        [1, 3, 5, 0, 1],
+        [4, 5, 1, 0, 1],
+        [5, 4, 1, 0, 1],
+        [0, 4, 1, 0, 1],
+        [1, 3, 5, 0, 1],
+    ];
+    const NONE: u16 = 65_535;
+    // Only node 0 has trips, and only to 2: the other next links are noted too.
+    for trips in [[1, 0, 0, 0, 0, 0], [0; 6]] {
+        let study = draft(6, &links, &[2, 3], &[&trips, &[0; 6]]);
+        let note = first_note(&study.clone().into());
+        let expected = [
+            [64].as_slice(),
+            &[0, 1, NONE, NONE, NONE, NONE],
+            &[0, 4, 3, NONE, NONE, NONE],
+        ];
+        assert_eq!(note, expected.concat());
+        // Round a closed node, and not on through a closed destination.
+        let note = first_note(&study.clone().closing(&[1, 2]));
+        let expected = [
+            [64].as_slice(),
+            &[2, 1, NONE, NONE, NONE, NONE],
+            &[NONE, 4, NONE, NONE, NONE, NONE],
+        ];
+        assert_eq!(note, expected.concat());
+    }
+}
+
+/// Next links of destinations to which nobody goes, alone and in whole groups,
+/// are those that they would have with trips. Times are the same at every flow.
+#[test]
+fn notes_of_destinations_without_trips() {
+    let mut dice = Dice::new(10);
+    for turn in 0..40 {
+        let mut busy = draft_of(&mut dice, 40, 150, 32);
+        busy.links.iter_mut().for_each(|link| link[3] = 0);
+        let busy = busy.closing_some(&mut dice, turn % 4);
+        let note = first_note(&busy);
+        let nodes = note[1..].chunks(40).zip(&busy.draft.destinations);
+        for (row, &destination) in nodes {
+            for (link, hops) in row.iter().zip(busy.hops(destination)) {
+                assert_eq!(*link == 65_535, matches!(hops, None | Some(0)));
+            }
+        }
+        for kept in [0, 1, 2, 3, 8, 9, 24, 31] {
+            // Trips to so many of the destinations, from anywhere on.
+            let mut idle = busy.clone();
+            let first = dice.index(32);
+            for (position, trips) in idle.draft.trips.iter_mut().enumerate() {
+                if (position + 32 - first) % 32 >= kept {
+                    trips.fill(0);
+                }
+            }
+            assert_eq!(first_note(&idle)[1..], note[1..]);
+        }
+    }
+}
+
+/// What is left after taking back is not questioned: with a cycle it may have
+/// more flow on a link than its share allows.
+#[test]
+fn what_is_left_is_not_questioned() {
+    let links = [[0, 1, 5, 5, 5], [1, 2, 5, 5, 5], [2, 1, 5, 5, 5]];
+    let file = draft(3, &links, &[1], &[&[4, 0, 0]]).file();
+    // Flow to 1 leaves it and comes back.
+    let mut table = [40, 40, 40];
+    assert_eq!(audit(&file, &table, 10).refusal, 0);
+    assert_eq!(take_back(&file, &mut table, 10, &[1, 0, 9, 9]), left(9));
+    assert_eq!(table, [36, 40, 40]);
+    assert_eq!(audit(&file, &table, 9).refusal, 15);
+    assert_eq!(take_back(&file, &mut table, 9, &[1, 0, 9, 9]).refusal, 15);
+    let mut table = [40, 40, 40];
+    assert_eq!(take_back(&file, &mut table, 10, &[0; 4]), left(5));
+    assert_eq!(audit(&file, &table, 5).refusal, 0);
+}
+
+/// A study of one of several kinds: of version 1, with closed nodes, with zones
+/// or with powers.
+fn some_study(dice: &mut Dice, kind: usize) -> Versioned {
+    let plan = Plan::small(dice);
+    let (wide, high) = (dice.between(2, 5) as u16, dice.between(1, 3) as u16);
+    let crowd = Plan {
+        destinations: dice.between(1, 10),
+        time: 90,
+        capacity: 15,
+        trips: 25,
+        tenths: dice.between(0, 9),
+        ..plan
+    };
+    let links = grid(dice, wide, high, 512, 90, 15);
+    let nodes = wide * high;
+    match kind {
+        0 => plan.draft(dice).into(),
+        1 => plan.draft(dice).closing_some(dice, 3),
+        2 => plan.draft(dice).with_some_powers(dice),
+        3 => crowd.with_links(dice, nodes, links).into(),
+        4 => crowd.with_zones(dice, nodes, 4, links),
+        5 => crowd
+            .with_zones(dice, nodes, 4, links)
+            .with_some_powers(dice),
+        _ => crowd
+            .with_links(dice, nodes, links)
+            .closing_some(dice, 2)
+            .with_some_powers(dice),
+    }
+}
+
+/// After every move of studies of all versions, taking back restores table and
+/// share and leaves the note; in the end all moves are taken back one by one.
+#[test]
+fn every_move_is_taken_back() {
+    let mut dice = Dice::new(11);
+    let (mut loadings, mut doublings) = (0, 0);
+    for turn in 0..700 {
+        let study = some_study(&mut dice, turn % 7);
+        let file = study.file();
+        let mut table = vec![5; study.draft.table_length() + 2];
+        assert_eq!(start(&file, &mut table), 0);
+        let mut share = 1;
+        let mut moves = Vec::new();
+        for _ in 0..30 {
+            let before = (table.clone(), share);
+            let mut note = vec![6; study.draft.note_length() + 2];
+            let answer = second::pass(&file, &mut table, share, &mut note);
+            assert_eq!(
+                (&note[note.len() - 2..], &table[table.len() - 2..]),
+                (&[6; 2][..], &[5; 2][..])
+            );
+            if answer.outcome == FINEST {
+                assert!(note.iter().all(|&number| number == 6));
+                break;
+            }
+            if note[0] > 0 {
+                assert_eq!(answer.share, share + u32::from(note[0]));
+                loadings += 1;
+            } else {
+                assert_eq!(answer.share, 2 * share);
+                doublings += 1;
+            }
+            let (after, noted) = (table.clone(), note.clone());
+            assert_eq!(
+                take_back(&file, &mut table, answer.share, &note),
+                left(share)
+            );
+            assert!((&table, share) == (&before.0, before.1) && note == noted);
+            (table, share) = (after, answer.share);
+            moves.push((before, note));
+        }
+        for (before, note) in moves.into_iter().rev() {
+            assert_eq!(take_back(&file, &mut table, share, &note), left(before.1));
+            (_, share) = before;
+            assert!(table == before.0);
+        }
+        assert_eq!(share, 1);
+    }
+    assert!(
+        loadings > 5_000 && doublings > 500,
+        "{loadings} {doublings}"
+    );
+}
+
+/// Tables that wander and go round, with closed nodes and powers, moved and
+/// taken back.
+#[test]
+fn moves_of_made_tables() {
+    let mut dice = Dice::new(12);
+    let mut moved = 0;
+    for turn in 0..700 {
+        let study = some_study(&mut dice, turn % 7);
+        let share = dice.between(1, 1_024) as u32;
+        let mut table = study.wandering_table(&mut dice, share);
+        study.add_cycle(&mut dice, &mut table, share);
+        moved += usize::from(pass(&study.file(), &mut table, share).outcome == MOVED);
+    }
+    assert!(moved > 200, "{moved}");
+}
+
+/// Notes that nobody's passes have made, and steps up to the largest.
+#[test]
+fn made_notes() {
+    let mut dice = Dice::new(13);
+    let mut made = 0;
+    for turn in 0..700 {
+        let study = some_study(&mut dice, turn % 7);
+        let file = study.file();
+        let share = dice.pick(&[1, 1, 2, 10, 100, 512]);
+        let step = dice.pick(&[1, 2, 64, 65, 512]).min(1_024 - share as u16);
+        let before = study.wandering_table(&mut dice, share);
+        let note = study.some_note(&mut dice, step);
+        let mut table = before.clone();
+        study.add_noted(&note, &mut table);
+        let grown = share + u32::from(step);
+        if audit(&file, &table, grown).refusal != 0 {
+            continue;
+        }
+        assert_eq!(take_back(&file, &mut table, grown, &note), left(share));
+        assert_eq!(table, before);
+        made += 1;
+    }
+    assert!(made > 300, "{made}");
+}
+
+/// Studies with each count at its limit, moved and taken back.
+#[test]
+fn taking_back_at_the_limits() {
+    let mut dice = Dice::new(14);
+    for (nodes, links, destinations) in [
+        (128, 512, 32),
+        (128, 512, 1),
+        (128, 127, 32),
+        (128, 1, 1),
+        (32, 512, 32),
+        (2, 512, 2),
+        (2, 1, 1),
+    ] {
+        let draft = draft_of(&mut dice, nodes, links, destinations);
+        for study in [
+            Versioned::from(draft.clone()),
+            draft.clone().closing_some(&mut dice, 2),
+            draft.with_some_powers(&mut dice),
+        ] {
+            let file = study.file();
+            let mut table = vec![0; study.draft.table_length()];
+            assert_eq!(start(&file, &mut table), 0);
+            let mut share = 1;
+            for _ in 0..12 {
+                share = pass(&file, &mut table, share).share;
+            }
+            // One number of the note is missing.
+            let length = study.draft.note_length();
+            assert_eq!(length as u64, 1 + nodes * destinations);
+            let mut note = vec![0; length - 1];
+            assert_eq!(
+                second::pass(&file, &mut table, share, &mut note).refusal,
+                12
+            );
+            assert_eq!(take_back(&file, &mut table, share, &note).refusal, 12);
+        }
+    }
+}
+
+/// The most trips at the largest share, taken back in one step.
+#[test]
+fn the_largest_step() {
+    let links: Vec<DraftLink> = (0..127)
+        .map(|node| [node, node + 1, 16_383, 16_383, 1])
+        .collect();
+    let mut trips = vec![0; 128];
+    trips[0] = 65_535;
+    let file = draft(128, &links, &[127], &[&trips]).file();
+    let mut note: Vec<u16> = (0..129).map(|place: u16| place.wrapping_sub(1)).collect();
+    for (step, share) in [
+        (1_023, 1_024),
+        (1_022, 1_023),
+        (1, 2),
+        (1, 1_024),
+        (64, 1_024),
+    ] {
+        note[0] = step;
+        let step = u32::from(step);
+        let mut table = vec![65_535 * share; 127];
+        assert_eq!(
+            take_back(&file, &mut table, share, &note),
+            left(share - step)
+        );
+        assert_eq!(table, vec![65_535 * (share - step); 127]);
+    }
+    for step in [1_024, 1_025, 32_768, 65_535] {
+        note[0] = step;
+        let mut table = vec![65_535 * 1_024; 127];
+        assert_eq!(take_back(&file, &mut table, 1_024, &note).refusal, 22);
+        assert_eq!(table, vec![65_535 * 1_024; 127]);
+    }
+    note[0] = 0;
+    let mut table = vec![65_535 * 1_024; 127];
+    assert_eq!(take_back(&file, &mut table, 1_024, &note), left(512));
+    assert_eq!(table, vec![65_535 * 512; 127]);
 }

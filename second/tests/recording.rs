@@ -8,7 +8,7 @@ use second::staircase::LAST_STEP;
 use second::stream::{
     Call, Kind, Lent, Player, Reply, Second, answers, digest, read_calls, write_calls,
 };
-use second::{AuditAnswer, MOVED, PassAnswer, RunAnswer, cases};
+use second::{AuditAnswer, FINEST, MOVED, PassAnswer, RunAnswer, TakeBackAnswer, cases};
 
 #[test]
 fn the_list_is_long_and_the_stream_short() {
@@ -29,8 +29,55 @@ const WITHOUT_OVER: usize = 5_131;
 /// Calls before the first ones that were made for version 3.
 const WITHOUT_POWERS: usize = 5_253;
 
+/// Calls before the first ones that were made for taking back.
+const WITHOUT_TAKING_BACK: usize = 5_750;
+
 /// All calls.
-const ALL: usize = 5_750;
+const ALL: usize = 6_447;
+
+/// The stream of calls as it was before there were notes: those of passes are
+/// left out.
+fn stream_without_notes(calls: &[Call]) -> Vec<u8> {
+    let mut stream = Vec::new();
+    for call in calls {
+        let mut bytes = write_calls(std::slice::from_ref(call));
+        // Share, budget and excess stand behind the note, and then the end.
+        let rest = bytes.split_off(bytes.len() - 11);
+        if let Lent::Noted(_, note) = &call.lent {
+            let length = 4 + 2 * note.as_ref().map_or(0, Vec::len);
+            bytes.truncate(bytes.len() - length);
+        }
+        stream.extend(bytes);
+        stream.extend(&rest[..10]);
+    }
+    stream.push(0);
+    stream
+}
+
+/// The lines of answers as they were before there were notes: the digest of a
+/// pass is that of its table.
+fn answers_without_notes(calls: &[Call]) -> String {
+    let mut player = Player::default();
+    let mut lines = String::new();
+    for call in calls {
+        let reply = player.play(&Second, call);
+        let kind = match call.kind {
+            Kind::Pass => Kind::Audit,
+            kind => kind,
+        };
+        lines += &reply.line(player.digest(kind));
+        lines.push('\n');
+    }
+    lines
+}
+
+/// A player with a note for calls that take over a long one.
+fn player_with_note() -> Player {
+    Player {
+        note: vec![0; 4_100],
+        ..Player::default()
+    }
+}
 
 /// The lines of answers without the count of links past the curve, which stands
 /// before the digest.
@@ -49,8 +96,8 @@ fn without_over(lines: &str) -> String {
 
 /// The list is the same every time and everywhere, and begins with what it was
 /// before there were pages, before there were closed nodes, before links past
-/// the curve were counted and before there were powers. Nothing but the count
-/// has come to the answers.
+/// the curve were counted, before there were powers and before there were notes.
+/// Nothing but the count has come to the answers, and the note to the digests.
 #[test]
 fn the_list_stays_the_same() {
     let calls = cases::all();
@@ -66,13 +113,30 @@ fn the_list_stays_the_same() {
         (WITHOUT_OVER, 0x4CF5_E60D_F0D2_0DCD, 0x9D89_72D6_A7CC_F0E1),
     ] {
         let calls = &calls[..count];
-        let answered = without_over(&answers(&Second, calls));
-        assert_eq!(digest(write_calls(calls)), stream, "{count}");
+        let answered = without_over(&answers_without_notes(calls));
+        assert_eq!(digest(stream_without_notes(calls)), stream, "{count}");
         assert_eq!(digest(answered.into_bytes()), lines, "{count}");
     }
     for (count, stream, lines) in [
         (WITHOUT_POWERS, 0x9C24_B7FE_D2AD_FC0D, 0xB966_9CB0_8703_1144),
-        (ALL, 0x2688_F39D_96B9_94F5, 0xBC66_F6E7_B969_31A4),
+        (
+            WITHOUT_TAKING_BACK,
+            0x2688_F39D_96B9_94F5,
+            0xBC66_F6E7_B969_31A4,
+        ),
+    ] {
+        let calls = &calls[..count];
+        let answered = answers_without_notes(calls);
+        assert_eq!(digest(stream_without_notes(calls)), stream, "{count}");
+        assert_eq!(digest(answered.into_bytes()), lines, "{count}");
+    }
+    for (count, stream, lines) in [
+        (
+            WITHOUT_TAKING_BACK,
+            0x5735_3BFC_03A0_CBB9,
+            0x68FA_2E35_F99F_5FC6,
+        ),
+        (ALL, 0x5F9A_28CB_D850_E0E3, 0xB9D8_82D2_94D1_B5B9),
     ] {
         let calls = &calls[..count];
         let answered = answers(&Second, calls);
@@ -80,6 +144,24 @@ fn the_list_stays_the_same() {
         assert_eq!(digest(answered.into_bytes()), lines, "{count}");
     }
     assert_eq!(calls.len(), ALL);
+}
+
+/// The first pass of all is lent a long note, and all others that were there
+/// before taking back take it over.
+#[test]
+fn notes_of_passes_before_taking_back() {
+    let calls = &cases::all()[..WITHOUT_TAKING_BACK];
+    let notes: Vec<&Option<Vec<u16>>> = calls
+        .iter()
+        .filter_map(|call| match &call.lent {
+            Lent::Noted(_, note) => Some(note),
+            _ => None,
+        })
+        .collect();
+    assert!(notes[0].as_ref().is_some_and(|note| note.len() == 4_100));
+    assert!(notes[1..].iter().all(|note| note.is_none()));
+    let taken = calls.iter().any(|call| call.kind == Kind::TakeBack);
+    assert!(!taken && notes.len() > 1_000);
 }
 
 /// A file of version 1 that calls itself version 2 was refused 2 before there
@@ -100,7 +182,7 @@ fn answers_that_changed_with_version_2() {
     assert_eq!(changed, [264, 265, 266, 267, 268, 269, 4_111]);
 
     let mut before = String::new();
-    let lines = without_over(&answers(&Second, calls));
+    let lines = without_over(&answers_without_notes(calls));
     for (place, line) in lines.lines().enumerate() {
         before += &match changed.contains(&place) {
             true => line.replacen(" 4 ", " 2 ", 1),
@@ -136,7 +218,7 @@ fn answers_that_changed_with_version_3() {
     );
 
     let mut before = String::new();
-    for (place, line) in answers(&Second, calls).lines().enumerate() {
+    for (place, line) in answers_without_notes(calls).lines().enumerate() {
         before += &match changed.iter().find(|(changed, _)| *changed == place) {
             Some((_, refusal)) => line.replacen(&format!(" {refusal} "), " 2 ", 1),
             None => line.to_string(),
@@ -156,7 +238,7 @@ fn the_stream_can_be_read_back() {
     assert!(read_calls(&stream).unwrap() == calls);
     assert!(read_calls(&stream[..stream.len() - 1]).is_err());
     assert!(read_calls(&[stream, vec![0]].concat()).is_err());
-    assert!(read_calls(&[8]).is_err());
+    assert!(read_calls(&[9]).is_err());
     assert!(read_calls(&[]).is_err());
 }
 
@@ -166,7 +248,7 @@ fn the_form_of_the_stream() {
         Call {
             kind: Kind::Pass,
             file: Some(vec![9, 8]),
-            lent: Lent::Table(vec![0x0102_0304]),
+            lent: Lent::Noted(Some(vec![0x0102_0304]), Some(vec![0x0506, 65_535])),
             share: 5,
             budget: 0,
             excess: 0,
@@ -219,16 +301,43 @@ fn the_form_of_the_stream() {
             budget: 0,
             excess: 0,
         },
+        Call {
+            kind: Kind::TakeBack,
+            file: None,
+            lent: Lent::Noted(None, None),
+            share: 2,
+            budget: 0,
+            excess: 0,
+        },
+        Call {
+            kind: Kind::TakeBack,
+            file: Some(vec![]),
+            lent: Lent::Noted(Some(vec![]), Some(vec![])),
+            share: 3,
+            budget: 0,
+            excess: 0,
+        },
+        Call {
+            kind: Kind::Pass,
+            file: None,
+            lent: Lent::Noted(Some(vec![1]), None),
+            share: 4,
+            budget: 0,
+            excess: 0,
+        },
     ];
     #[rustfmt::skip]
     let stream = [
-        4, 2, 0, 0, 0, 9, 8, 1, 0, 0, 0, 4, 3, 2, 1, 5, 0, 0, 0, 0, 0, 0, 0, 0, 0,
+        4, 2, 0, 0, 0, 9, 8, 1, 0, 0, 0, 4, 3, 2, 1, 2, 0, 0, 0, 6, 5, 255, 255, 5, 0, 0, 0, 0, 0, 0, 0, 0, 0,
         5, 255, 255, 255, 255, 255, 255, 255, 255, 0, 0, 0, 0, 6, 0, 0, 0, 7, 0,
         2, 255, 255, 255, 255, 1, 0, 0, 0, 1, 0, 0, 0, 0, 0, 0, 0, 0, 0, 0,
         1, 0, 0, 0, 0, 0, 0, 0, 0, 0, 0, 0, 0, 0, 0, 0, 0, 0, 0,
         7, 1, 0, 0, 0, 6, 1, 0, 0, 0, 2, 0, 0, 0, 3, 0, 0, 0, 11, 12, 13, 9, 0, 0, 0, 0, 0, 0, 0, 0, 0,
         7, 255, 255, 255, 255, 255, 255, 255, 255, 0, 0, 0, 0, 2, 1, 0, 0, 0, 0, 0, 0, 0, 0,
         6, 255, 255, 255, 255, 255, 255, 255, 255, 1, 0, 0, 0, 0, 0, 0, 0, 0, 0,
+        8, 255, 255, 255, 255, 255, 255, 255, 255, 255, 255, 255, 255, 2, 0, 0, 0, 0, 0, 0, 0, 0, 0,
+        8, 0, 0, 0, 0, 0, 0, 0, 0, 0, 0, 0, 0, 3, 0, 0, 0, 0, 0, 0, 0, 0, 0,
+        4, 255, 255, 255, 255, 1, 0, 0, 0, 1, 0, 0, 0, 255, 255, 255, 255, 4, 0, 0, 0, 0, 0, 0, 0, 0, 0,
         0,
     ];
     assert_eq!(write_calls(&calls), stream);
@@ -247,6 +356,66 @@ fn what_a_page_cannot_take_over() {
     assert!(read_calls(&stream).is_ok());
     let stream = [&check, [7].as_slice(), &same, &[0; 4], &same, &end].concat();
     assert!(read_calls(&stream).is_err());
+}
+
+/// A taking back takes a table over only where there is one, and a note always:
+/// before any it is empty, and calls that are lent none leave it.
+#[test]
+fn what_a_taking_back_takes_over() {
+    let same = [255; 4];
+    let end = [0; 11];
+    let check = [1, 0, 0, 0, 0, 0, 0, 0, 0, 0, 0, 0, 0, 0, 0, 0, 0, 0, 0];
+    let stream = [&check, [8].as_slice(), &same, &same, &same, &end].concat();
+    assert!(read_calls(&stream).is_err());
+    let stream = [&check, [8].as_slice(), &same, &[0; 4], &same, &end].concat();
+    assert!(read_calls(&stream).is_ok());
+
+    let call = |kind: Kind, lent: Lent| Call {
+        kind,
+        file: Some(Vec::new()),
+        lent,
+        share: 0,
+        budget: 0,
+        excess: 0,
+    };
+    let mut player = Player::default();
+    for (kind, lent, table, note) in [
+        (
+            Kind::Pass,
+            Lent::Noted(Some(vec![1, 2]), None),
+            vec![1, 2],
+            vec![],
+        ),
+        (
+            Kind::TakeBack,
+            Lent::Noted(None, Some(vec![3, 4])),
+            vec![1, 2],
+            vec![3, 4],
+        ),
+        (Kind::Start, Lent::Table(vec![5]), vec![5], vec![3, 4]),
+        (Kind::Check, Lent::Nothing, vec![5], vec![3, 4]),
+        (
+            Kind::Pass,
+            Lent::Noted(Some(vec![6]), None),
+            vec![6],
+            vec![3, 4],
+        ),
+        (
+            Kind::TakeBack,
+            Lent::Noted(None, Some(vec![])),
+            vec![6],
+            vec![],
+        ),
+    ] {
+        let reply = player.play(&Second, &call(kind, lent));
+        assert_eq!(reply.refusal(), 1);
+        assert_eq!((&player.table, &player.note), (&table, &note));
+        if kind == Kind::Pass || kind == Kind::TakeBack {
+            let table = table.iter().flat_map(|number| number.to_le_bytes());
+            let note = note.iter().flat_map(|number: &u16| number.to_le_bytes());
+            assert_eq!(player.digest(kind), digest(table.chain(note)));
+        }
+    }
 }
 
 #[test]
@@ -295,10 +464,15 @@ fn lines_with_a_count() {
         cost: 3,
         over: 4,
     };
+    let take_back = TakeBackAnswer {
+        refusal: 1,
+        share: 2,
+    };
     for (reply, line) in [
         (Reply::Pass(pass), "pass 1 2 3 4 5 6 00000000000000ff"),
         (Reply::Run(run), "run 1 2 3 4 5 6 7 00000000000000ff"),
         (Reply::Audit(audit), "audit 1 2 3 4 00000000000000ff"),
+        (Reply::TakeBack(take_back), "take_back 1 2 00000000000000ff"),
     ] {
         assert_eq!(reply.line(255), line);
     }
@@ -336,6 +510,7 @@ fn the_list_has_everything() {
         (Kind::Run, &[12, 13]),
         (Kind::Audit, &[12, 14, 15, 16, 20]),
         (Kind::Page, &[12, 14, 15, 16, 20, 18]),
+        (Kind::TakeBack, &[12, 14, 15, 16, 20, 21, 22]),
     ] {
         for number in (0..=11).chain([19]).chain(more.iter().copied()) {
             assert!(
@@ -394,11 +569,11 @@ struct Judged {
 
 /// All those calls, made without the calls before them.
 fn made_for_over() -> Vec<Judged> {
-    let mut player = Player::default();
+    let mut player = player_with_note();
     let mut made = Vec::new();
     for call in cases::all().drain(WITHOUT_OVER..WITHOUT_POWERS) {
         let before = match &call.lent {
-            Lent::Table(table) => table.clone(),
+            Lent::Table(table) | Lent::Noted(Some(table), _) => table.clone(),
             _ => player.table.clone(),
         };
         let reply = player.play(&Second, &call);
@@ -412,14 +587,34 @@ fn made_for_over() -> Vec<Judged> {
     made
 }
 
+/// The calls from this one on are answered alike with the calls before them and
+/// without, but for the note that those leave.
+fn stands_alone(calls: &[Call], place: usize) -> bool {
+    let (before, after) = calls.split_at(place);
+    let mut player = Player::default();
+    for call in before {
+        player.play(&Second, call);
+    }
+    let mut other = Player {
+        note: player.note.clone(),
+        ..Player::default()
+    };
+    after.iter().all(|call| {
+        let replies = [&mut player, &mut other].map(|player| {
+            let reply = player.play(&Second, call);
+            reply.line(player.digest(call.kind))
+        });
+        replies[0] == replies[1]
+    })
+}
+
 /// Those calls are answered alike with the calls before them and without.
 #[test]
 fn calls_for_over_stand_alone() {
     let calls = cases::all();
     let first = &calls[WITHOUT_OVER];
     assert!(first.file.is_some() && matches!(first.lent, Lent::Table(_)));
-    let all = answers(&Second, &calls);
-    assert!(all.ends_with(&answers(&Second, &calls[WITHOUT_OVER..])));
+    assert!(stands_alone(&calls, WITHOUT_OVER));
 }
 
 /// Links past the curve in every outcome and with every ending, up to all of
@@ -493,8 +688,7 @@ fn calls_for_powers_stand_alone() {
     let calls = cases::all();
     let first = &calls[WITHOUT_POWERS];
     assert!(first.file.is_some() && matches!(first.lent, Lent::Table(_)));
-    let all = answers(&Second, &calls);
-    assert!(all.ends_with(&answers(&Second, &calls[WITHOUT_POWERS..])));
+    assert!(stands_alone(&calls, WITHOUT_POWERS));
 }
 
 /// An accepted file of version 3 with this power on every link.
@@ -511,7 +705,7 @@ fn with_power(file: &[u8], power: u8) -> Vec<u8> {
 /// outcome and every ending, with closed nodes and with links past the curve.
 #[test]
 fn the_list_has_powers() {
-    let mut player = Player::default();
+    let mut player = player_with_note();
     let mut accepted: HashSet<&str> = HashSet::new();
     let mut refusals: HashSet<u8> = HashSet::new();
     let (mut outcomes, mut endings, mut closed, mut over) = ([0; 3], [0; 4], 0, 0);
@@ -546,8 +740,8 @@ fn the_list_has_powers() {
 /// whichever, the same call answers or leaves something else.
 #[test]
 fn the_list_tells_powers_apart() {
-    let mut player = Player::default();
-    let mut apart = [0; 7];
+    let mut player = player_with_note();
+    let mut apart = [0; 8];
     for call in &cases::all()[WITHOUT_POWERS..] {
         let before = player.clone();
         let reply = player.play(&Second, call);
@@ -562,16 +756,18 @@ fn the_list_tells_powers_apart() {
                 ..call.clone()
             };
             let reply = other.play(&Second, &call);
-            (reply, other.table, other.page)
+            (reply, other.table, other.page, other.note)
         });
-        let own = (reply, player.table.clone(), player.page.clone());
+        let (table, page, note) = (&player.table, &player.page, &player.note);
+        let own = (reply, table.clone(), page.clone(), note.clone());
         if others.iter().all(|other| *other != own) {
             let place = Kind::ALL.iter().position(|kind| *kind == call.kind);
             apart[place.expect("a kind of call")] += 1;
         }
     }
-    // Kinds in their order: check, pack, start, pass, run, audit, page.
-    let least = [0, 0, 0, 40, 25, 50, 25];
+    // Kinds in their order: check, pack, start, pass, run, audit, page, take
+    // back. Taking back has nothing to do with times.
+    let least = [0, 0, 0, 40, 25, 50, 25, 0];
     assert!(
         apart
             .iter()
@@ -579,4 +775,186 @@ fn the_list_tells_powers_apart() {
             .all(|(count, least)| *count >= least),
         "{apart:?}"
     );
+}
+
+/// A call that was made for taking back, with its file, table and note before
+/// it, its answer, and what it leaves.
+struct Noted {
+    call: Call,
+    before: Player,
+    reply: Reply,
+    after: Player,
+}
+
+/// All those calls, made without the calls before them.
+fn made_for_taking_back() -> Vec<Noted> {
+    let mut player = Player::default();
+    let mut made = Vec::new();
+    for call in cases::all().drain(WITHOUT_TAKING_BACK..) {
+        let mut before = player.clone();
+        let reply = player.play(&Second, &call);
+        before.file.clone_from(&player.file);
+        match &call.lent {
+            Lent::Table(table) | Lent::Page(Some(table), _) => before.table.clone_from(table),
+            Lent::Noted(table, note) => {
+                before.table = table.clone().unwrap_or(before.table);
+                before.note = note.clone().unwrap_or(before.note);
+            }
+            _ => {}
+        }
+        let after = player.clone();
+        made.push(Noted {
+            call,
+            before,
+            reply,
+            after,
+        });
+    }
+    made
+}
+
+/// Those calls are answered alike with the calls before them and without, and
+/// are few enough.
+#[test]
+fn calls_for_taking_back_stand_alone() {
+    let calls = cases::all();
+    let first = &calls[WITHOUT_TAKING_BACK];
+    assert!(first.file.is_some());
+    assert!(matches!(first.lent, Lent::Noted(Some(_), Some(_))));
+    let new = &calls[WITHOUT_TAKING_BACK..];
+    assert!(answers(&Second, &calls).ends_with(&answers(&Second, new)));
+    assert!((400..=700).contains(&new.len()));
+    assert!(write_calls(new).len() < 600_000);
+}
+
+/// Passes leave the note where they do not move, and taking back always.
+#[test]
+fn the_list_has_notes_that_stay() {
+    let (mut refused, mut finest, mut taken_back) = (0, 0, 0);
+    for noted in made_for_taking_back() {
+        let same = noted.before.note == noted.after.note;
+        match noted.reply {
+            Reply::Pass(answer) if answer.outcome != MOVED => {
+                assert!(same);
+                finest += usize::from(answer.outcome == FINEST);
+                refused += usize::from(answer.refusal != 0);
+            }
+            Reply::TakeBack(answer) => {
+                assert!(same);
+                assert!(answer.refusal == 0 || noted.before.table == noted.after.table);
+                taken_back += usize::from(answer.refusal == 0);
+            }
+            _ => {}
+        }
+    }
+    assert!(refused >= 15 && finest >= 1, "{refused} {finest}");
+    assert!(taken_back >= 200, "{taken_back}");
+}
+
+/// Moves by loadings and doublings, with longer notes and tables than they need,
+/// in every version; and moves that are taken back by the next call but for
+/// audits.
+#[test]
+fn the_list_has_moves_taken_back() {
+    let mut moves: HashSet<(u16, bool)> = HashSet::new();
+    let (mut longer, mut restored, mut steps) = ([0; 2], [0; 2], [u16::MAX, 0]);
+    let mut last: Option<Noted> = None;
+    for noted in made_for_taking_back() {
+        let file = &noted.after.file;
+        match noted.reply {
+            Reply::Pass(answer) if answer.outcome == MOVED => {
+                let Ok(study) = Study::read(file) else {
+                    unreachable!("the study was moved");
+                };
+                let step = noted.after.note[0];
+                moves.insert((u16_at(file, 0), step > 0));
+                longer[0] += usize::from(noted.after.note.len() > study.note_length());
+                longer[1] += usize::from(noted.after.table.len() > study.table_length());
+                if step > 0 {
+                    steps = [steps[0].min(step), steps[1].max(step)];
+                }
+                last = Some(noted);
+            }
+            Reply::TakeBack(answer) if answer.refusal == 0 => {
+                if let Some(pass) = last.take()
+                    && pass.after.file == *file
+                    && pass.after.table == noted.before.table
+                    && pass.after.note == noted.before.note
+                {
+                    assert_eq!(answer.share, pass.call.share);
+                    assert!(noted.after.table == pass.before.table);
+                    restored[usize::from(noted.after.note[0] > 0)] += 1;
+                }
+            }
+            Reply::Audit(_) => {}
+            _ => last = None,
+        }
+    }
+    assert_eq!(moves.len(), 6, "{moves:?}");
+    assert!(longer.iter().all(|&count| count >= 10), "{longer:?}");
+    assert!(restored[0] >= 8 && restored[1] >= 30, "{restored:?}");
+    assert_eq!(steps, [1, 64]);
+}
+
+/// Notes with next links to destinations without trips, in whole groups of
+/// eight, and with nodes that have no path.
+#[test]
+fn the_list_has_destinations_without_trips() {
+    let (mut idle, mut groups, mut pathless) = (0, 0, 0);
+    for noted in made_for_taking_back() {
+        let moved = matches!(noted.reply, Reply::Pass(answer) if answer.outcome == MOVED);
+        let note = &noted.after.note;
+        if !moved || note[0] == 0 {
+            continue;
+        }
+        let Ok(study) = Study::read(&noted.after.file) else {
+            unreachable!("the study was moved");
+        };
+        let rows = note[1..].chunks(study.nodes);
+        let mut without_trips = 0;
+        for ((_, trips), row) in study.rows().zip(rows) {
+            without_trips += usize::from(trips.iter().all(|&count| count == 0));
+            let none = row.iter().filter(|&&link| link == 65_535).count();
+            pathless += usize::from((2..study.nodes).contains(&none));
+        }
+        idle += usize::from(without_trips > 0);
+        groups += usize::from(without_trips >= 8);
+    }
+    assert!(idle >= 20 && groups >= 8, "{idle} {groups}");
+    assert!(pathless >= 20, "{pathless}");
+}
+
+/// Refusals 12, 21 and 22 in every version, and 21 by closed nodes alone.
+#[test]
+fn the_list_has_notes_that_are_refused() {
+    let mut refusals: HashSet<(u16, u8)> = HashSet::new();
+    let mut forbidden = 0;
+    for noted in made_for_taking_back() {
+        let Reply::TakeBack(answer) = noted.reply else {
+            continue;
+        };
+        let Ok(study) = Study::read(&noted.after.file) else {
+            continue;
+        };
+        refusals.insert((u16_at(&noted.after.file, 0), answer.refusal));
+        if answer.refusal == 21 && study.closed != 0 {
+            // The same with all nodes open: the closed bytes stand at the end.
+            let mut file = noted.after.file.clone();
+            let end = file.len() - study.nodes;
+            file[end..].fill(0);
+            let mut player = noted.before.clone();
+            let call = Call {
+                file: Some(file),
+                lent: Lent::Noted(None, None),
+                ..noted.call
+            };
+            forbidden += usize::from(player.play(&Second, &call).refusal() != 21);
+        }
+    }
+    for version in 1..=3 {
+        for number in [0, 12, 21, 22] {
+            assert!(refusals.contains(&(version, number)), "{version} {number}");
+        }
+    }
+    assert!(forbidden >= 5, "{forbidden}");
 }

@@ -1,7 +1,44 @@
 //! Every question at its boundary, by every call that puts it.
 
 use second::draft::{Draft, DraftLink, Versioned};
-use second::{AuditAnswer, PassAnswer, RunAnswer, audit, check, pack, page, pass, run, start};
+use second::{
+    AuditAnswer, MOVED, PassAnswer, RunAnswer, TakeBackAnswer, audit, check, pack, page, run,
+    start, take_back,
+};
+
+/// A pass whose note is long enough and the same afterwards where the pass is
+/// refused.
+#[track_caller]
+fn pass(file: &[u8], table: &mut [u32], share: u32) -> PassAnswer {
+    let mut note = vec![0x5A5A; 4_097];
+    let answer = second::pass(file, table, share, &mut note);
+    assert!(answer.refusal == 0 || note == vec![0x5A5A; 4_097]);
+    answer
+}
+
+/// Taking back is refused with this number and leaves the table as it was.
+#[track_caller]
+fn take_back_refused(file: &[u8], table: &[u32], share: u32, note: &[u16], number: u8) {
+    let mut after = table.to_vec();
+    let expected = TakeBackAnswer {
+        refusal: number,
+        share: 0,
+    };
+    assert_eq!(take_back(file, &mut after, share, note), expected);
+    assert_eq!(after, table);
+}
+
+/// Taking back is made and leaves this table and share.
+#[track_caller]
+fn taken_back(file: &[u8], table: &[u32], share: u32, note: &[u16], left: (&[u32], u32)) {
+    let mut after = table.to_vec();
+    let expected = TakeBackAnswer {
+        refusal: 0,
+        share: left.1,
+    };
+    assert_eq!(take_back(file, &mut after, share, note), expected);
+    assert_eq!(after, left.0);
+}
 
 /// A small acceptable study.
 fn sample() -> Draft {
@@ -60,6 +97,9 @@ fn refused(file: &[u8], number: u8) {
             };
             assert_eq!(audit(file, &table, argument), expected);
             page_refused(file, &table, argument, number);
+            for length in [0, 4_097] {
+                take_back_refused(file, &table, argument, &vec![1; length], number);
+            }
         }
         assert_eq!(table, vec![u32::MAX; length]);
     }
@@ -86,7 +126,11 @@ fn accepted(file: &[u8]) {
     assert_eq!(start(file, &mut table), 0);
     assert_eq!(audit(file, &table, 1).refusal, 0);
     assert_eq!(page(file, &table, 1, &mut [0; 30 * 512]), 0);
-    assert_eq!(pass(file, &mut table, 1).refusal, 0);
+    let before = table.clone();
+    let mut note = vec![9; 4_097];
+    let answer = second::pass(file, &mut table, 1, &mut note);
+    assert_eq!((answer.refusal, answer.outcome), (0, MOVED));
+    taken_back(file, &table, answer.share, &note, (&before, 1));
     assert_eq!(run(file, &mut table, 2, 0).refusal, 0);
 }
 
@@ -444,7 +488,36 @@ fn question_12_table() {
             assert_eq!(audit(&file, &table, 0).refusal, 12);
             page_refused(&file, &table, 0, 12);
             page_refused(&file, &table, 1, 12);
+            take_back_refused(&file, &table, 0, &[9; 7], 12);
+            take_back_refused(&file, &table, 0, &[9; 6], 12);
             assert_eq!(table, vec![4; length]);
+        }
+    }
+}
+
+/// The note needs 1 + p·n numbers, and this is asked before the share.
+#[test]
+fn question_12_note() {
+    let file = sample().file();
+    let mut started = vec![0; 6];
+    assert_eq!(start(&file, &mut started), 0);
+    for length in [0, 1, 6, 7, 8, 4_097] {
+        let short = length < 7;
+        let note = vec![0x5A5A; length];
+        for (share, number) in [(0, 14), (1, 0), (2, 16), (1_025, 14)] {
+            let number = if short { 12 } else { number };
+            let (mut table, mut after) = (started.clone(), note.clone());
+            let answer = second::pass(&file, &mut table, share, &mut after);
+            assert_eq!(answer.refusal, number);
+            if number == 0 {
+                assert!(after[..7] != note[..7] && after[7..] == note[7..]);
+            } else {
+                assert_eq!((answer.outcome, answer.share), (0, 0));
+                assert!(table == started && after == note);
+            }
+            // In the note stands no link.
+            let number = if number == 0 { 21 } else { number };
+            take_back_refused(&file, &started, share, &note, number);
         }
     }
 }
@@ -1155,4 +1228,324 @@ fn tables_in_version_3() {
     assert_eq!(audit(&file, &table, 1).refusal, 0);
     assert_eq!(page(&file, &table, 1, &mut [0; 89]), 18);
     assert_eq!(run(&file, &mut [0; 6], 0, 0).refusal, 13);
+}
+
+/// A note of one loading along the ring of the sample study, to 1 and to 2.
+const RING: [u16; 7] = [1, 0, 65_535, 2, 0, 1, 65_535];
+
+/// The sample study's table at a share: all trips along the ring.
+fn along_the_ring(share: u32) -> [u32; 6] {
+    [5, 0, 2, 4, 9, 0].map(|flow| flow * share)
+}
+
+#[test]
+fn question_21_links_of_the_note() {
+    let file = sample().file();
+    for step in [1, 2, 8] {
+        let mut note = RING;
+        note[0] = step;
+        let left = 9 - u32::from(step);
+        taken_back(
+            &file,
+            &along_the_ring(9),
+            9,
+            &note,
+            (&along_the_ring(left), left),
+        );
+        // Every number that is looked at: no link, another node's link, a number
+        // that would be the right link in a list of 512.
+        for place in [1, 3, 4, 5] {
+            for number in [3, 4, 511, 512, 513, 514, 1_024, 65_534, 65_535] {
+                let mut other = note;
+                other[place] = number;
+                take_back_refused(&file, &along_the_ring(9), 9, &other, 21);
+            }
+            for more in 1..3 {
+                let mut other = note;
+                other[place] = (note[place] + more) % 3;
+                take_back_refused(&file, &along_the_ring(9), 9, &other, 21);
+            }
+        }
+        // The destinations' own numbers are not read.
+        for place in [2, 6] {
+            for number in [0, 1, 2, 3, 512, 65_534] {
+                let mut other = note;
+                other[place] = number;
+                taken_back(
+                    &file,
+                    &along_the_ring(9),
+                    9,
+                    &other,
+                    (&along_the_ring(left), left),
+                );
+            }
+        }
+    }
+}
+
+/// The sample study with links both ways: nodes without trips may be passed.
+fn both_ways() -> Draft {
+    let mut draft = sample();
+    draft
+        .links
+        .extend([[1, 0, 10, 10, 2], [2, 1, 5, 9, 3], [0, 2, 8, 0, 1]]);
+    draft.trips = vec![vec![3, 0, 0], vec![0, 5, 0]];
+    draft
+}
+
+#[test]
+fn question_21_walks() {
+    let file = both_ways().file();
+    // To 1 from 0: straight, or by 2. To 2 from 1: straight, or by 0.
+    let table = [20, 0, 0, 0, 10, 10, 0, 40, 0, 10, 0, 10];
+    assert_eq!(audit(&file, &table, 10).refusal, 0);
+    for (links, number) in [
+        ([0, 9, 9, 9, 1, 9], 0),
+        ([5, 9, 4, 9, 1, 9], 0),
+        ([0, 9, 9, 5, 3, 9], 0),
+        // Round by 2, which has no trips of its own.
+        ([5, 9, 2, 9, 1, 9], 21),
+        ([0, 9, 9, 0, 3, 9], 21),
+        ([5, 9, 65_535, 9, 1, 9], 21),
+        ([5, 9, 5, 9, 1, 9], 21),
+        ([0, 9, 9, 65_535, 3, 9], 21),
+        // Nobody comes to where these go round.
+        ([0, 3, 2, 0, 1, 2], 0),
+        ([0, 1, 2, 2, 1, 4], 0),
+    ] {
+        let note = [[1].as_slice(), &links].concat();
+        let answer = take_back(&file, &mut table.clone(), 10, &note);
+        assert_eq!(
+            (answer.refusal, answer.share),
+            (number, if number == 0 { 9 } else { 0 })
+        );
+        take_back_refused(&file, &table, 9, &note, 16);
+    }
+}
+
+/// A line that goes on for as many links as a walk can have.
+#[test]
+fn question_21_longest_walk() {
+    let links: Vec<DraftLink> = (0..127)
+        .flat_map(|node| [[node, node + 1, 3, 1, 9], [node + 1, node, 3, 1, 9]])
+        .collect();
+    let mut trips = vec![0; 128];
+    trips[0] = 2;
+    let draft = Draft {
+        nodes: 128,
+        links,
+        destinations: vec![127],
+        trips: vec![trips],
+    };
+    let file = draft.file();
+    let mut table = vec![0; 254];
+    assert_eq!(start(&file, &mut table), 0);
+    let doubled: Vec<u32> = table.iter().map(|flow| 2 * flow).collect();
+    let mut note: Vec<u16> = vec![1];
+    note.extend((0..127).map(|node| 2 * node));
+    note.push(65_535);
+    taken_back(&file, &doubled, 2, &note, (&table, 1));
+    // Back by one, from anywhere.
+    for node in 1..127 {
+        let mut other = note.clone();
+        other[1 + node] = 2 * node as u16 - 1;
+        take_back_refused(&file, &doubled, 2, &other, 21);
+    }
+}
+
+#[test]
+fn question_21_forbidden_links() {
+    // To 1 from 0 by 2 or straight, to 2 from 1 by 0 or straight.
+    let by_2 = [1, 5, 9, 4, 9, 1, 9];
+    let by_0 = [1, 0, 9, 9, 5, 3, 9];
+    let straight = [1, 0, 9, 9, 9, 1, 9];
+    // Flow on all these ways, and on the straight ones only.
+    let spread = [20, 0, 0, 0, 10, 10, 0, 40, 0, 10, 0, 10];
+    let plain = [30, 0, 0, 0, 0, 0, 0, 50, 0, 0, 0, 0];
+    for (closed, table, note, number) in [
+        ([].as_slice(), spread, by_2, 0),
+        (&[], spread, by_0, 0),
+        (&[1], spread, by_2, 0),
+        (&[1], spread, by_0, 0),
+        (&[0], spread, by_2, 20),
+        (&[2], spread, by_0, 20),
+        (&[2], plain, by_2, 21),
+        (&[2], plain, by_0, 22),
+        (&[2], plain, straight, 0),
+        (&[0], plain, by_2, 22),
+        (&[0], plain, by_0, 21),
+        (&[0], plain, straight, 0),
+        (&[1, 2], plain, by_2, 21),
+        (&[0, 1, 2], plain, by_2, 21),
+        (&[0, 1, 2], plain, by_0, 21),
+        (&[0, 1, 2], plain, straight, 0),
+        (&[], plain, by_2, 22),
+        (&[1], plain, by_2, 22),
+        (&[], plain, straight, 0),
+    ] {
+        let file = both_ways().closing(closed).file();
+        if number != 0 {
+            take_back_refused(&file, &table, 10, &note, number);
+            continue;
+        }
+        let mut left = table;
+        for (place, trips) in [
+            (usize::from(note[1]), 3),
+            (6 + usize::from(note[5]), 5),
+            (4, 3 * u32::from(note == by_2)),
+            (11, 5 * u32::from(note == by_0)),
+        ] {
+            left[place] -= trips;
+        }
+        taken_back(&file, &table, 10, &note, (&left, 9));
+    }
+}
+
+#[test]
+fn question_22_loadings() {
+    let file = sample().file();
+    let with_step = |step: u16| {
+        let mut note = RING;
+        note[0] = step;
+        note
+    };
+    for share in [1, 2, 9, 64, 65, 1_023, 1_024] {
+        let table = along_the_ring(share);
+        for step in [
+            1, 2, 8, 9, 10, 63, 64, 65, 1_022, 1_023, 1_024, 1_025, 65_535,
+        ] {
+            let left = share.saturating_sub(u32::from(step));
+            if left > 0 {
+                let less = along_the_ring(left);
+                taken_back(&file, &table, share, &with_step(step), (&less, left));
+            } else {
+                take_back_refused(&file, &table, share, &with_step(step), 22);
+            }
+            // 21 comes first.
+            for place in [1, 3, 4, 5] {
+                let mut other = with_step(step);
+                other[place] = 65_535;
+                take_back_refused(&file, &table, share, &other, 21);
+            }
+        }
+    }
+}
+
+/// An entry that is exactly its part of the loading, and one that is smaller by
+/// one, at every place.
+#[test]
+fn question_22_entries() {
+    // Two links side by side for each one of the ring.
+    let mut draft = sample();
+    draft.links.extend(draft.links.clone());
+    let file = draft.file();
+    let loading = [5, 0, 2, 0, 0, 0, 4, 9, 0, 0, 0, 0];
+    for (share, step) in [(2, 1), (9, 4), (1_024, 1_023)] {
+        let mut note = [step, 0, 9, 2, 0, 1, 9];
+        note[0] = step;
+        let part = loading.map(|flow| flow * u32::from(step));
+        for place in [0, 2, 6, 7] {
+            for (kept, number) in [(0, 0), (1, 0), (-1, 22)] {
+                // What is not taken back goes by the other link.
+                let mut table = loading.map(|flow| flow * share);
+                let moved = table[place] - part[place].wrapping_add_signed(kept);
+                table[place] -= moved;
+                table[place + 3] += moved;
+                assert_eq!(audit(&file, &table, share).refusal, 0);
+                if number == 0 {
+                    let mut left = table;
+                    left.iter_mut()
+                        .zip(part)
+                        .for_each(|(flow, part)| *flow -= part);
+                    taken_back(
+                        &file,
+                        &table,
+                        share,
+                        &note,
+                        (&left, share - u32::from(step)),
+                    );
+                } else {
+                    take_back_refused(&file, &table, share, &note, number);
+                }
+            }
+        }
+    }
+}
+
+#[test]
+fn question_22_halves() {
+    let file = sample().file();
+    for share in [2, 8, 512, 1_024] {
+        let table = along_the_ring(share);
+        let half = along_the_ring(share / 2);
+        for note in [[0; 7], [0, 65_535, 65_535, 65_535, 65_535, 65_535, 65_535]] {
+            taken_back(&file, &table, share, &note, (&half, share / 2));
+            // Round the ring, so that all entries of a row are odd.
+            for row in [0, 3] {
+                let mut odd = table;
+                odd[row..row + 3].iter_mut().for_each(|flow| *flow += 1);
+                assert_eq!(audit(&file, &odd, share).refusal, 0);
+                take_back_refused(&file, &odd, share, &note, 22);
+            }
+            // Later numbers do not matter.
+            let longer = [table.as_slice(), &[1, u32::MAX]].concat();
+            let left = [half.as_slice(), &[1, u32::MAX]].concat();
+            taken_back(&file, &longer, share, &note, (&left, share / 2));
+            taken_back(
+                &file,
+                &longer,
+                share,
+                &[note.as_slice(), &[7; 3]].concat(),
+                (&left, share / 2),
+            );
+        }
+        for share in [share - 1, (share + 1).min(1_023)] {
+            take_back_refused(&file, &along_the_ring(share), share, &[0; 7], 22);
+        }
+    }
+    // One odd entry among many even ones: a link side by side with each.
+    let mut draft = sample();
+    draft.links.extend(draft.links.clone());
+    let file = draft.file();
+    let table = [10, 0, 4, 0, 0, 0, 8, 18, 0, 0, 0, 0];
+    taken_back(&file, &table, 2, &[0; 7], (&table.map(|flow| flow / 2), 1));
+    for place in [0, 2, 6, 7] {
+        let mut odd = table;
+        odd[place] -= 1;
+        odd[place + 3] += 1;
+        take_back_refused(&file, &odd, 2, &[0; 7], 22);
+    }
+}
+
+/// With faults for several questions at once, the first one counts: 12, 14, 15,
+/// 16, 20, 21, 22.
+#[test]
+fn the_first_question_counts_in_taking_back() {
+    let mut draft = sample();
+    draft.links.iter_mut().for_each(|link| link[4] = 9);
+    for study in [
+        draft.clone().closing(&[2]),
+        draft.closing(&[2]).with_powers(vec![2; 3]),
+    ] {
+        let file = study.file();
+        let through = round_the_ring(&file, 0, 1);
+        let started = round_the_ring(&file, 0, 0);
+        let (right, wrong, large) = (RING, [1, 1, 0, 0, 0, 0, 0], [1, 0, 9, 2, 0, 1, 9]);
+        for (table, share, note, number) in [
+            (&through[..5], 0, wrong.as_slice(), 12),
+            (&through, 0, &wrong[..6], 12),
+            (&through, 0, &wrong, 14),
+            (&through, 1_025, &wrong, 14),
+            (&round_the_ring(&file, 0, 15), 1, &wrong, 15),
+            (&through, 2, &wrong, 16),
+            (&through, 1, &wrong, 20),
+            (&through, 1, &right, 20),
+            (&started, 1, &wrong, 21),
+            (&started, 1, &right, 22),
+            (&started, 1, &large, 22),
+            (&started, 1, &[0; 7], 22),
+        ] {
+            take_back_refused(&file, table, share, note, number);
+        }
+    }
 }

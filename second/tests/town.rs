@@ -1,11 +1,12 @@
 //! The cases of the town of two roads, of a town with a zone in the middle, and
-//! of the first town with other powers.
+//! of the first town with other powers; at the end, moves of these towns taken
+//! back.
 
 use second::draft::{Draft, Versioned};
 use second::staircase::{LAST_STEP, Road};
 use second::{
-    AuditAnswer, FINEST, MOVED, PassAnswer, REACHED, RUN_FINEST, RunAnswer, SPENT, audit, check,
-    listing, pack, page, page_listing, pass, run, start,
+    AuditAnswer, FINEST, MOVED, PassAnswer, REACHED, RUN_FINEST, RunAnswer, SPENT, TakeBackAnswer,
+    audit, check, listing, pack, page, page_listing, run, start, take_back,
 };
 
 const LINK_0: Road = Road {
@@ -23,6 +24,11 @@ const LINK_1: Road = Road {
 
 fn town() -> Vec<u8> {
     Draft::town().file()
+}
+
+/// A pass whose note nobody looks at.
+fn pass(file: &[u8], table: &mut [u32], share: u32) -> PassAnswer {
+    second::pass(file, table, share, &mut [0; 8])
 }
 
 fn town_with(change: impl Fn(&mut Draft)) -> Vec<u8> {
@@ -971,5 +977,241 @@ fn packing_version_3() {
     assert_eq!(again[..], study.file());
     for (length, number) in [(81, 17), (86, 17), (87, 0)] {
         assert_eq!(pack(&file, &mut vec![0; length]), number);
+    }
+}
+
+/// A taking back that is made and leaves this share.
+fn left(share: u32) -> TakeBackAnswer {
+    TakeBackAnswer { refusal: 0, share }
+}
+
+/// Taking back is refused with this number and leaves the table as it was.
+#[track_caller]
+fn not_taken_back(file: &[u8], table: &[u32], share: u32, note: &[u16], number: u8) {
+    let mut after = table.to_vec();
+    let expected = TakeBackAnswer {
+        refusal: number,
+        share: 0,
+    };
+    assert_eq!(take_back(file, &mut after, share, note), expected);
+    assert_eq!(after, table);
+}
+
+/// P7 with its note, and back. Numbers after the first p·m and 1 + p·n are
+/// untouched.
+#[test]
+fn a_move_and_back() {
+    let mut table = [16, 0, 77];
+    let mut note = [5, 6, 7, 8];
+    let answer = second::pass(&town(), &mut table, 8, &mut note);
+    assert_eq!((answer.outcome, answer.share), (MOVED, 9));
+    assert_eq!((table, note), ([16, 2, 77], [1, 1, 65_535, 8]));
+    assert_eq!(take_back(&town(), &mut table, 9, &note), left(8));
+    assert_eq!((table, note), ([16, 0, 77], [1, 1, 65_535, 8]));
+}
+
+#[test]
+fn a_doubling_and_back() {
+    let mut table = [2, 0, 77];
+    let mut note = [5, 6, 7, 8];
+    let answer = second::pass(&town(), &mut table, 1, &mut note);
+    assert_eq!((answer.outcome, answer.share), (MOVED, 2));
+    assert_eq!((table, note), ([4, 0, 77], [0, 65_535, 65_535, 8]));
+    assert_eq!(take_back(&town(), &mut table, 2, &note), left(1));
+    assert_eq!((table, note), ([2, 0, 77], [0, 65_535, 65_535, 8]));
+}
+
+/// 'Finest' and refusals leave the note as it was.
+#[test]
+fn no_move_and_no_note() {
+    for (table, share, refusal) in [
+        ([0, 2_048].as_slice(), 1_024, 0),
+        (&[2, 0], 0, 14),
+        (&[3, 0], 1, 15),
+        (&[1, 0], 1, 16),
+        (&[2], 1, 12),
+    ] {
+        let mut after = table.to_vec();
+        let mut note = [5, 6, 7, 8];
+        let answer = second::pass(&town(), &mut after, share, &mut note);
+        assert_eq!((answer.refusal, answer.outcome == MOVED), (refusal, false));
+        assert_eq!((after.as_slice(), note), (table, [5, 6, 7, 8]));
+    }
+}
+
+/// From the start to the fifth table and all the way back, with the notes kept.
+#[test]
+fn all_moves_of_a_run_and_back() {
+    let mut table = [0; 2];
+    assert_eq!(start(&town(), &mut table), 0);
+    let mut share = 1;
+    let mut moves = Vec::new();
+    for _ in 0..4 {
+        let mut note = [9; 3];
+        let before = (table, share);
+        share = second::pass(&town(), &mut table, share, &mut note).share;
+        moves.push((before, note));
+    }
+    assert_eq!((table, share), ([16, 2], 9));
+    let steps: Vec<u16> = moves.iter().map(|(_, note)| note[0]).collect();
+    assert_eq!(steps, [0, 0, 0, 1]);
+    for (before, note) in moves.into_iter().rev() {
+        assert_eq!(take_back(&town(), &mut table, share, &note), left(before.1));
+        share = before.1;
+        assert_eq!((table, share), before);
+    }
+}
+
+/// Notes that do not lead from node 0 to the destination.
+#[test]
+fn notes_that_do_not_lead() {
+    for link in [2, 3, 511, 512, 513, 1_024, 65_534, 65_535] {
+        not_taken_back(&town(), &[16, 2], 9, &[1, link, 65_535], 21);
+    }
+    // A link of another node, and links that go round.
+    let file = town_with(|draft| {
+        draft.nodes = 3;
+        draft.links.extend([[2, 0, 5, 0, 1], [0, 2, 5, 0, 1]]);
+        draft.trips[0] = vec![2, 0, 0];
+    });
+    let table = [16, 2, 0, 0];
+    not_taken_back(&file, &table, 9, &[1, 2, 65_535, 0], 21);
+    not_taken_back(&file, &table, 9, &[1, 3, 65_535, 2], 21);
+    not_taken_back(&file, &table, 9, &[1, 3, 65_535, 65_535], 21);
+    not_taken_back(&file, &table, 9, &[1, 3, 65_535, 3], 21);
+    for node_2 in [0, 2, 3, 4, 65_535] {
+        for destination in [0, 1, 3, 9, 65_535] {
+            let mut after = table;
+            let note = [1, 1, destination, node_2];
+            assert_eq!(take_back(&file, &mut after, 9, &note), left(8));
+            assert_eq!(after, [16, 0, 0, 0]);
+        }
+    }
+}
+
+/// j at and above the share, and entries smaller than their part.
+#[test]
+fn too_much_to_take_back() {
+    for (table, share, note, number) in [
+        ([16, 2], 9, [1, 1, 0], 0),
+        ([16, 2], 9, [1, 0, 0], 0),
+        ([16, 2], 9, [2, 1, 0], 22),
+        ([16, 2], 9, [8, 0, 0], 0),
+        ([16, 2], 9, [8, 1, 0], 22),
+        ([18, 0], 9, [8, 0, 0], 0),
+        ([18, 0], 9, [9, 0, 0], 22),
+        ([18, 0], 9, [10, 0, 0], 22),
+        ([18, 0], 9, [1_024, 0, 0], 22),
+        ([18, 0], 9, [1_025, 0, 0], 22),
+        ([18, 0], 9, [65_535, 0, 0], 22),
+        ([18, 0], 9, [65_535, 2, 0], 21),
+        ([18, 0], 9, [9, 65_535, 0], 21),
+        ([18, 0], 9, [1, 1, 0], 22),
+        ([2, 0], 1, [1, 0, 0], 22),
+        ([2_048, 0], 1_024, [1_023, 0, 0], 0),
+        ([2_047, 1], 1_024, [1_023, 0, 0], 0),
+        ([2_045, 3], 1_024, [1_023, 0, 0], 22),
+        ([2_048, 0], 1_024, [1_024, 0, 0], 22),
+    ] {
+        if number != 0 {
+            not_taken_back(&town(), &table, share, &note, number);
+            continue;
+        }
+        let step = u32::from(note[0]);
+        let mut after = table;
+        assert_eq!(
+            take_back(&town(), &mut after, share, &note),
+            left(share - step)
+        );
+        let mut expected = table;
+        expected[usize::from(note[1])] -= 2 * step;
+        assert_eq!(after, expected);
+    }
+}
+
+/// Odd entries and shares cannot be halved; the links of the note are not
+/// looked at, nor are numbers after the first p·m.
+#[test]
+fn halving() {
+    for (table, share, number) in [
+        ([16, 4, 7], 10, 0),
+        ([20, 0, 7], 10, 0),
+        ([17, 3, 7], 10, 22),
+        ([16, 2, 6], 9, 22),
+        ([2, 0, 6], 1, 22),
+        ([1_024, 1_024, 1], 1_024, 0),
+        ([1_023, 1_025, 1], 1_024, 22),
+        ([1_024, 1_022, 1], 1_023, 22),
+    ] {
+        for links in [[65_535, 65_535], [0, 0], [2, 9], [1, 0]] {
+            let note = [0, links[0], links[1]];
+            if number != 0 {
+                not_taken_back(&town(), &table, share, &note, number);
+                continue;
+            }
+            let mut after = table;
+            assert_eq!(
+                take_back(&town(), &mut after, share, &note),
+                left(share / 2)
+            );
+            assert_eq!(after, [table[0] / 2, table[1] / 2, table[2]]);
+        }
+    }
+}
+
+/// The questions in their order: 12, 14, 15, 16, 21, 22.
+#[test]
+fn refused_takings_back() {
+    for (table, share, note, number) in [
+        ([16].as_slice(), 0, [9, 9].as_slice(), 12),
+        (&[16], 9, &[1, 1, 0], 12),
+        (&[16, 2], 0, &[9, 9], 12),
+        (&[16, 2], 0, &[1], 12),
+        (&[16, 2], 0, &[], 12),
+        (&[19, 0], 0, &[9, 9, 9], 14),
+        (&[19, 0], 1_025, &[9, 9, 9], 14),
+        (&[19, 0], 9, &[9, 9, 9], 15),
+        (&[16, 1], 9, &[9, 9, 9], 16),
+        (&[16, 2], 9, &[9, 9, 9], 21),
+        (&[16, 2], 9, &[9, 1, 9], 22),
+        (&[16, 2], 9, &[2, 1, 9], 22),
+    ] {
+        not_taken_back(&town(), table, share, note, number);
+    }
+}
+
+/// Through a closed zone nothing is taken back: the links into it are not
+/// permitted, and a table with flow there is refused before.
+#[test]
+fn a_note_through_the_zone() {
+    let [first, open, closed] = middles();
+    for file in [&first, &open] {
+        let mut table = [16, 24, 0];
+        assert_eq!(take_back(file, &mut table, 8, &[1, 0, 1, 9]), left(7));
+        assert_eq!(table, [14, 21, 0]);
+    }
+    not_taken_back(&closed, &[16, 24, 0], 8, &[1, 0, 1, 9], 20);
+    not_taken_back(&closed, &[0, 8, 16], 8, &[1, 0, 1, 9], 21);
+    // The zone's own trips leave it, and the others go round it.
+    let mut table = [0, 8, 16];
+    assert_eq!(take_back(&closed, &mut table, 8, &[1, 2, 1, 9]), left(7));
+    assert_eq!(table, [0, 7, 14]);
+    let mut note = [9; 4];
+    let answer = second::pass(&closed, &mut table, 7, &mut note);
+    assert_eq!((answer.share, note), (71, [64, 2, 1, 65_535]));
+    assert_eq!(table, [0, 71, 142]);
+}
+
+/// With other powers the moves are others, and all are taken back.
+#[test]
+fn back_with_each_power() {
+    for (power, step) in [(1, 8), (2, 3), (3, 2), (4, 1)] {
+        let file = town_of_power(power).file();
+        let mut table = [16, 0];
+        let mut note = [0; 3];
+        let answer = second::pass(&file, &mut table, 8, &mut note);
+        assert_eq!(note, [step, 1, 65_535]);
+        assert_eq!(take_back(&file, &mut table, answer.share, &note), left(8));
+        assert_eq!(table, [16, 0]);
     }
 }

@@ -1,18 +1,10 @@
 -- The answers of accepted calls, from what the judging of a table gives.
 use Prim.Native.Nat.{ℕ}
-use mathlib.Core.Bool.{Bool, true, false}
 use Rattle.calls.specs.declared.Ending.{Ending}
 use Rattle.calls.specs.declared.Ending.the-variants as ending
-use Rattle.calls.specs.declared.Outcome.{Outcome}
-use Rattle.calls.specs.declared.Outcome.the-variants as outcome
 use Rattle.calls.specs.declared.RunAnswer.{RunAnswer}
 use Rattle.judging.specs.declared.Step.{Step}
 use Rattle.judging.specs.declared.Step.the-variants as step
-
--- What a pass answers, by whether it moved the table.
-abbrev pub outcomeOf : Bool → Outcome
-outcomeOf true = outcome.Moved
-outcomeOf false = outcome.Finest
 
 -- How a run ends, by the step of its last turn. A step that moves ends nothing.
 abbrev pub endingOf : Step → Ending

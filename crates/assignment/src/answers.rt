@@ -1,10 +1,8 @@
 // The answers of refused calls: the number, and 0 in every other field.
 ghost use mathlib.Core.Path.{_≡_};
-ghost use Rattle.calls.specs.Laws.Calls.{refusedAudit, refusedPass, refusedRun};
+ghost use Rattle.calls.specs.Laws.Calls.{refusedAudit, refusedRun};
 use calls::AuditAnswer;
 use calls::Ending;
-use calls::Outcome;
-use calls::PassAnswer;
 use calls::RunAnswer;
 
 pub fn refused_audit(number: u8) -> AuditAnswer
@@ -14,19 +12,6 @@ pub fn refused_audit(number: u8) -> AuditAnswer
         refusal: number,
         gap: 0,
         cost: 0,
-        over: 0,
-    }
-}
-
-pub fn refused_pass(number: u8) -> PassAnswer
-    ensures { λ r. ⌜ r ≡ refusedPass number ⌝ }
-{
-    PassAnswer {
-        refusal: number,
-        outcome: Outcome::Refused,
-        gap: 0,
-        cost: 0,
-        share: 0,
         over: 0,
     }
 }

@@ -1,13 +1,13 @@
 ghost use mathlib.Core.Path.{_≡_};
 ghost use lib.ListN.{length};
 ghost use Rattle.network.specs.Decoded.{Room};
-ghost use Rattle.assignment.specs.Places.{curvePlaces};
+ghost use Rattle.refusals.specs.Places.{curvePlaces};
 ghost use Rattle.calls.specs.Calls.{startNumber, startTable};
-use crate::places::curve_places;
-use crate::places::is_small;
-use crate::refusals::start_refusal;
 use network::SHORT_ENTRIES;
 use network::SHORT_LINKS;
+use refusals::curve_places;
+use refusals::is_small;
+use refusals::start_refusal;
 use travel::ALL_LISTS;
 use travel::ONE_LIST;
 

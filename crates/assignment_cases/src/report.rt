@@ -4,6 +4,7 @@ use calls::Ending;
 use calls::Outcome;
 use calls::PassAnswer;
 use calls::RunAnswer;
+use calls::TakeBackAnswer;
 use case_lines::print;
 use case_lines::text;
 
@@ -42,6 +43,13 @@ pub fn pass(share: u32, answer: PassAnswer) {
     );
 }
 
+pub fn take_back(share: u32, answer: TakeBackAnswer) {
+    print(
+        b": taking back at share #, refusal #, share #",
+        &[share as u64, answer.refusal as u64, answer.share as u64],
+    );
+}
+
 pub fn run(budget: u32, excess: u16, answer: RunAnswer) {
     print(
         b": run with budget # and excess #, refusal #",
@@ -76,6 +84,18 @@ fn name_ending(ending: Ending) {
         Ending::Finest => text(b", finest"),
         Ending::Spent => text(b", spent"),
     }
+}
+
+// The numbers of the note.
+pub fn noted(note: &[u16]) {
+    text(b", note");
+    for i in 0..note.len() {
+        entry(note[i]);
+    }
+}
+
+fn entry(x: u16) {
+    print(b" #", &[x as u64]);
 }
 
 // The numbers of the table, and the end of the line.

@@ -11,8 +11,9 @@ use Rattle.theory.specs.Network.{Network}
 use Rattle.theory.specs.Flows.{over}
 use Rattle.theory.specs.Cost.{cost, gap}
 use Rattle.theory.specs.Moves.{Shared, started, move, moves, reaches, judged, lastJudged}
+use Rattle.theory.specs.Notes.{noteOf, takenBack}
 use Rattle.calls.specs.Study.{networkOf}
-use Rattle.calls.specs.Questions.{checkQuestions, packQuestions, startQuestions, runQuestions, tableQuestions, pageQuestions}
+use Rattle.calls.specs.Questions.{checkQuestions, packQuestions, startQuestions, runQuestions, tableQuestions, pageQuestions, passQuestions, takeBackQuestions}
 use Rattle.calls.specs.Pack.{packed}
 use Rattle.calls.specs.Page.{pageOf}
 use Rattle.calls.specs.declared.Ending.{Ending}
@@ -22,6 +23,7 @@ use Rattle.calls.specs.declared.Outcome.the-variants as outcome
 use Rattle.calls.specs.declared.RunAnswer.{RunAnswer}
 use Rattle.calls.specs.declared.PassAnswer.{PassAnswer}
 use Rattle.calls.specs.declared.AuditAnswer.{AuditAnswer}
+use Rattle.calls.specs.declared.TakeBackAnswer.{TakeBackAnswer}
 
 -- The numbers of the cases of an answer, as another language reads them: a refusal has 0.
 abbrev pub endingNumber : Ending → ℕ
@@ -62,7 +64,7 @@ unfoldable pub startTable : List ℕ → List ℕ → List ℕ
 startTable file table =
     unlessRefused (startNumber file table) (overwritten (started (networkOf file) .table) table) table
 
--- Pass and audit put the same questions to a table and a share.
+-- Audit puts questions to a table and a share.
 unfoldable pub tableNumber : List ℕ → List ℕ → ℕ → ℕ
 tableNumber file table share = firstNo (tableQuestions file table share)
 
@@ -88,11 +90,19 @@ abbrev pub tableAfter : List ℕ → Option Shared → List ℕ
 tableAfter table none = table
 tableAfter table (some x) = overwritten (x .table) table
 
+abbrev pub noteAfter : List ℕ → List ℕ → Option Shared → List ℕ
+noteAfter new note none = note
+noteAfter new note (some x) = overwritten new note
+
+-- Pass puts the same questions, and question 12 to the note that it is lent too (A.6).
+unfoldable pub passNumber : List ℕ → List ℕ → ℕ → List ℕ → ℕ
+passNumber file table share note = firstNo (passQuestions file table share note)
+
 -- Pass answers moved or finest, with the gap and cost of the judged table, the new share, and how many links of the judged table are over.
-unfoldable pub passAnswer : List ℕ → List ℕ → ℕ → PassAnswer
-passAnswer file table share =
+unfoldable pub passAnswer : List ℕ → List ℕ → ℕ → List ℕ → PassAnswer
+passAnswer file table share note =
     let g = networkOf file in
-    elim (tableNumber file table share) [
+    elim (passNumber file table share note) [
       | zero ↦ let next = move g (record { table = table; share = share }) in
           record {
             refusal = 0;
@@ -105,10 +115,33 @@ passAnswer file table share =
       | suc number ↦ record { refusal = suc number; outcome = outcome.Refused; gap = 0; cost = 0; share = 0; over = 0 }
     ]
 
-unfoldable pub passTable : List ℕ → List ℕ → ℕ → List ℕ
-passTable file table share =
-    unlessRefused (tableNumber file table share)
+unfoldable pub passTable : List ℕ → List ℕ → ℕ → List ℕ → List ℕ
+passTable file table share note =
+    unlessRefused (passNumber file table share note)
     (tableAfter table (move (networkOf file) (record { table = table; share = share })))
+    table
+
+-- Pass fills the note where it moves the table (A.6); 'finest' leaves the note as it was.
+unfoldable pub passNote : List ℕ → List ℕ → ℕ → List ℕ → List ℕ
+passNote file table share note =
+    let x : Shared = record { table = table; share = share } in
+    unlessRefused (passNumber file table share note) (noteAfter (noteOf (networkOf file) x) note (move (networkOf file) x)) note
+
+-- Taking back (A.6), with the note that it is handed, which it leaves as it was: it returns the resulting share.
+unfoldable pub takeBackNumber : List ℕ → List ℕ → ℕ → List ℕ → ℕ
+takeBackNumber file table share note = firstNo (takeBackQuestions file table share note)
+
+unfoldable pub takeBackAnswer : List ℕ → List ℕ → ℕ → List ℕ → TakeBackAnswer
+takeBackAnswer file table share note =
+    elim (takeBackNumber file table share note) [
+      | zero ↦ record { refusal = 0; share = takenBack (networkOf file) (record { table = table; share = share }) note .share }
+      | suc number ↦ record { refusal = suc number; share = 0 }
+    ]
+
+unfoldable pub takeBackTable : List ℕ → List ℕ → ℕ → List ℕ → List ℕ
+takeBackTable file table share note =
+    unlessRefused (takeBackNumber file table share note)
+    (overwritten (takenBack (networkOf file) (record { table = table; share = share }) note .table) table)
     table
 
 -- A run puts the questions of a start, and question 13 to its budget.

@@ -17,18 +17,20 @@ use Rattle.study.specs.Fields.{tail, head, freeTime, rise, capacity, power as p
 use Rattle.theory.specs.Finite.{sum, all, first, largest, tabulate, rows}
 use Rattle.theory.specs.Network.{Network, totalTrips}
 use Rattle.theory.specs.Flows.{linkTotal, total, sumAt, balances, conserves, permits, totalsFit, step, stepTime, timeAt, times, overAt, over}
-use Rattle.theory.specs.Routes.{routing, IsPath, leastOf, fromHead, round, rounds, distances, fitsNext, nextLinks, walk, loadingRow, loading}
+use Rattle.theory.specs.Routes.{routing, IsPath, leastOf, fromHead, round, rounds, distances, fitsNext, nextLinks, walk, sentAlong, loadingRow, loading}
 use Rattle.theory.specs.Cost.{staircase, linkCost, cost, leastTimes, spentTimes, gap}
 use Rattle.theory.specs.Moves.{started, movedTimes, qualifies, chosen, added, doubled, move, afterMoves, reaches, stops, judged, lastJudged}
-use Rattle.theory.specs.Study.{mayUse, network}
+use Rattle.theory.specs.Notes.{nextMarks, noteOf, leavesBy, notedLinks, leadsFrom, noteLeads, noteLoading, canTakeBack, takenBack}
+use Rattle.theory.specs.Study.{mayUse, network, linkMark}
 use Rattle.theory.specs.Marks.{bit, marked, onlyNode, nodesBelow, union, lowest, unvisited, lowestUnvisited}
 use Rattle.calls.specs.Study.{linkRow, linkRows, destinationNodes, tripEntries, networkOf}
-use Rattle.calls.specs.Questions.{endsFit, timesFit, destinationsFit, closedFit, noTripsWithin, totalFits, hasPath, tripsReach, tableHolds, budgetFits, shareFits}
-use Rattle.calls.specs.Questions.{packedSize, outputHolds, studyQuestions, shareQuestions, checkQuestions, packQuestions, startQuestions, runQuestions, tableQuestions, pageHolds, pageQuestions}
+use Rattle.calls.specs.Questions.{endsFit, timesFit, destinationsFit, closedFit, noTripsWithin, totalFits, hasPath, tripsReach, tableHolds, noteHolds, budgetFits, shareFits}
+use Rattle.calls.specs.Questions.{packedSize, outputHolds, studyQuestions, shareQuestions, checkQuestions, packQuestions, startQuestions, runQuestions, tableQuestions, pageHolds, pageQuestions, noteQuestions, passQuestions, takeBackQuestions}
+use Rattle.calls.specs.declared.Outcome.the-variants as outcome
 use Rattle.calls.specs.Pack.{bytes16, bytes32, packedHeader, packed}
 use Rattle.calls.specs.Page.{volume, pageLine, lineOf, pageOf}
 use Rattle.calls.specs.Calls.{endingNumber, overwritten, checkNumber, packNumber, packOutput, startNumber, startTable, tableNumber, auditAnswer}
-use Rattle.calls.specs.Calls.{passAnswer, passTable, runNumber, endingAt, runAnswer, runTable, pageNumber, pageSlice}
+use Rattle.calls.specs.Calls.{passNumber, passAnswer, passTable, passNote, takeBackNumber, takeBackAnswer, takeBackTable, outcomeNumber, runNumber, endingAt, runAnswer, runTable, pageNumber, pageSlice}
 
 -- n 2, m 2, p 1; links (tail, head, a, b, c): 0 1 10 10 2 and 0 1 15 0 1; destination 1; trips 2, 0. File 58 bytes.
 unfoldable pub town : List ℕ
@@ -118,6 +120,18 @@ curvedTown low high =
     ++ (2 ∷ 0 ∷ 0 ∷ 0 ∷ [])
     ++ (0 ∷ 0 ∷ [])
 
+-- A.6: three nodes in a row, with a road back: links 0 1 5 0 1, 1 0 5 0 1 and 1 2 5 0 1; destination 2; as many trips as is said from
+-- node 0. File 70 bytes.
+unfoldable pub ringTown : ℕ → List ℕ
+ringTown count =
+    1 ∷ 0 ∷ 3 ∷ 0 ∷ 3 ∷ 0 ∷ 1 ∷ 0 ∷ []
+    ++ (32 ∷ 0 ∷ 0 ∷ 0 ∷ 30 ∷ 0 ∷ 0 ∷ 0 ∷ 62 ∷ 0 ∷ 0 ∷ 0 ∷ 2 ∷ 0 ∷ 0 ∷ 0 ∷ 64 ∷ 0 ∷ 0 ∷ 0 ∷ 6 ∷ 0 ∷ 0 ∷ 0 ∷ [])
+    ++ (0 ∷ 0 ∷ 1 ∷ 0 ∷ 5 ∷ 0 ∷ 0 ∷ 0 ∷ 1 ∷ 0 ∷ [])
+    ++ (1 ∷ 0 ∷ 0 ∷ 0 ∷ 5 ∷ 0 ∷ 0 ∷ 0 ∷ 1 ∷ 0 ∷ [])
+    ++ (1 ∷ 0 ∷ 2 ∷ 0 ∷ 5 ∷ 0 ∷ 0 ∷ 0 ∷ 1 ∷ 0 ∷ [])
+    ++ (2 ∷ 0 ∷ [])
+    ++ (count ∷ 0 ∷ 0 ∷ 0 ∷ 0 ∷ 0 ∷ [])
+
 -- A case: what the definitions give, and what the paper says.
 pub record Case : Type 0 where
   pub found : List ℕ
@@ -164,6 +178,24 @@ abbrev pub curve : ℕ → List ℕ
 curve q =
     let time : ℕ → ℕ = λ flow. timeAt (networkOf (curvedTown q 0)) 64 (λ l. flow) 0 in
     time 0 ∷ time 2 ∷ time 126 ∷ time 128 ∷ time 130 ∷ time 510 ∷ time 512 ∷ []
+
+-- A.6: a note for the town, and what a pass of the town leaves with it: its outcome, the new share, the table and the note.
+abbrev pub blank : List ℕ
+blank = 7 ∷ 7 ∷ 7 ∷ []
+
+abbrev pub passed : List ℕ → ℕ → List ℕ → List ℕ
+passed table share note =
+    let a = passAnswer town table share note in
+    outcomeNumber (a .outcome) ∷ a .share ∷ passTable town table share note ++ passNote town table share note
+
+-- The number of a taking back from a table round the zone, with a note of j = 1 and these links.
+abbrev pub noted : List ℕ → ℕ
+noted links = takeBackNumber (zoneTown 0 1) (0 ∷ 2 ∷ 4 ∷ 4 ∷ []) 2 (1 ∷ links)
+
+-- What a taking back answers, and the table that it leaves.
+abbrev pub back : List ℕ → List ℕ → ℕ → List ℕ → List ℕ
+back file table share note =
+    let a = takeBackAnswer file table share note in a .refusal ∷ a .share ∷ takeBackTable file table share note
 
 -- The gap and cost that an audit answers.
 abbrev pub audited : List ℕ → List ℕ → ℕ → List ℕ
@@ -256,7 +288,7 @@ cases =
     -- Links over, in tables of the town: both, one of them, none; none on empty roads.
     ∷ case (over g 1 (8 ∷ 4 ∷ []) ∷ over g 1 (8 ∷ 3 ∷ []) ∷ over g 1 (7 ∷ 3 ∷ []) ∷ over g 1 (0 ∷ 0 ∷ []) ∷ []) (2 ∷ 1 ∷ 0 ∷ 0 ∷ [])
     -- A pass answers the count of the table that it judged, not of the one that it leaves.
-    ∷ case (passAnswer busyTown (8 ∷ 0 ∷ []) 1 .over ∷ passAnswer busyTown (8 ∷ 0 ∷ []) 1 .share ∷ passTable busyTown (8 ∷ 0 ∷ []) 1) (1 ∷ 4 ∷ 8 ∷ 24 ∷ [])
+    ∷ case (passAnswer busyTown (8 ∷ 0 ∷ []) 1 blank .over ∷ passAnswer busyTown (8 ∷ 0 ∷ []) 1 blank .share ∷ passTable busyTown (8 ∷ 0 ∷ []) 1 blank) (1 ∷ 4 ∷ 8 ∷ 24 ∷ [])
     ∷ case (auditAnswer busyTown (8 ∷ 0 ∷ []) 1 .over ∷ auditAnswer busyTown (8 ∷ 24 ∷ []) 4 .over ∷ []) (1 ∷ 0 ∷ [])
     -- Runs: one that its budget ends at the first table; the listing has `over 0`.
     ∷ case (runAnswer busyTown (7 ∷ 7 ∷ []) 1 0 .over ∷ runAnswer town (7 ∷ 7 ∷ []) 10 0 .over ∷ []) (1 ∷ 0 ∷ [])
@@ -277,6 +309,27 @@ cases =
     ∷ case (checkNumber (3 ∷ drop 1 (zoneTown 0 1)) ∷ checkNumber (take 39 (curvedTown 1 0)) ∷ checkNumber (curvedTown 1 0) ∷ []) (5 ∷ 4 ∷ 0 ∷ [])
     -- Pack keeps the powers.
     ∷ case (packOutput (curvedTown 2 0) (replicate 73 7)) (curvedTown 2 0 ++ (7 ∷ []))
+    -- A.6: P7's pass notes j = 1 and link 1 at node 0; taking back restores it. Later numbers of table and note are untouched.
+    ∷ case (passed (16 ∷ 0 ∷ []) 8 blank) (1 ∷ 9 ∷ 16 ∷ 2 ∷ 1 ∷ 1 ∷ 65535 ∷ [])
+    ∷ case (back town (16 ∷ 2 ∷ []) 9 (1 ∷ 1 ∷ 65535 ∷ [])) (0 ∷ 8 ∷ 16 ∷ 0 ∷ [])
+    ∷ case (passed (16 ∷ 0 ∷ 5 ∷ []) 8 (7 ∷ 7 ∷ 7 ∷ 7 ∷ [])) (1 ∷ 9 ∷ 16 ∷ 2 ∷ 5 ∷ 1 ∷ 1 ∷ 65535 ∷ 7 ∷ [])
+    ∷ case (back town (16 ∷ 2 ∷ 5 ∷ []) 9 (1 ∷ 1 ∷ 7 ∷ 7 ∷ [])) (0 ∷ 8 ∷ 16 ∷ 0 ∷ 5 ∷ [])
+    -- A doubling notes j = 0 and no links, which taking back does not look at. 'Finest' leaves the note, and so does a refusal.
+    ∷ case (passed (2 ∷ 0 ∷ []) 1 blank) (1 ∷ 2 ∷ 4 ∷ 0 ∷ 0 ∷ 65535 ∷ 65535 ∷ [])
+    ∷ case (back town (4 ∷ 0 ∷ []) 2 (0 ∷ 65535 ∷ 65535 ∷ []) ++ back town (4 ∷ 0 ∷ []) 2 (0 ∷ 9 ∷ 9 ∷ [])) (0 ∷ 1 ∷ 2 ∷ 0 ∷ 0 ∷ 1 ∷ 2 ∷ 0 ∷ [])
+    ∷ case (passed (1820 ∷ 228 ∷ []) 1024 blank ++ passed (16 ∷ 1 ∷ []) 9 blank) (2 ∷ 1024 ∷ 1820 ∷ 228 ∷ 7 ∷ 7 ∷ 7 ∷ 0 ∷ 0 ∷ 16 ∷ 1 ∷ 7 ∷ 7 ∷ 7 ∷ [])
+    -- Question 12 also wants 1 + p·n numbers of the note, before 14.
+    ∷ case (passNumber town (16 ∷ 0 ∷ []) 0 (7 ∷ 7 ∷ []) ∷ passNumber town (16 ∷ 0 ∷ []) 0 blank ∷ takeBackNumber town (16 ∷ 0 ∷ []) 0 (7 ∷ 7 ∷ []) ∷ []) (12 ∷ 14 ∷ 12 ∷ [])
+    -- 21: at node 0 of the zone's town a link of another node, a forbidden link, no link; and a way home, whatever stands at nodes that it
+    -- does not pass. 20 comes first.
+    ∷ case (noted (1 ∷ 1 ∷ 7 ∷ 3 ∷ []) ∷ noted (0 ∷ 1 ∷ 7 ∷ 3 ∷ []) ∷ noted (4 ∷ 1 ∷ 7 ∷ 3 ∷ []) ∷ noted (2 ∷ 1 ∷ 7 ∷ 3 ∷ []) ∷ []) (21 ∷ 21 ∷ 21 ∷ 0 ∷ [])
+    ∷ case (takeBackNumber (zoneTown 0 1) (4 ∷ 6 ∷ 0 ∷ 0 ∷ []) 2 (1 ∷ 0 ∷ 1 ∷ 7 ∷ 3 ∷ []) ∷ []) (20 ∷ [])
+    -- A cycle of two nodes, and the same cycle where no trips begin.
+    ∷ case (takeBackNumber (ringTown 1) (2 ∷ 0 ∷ 2 ∷ []) 2 (1 ∷ 0 ∷ 1 ∷ 7 ∷ []) ∷ takeBackNumber (ringTown 1) (2 ∷ 0 ∷ 2 ∷ []) 2 (1 ∷ 0 ∷ 2 ∷ 7 ∷ []) ∷ takeBackNumber (ringTown 0) (0 ∷ 0 ∷ 0 ∷ []) 2 (1 ∷ 0 ∷ 1 ∷ 7 ∷ []) ∷ []) (21 ∷ 0 ∷ 0 ∷ [])
+    -- 22: j = W and above 1,024, after 21; an entry smaller than its part; an odd entry; an odd share.
+    ∷ case (takeBackNumber town (16 ∷ 2 ∷ []) 9 (9 ∷ 0 ∷ 7 ∷ []) ∷ takeBackNumber town (16 ∷ 2 ∷ []) 9 (2000 ∷ 0 ∷ 7 ∷ []) ∷ takeBackNumber town (16 ∷ 2 ∷ []) 9 (9 ∷ 2 ∷ 7 ∷ []) ∷ []) (22 ∷ 22 ∷ 21 ∷ [])
+    ∷ case (back town (16 ∷ 2 ∷ []) 9 (2 ∷ 1 ∷ 7 ∷ [])) (22 ∷ 0 ∷ 16 ∷ 2 ∷ [])
+    ∷ case (takeBackNumber town (3 ∷ 1 ∷ []) 2 (0 ∷ 7 ∷ 7 ∷ []) ∷ takeBackNumber town (4 ∷ 2 ∷ []) 3 (0 ∷ 7 ∷ 7 ∷ []) ∷ []) (22 ∷ 22 ∷ [])
     ∷ []
 
 -- One lemma, by computation: the test holds of every case; and what the theorems ask of a study, a table, a share and a budget can be
@@ -315,9 +368,16 @@ pub record Computed : Type 0 where
   pub curved-roads : (links (curvedTown 2 0) ≡ 2) × (version (curvedTown 2 0) ≡ 3)
   pub next-node : found wordEnds (0 ∷ 63 ∷ []) ≡ 64
   pub next-none : found wordEnds wordEnds ≡ 128
+  pub busy-passed : passNumber busyTown (8 ∷ 0 ∷ []) 1 blank ≡ 0
+  pub town-sizes : (g .nodes ≡ 2) × (g .commodities ≡ 1)
+  pub adds : passAnswer town (16 ∷ 0 ∷ []) 8 blank .outcome ≡ outcome.Moved
+  pub doubles : passAnswer town (2 ∷ 0 ∷ []) 1 blank .outcome ≡ outcome.Moved
+  pub none-chosen : chosen g 1 (total g (2 ∷ 0 ∷ [])) (total g (loading g (times g 1 (2 ∷ 0 ∷ [])))) ≡ 0
+  pub rests : passAnswer town (1820 ∷ 228 ∷ []) 1024 blank .outcome ≡ outcome.Finest
+  pub taken-back : takeBackNumber town (16 ∷ 2 ∷ []) 9 (1 ∷ 1 ∷ 7 ∷ []) ≡ 0
 
 pub computed : Computed
-unfolding cases case town strandedTown fullTown busyTown curvedTown zoneTown zoneServed zoneOnly townLines fullLine digitsWithin decimal hundredths aligned u16 u32 versions formOf version nodeField linkField destinationField hasSection offset size closedField lengthFits versionKnown countsFit sectionsApart sectionsInOrder sizesFit opening refusal nodes links destinations closedCount part tail head freeTime rise capacity powerOf destination trips closedByte sum all first largest tabulate rows totalTrips linkTotal sumAt balances conserves permits totalsFit step stepTime times over leastOf fromHead round rounds distances fitsNext nextLinks walk loadingRow loading staircase linkCost cost leastTimes spentTimes gap started movedTimes qualifies chosen added doubled move afterMoves reaches stops judged lastJudged linkRow linkRows destinationNodes tripEntries mayUse network networkOf endsFit timesFit destinationsFit closedFit noTripsWithin totalFits hasPath tripsReach tableHolds budgetFits shareFits packedSize outputHolds studyQuestions shareQuestions checkQuestions packQuestions startQuestions runQuestions tableQuestions bytes16 bytes32 packedHeader packed packNumber packOutput overwritten checkNumber startNumber startTable tableNumber auditAnswer passAnswer passTable runNumber endingAt runAnswer runTable pageHolds pageQuestions pageLine lineOf pageOf pageNumber pageSlice bit marked onlyNode nodesBelow union lowest unvisited lowestUnvisited
+unfolding cases case town strandedTown fullTown busyTown curvedTown zoneTown zoneServed zoneOnly ringTown townLines fullLine digitsWithin decimal hundredths aligned u16 u32 versions formOf version nodeField linkField destinationField hasSection offset size closedField lengthFits versionKnown countsFit sectionsApart sectionsInOrder sizesFit opening refusal nodes links destinations closedCount part tail head freeTime rise capacity powerOf destination trips closedByte sum all first largest tabulate rows totalTrips linkTotal sumAt balances conserves permits totalsFit step stepTime times over leastOf fromHead round rounds distances fitsNext nextLinks walk sentAlong loadingRow loading staircase linkCost cost leastTimes spentTimes gap started movedTimes qualifies chosen added doubled move afterMoves reaches stops judged lastJudged linkRow linkRows destinationNodes tripEntries mayUse network networkOf endsFit timesFit destinationsFit closedFit noTripsWithin totalFits hasPath tripsReach tableHolds noteHolds budgetFits shareFits packedSize outputHolds studyQuestions shareQuestions checkQuestions packQuestions startQuestions runQuestions tableQuestions bytes16 bytes32 packedHeader packed packNumber packOutput overwritten checkNumber startNumber startTable tableNumber auditAnswer passNumber passAnswer passTable passNote takeBackNumber takeBackAnswer takeBackTable runNumber endingAt runAnswer runTable pageHolds pageQuestions noteQuestions passQuestions takeBackQuestions nextMarks noteOf leavesBy notedLinks leadsFrom noteLeads noteLoading canTakeBack takenBack linkMark pageLine lineOf pageOf pageNumber pageSlice bit marked onlyNode nodesBelow union lowest unvisited lowestUnvisited
 computed =
     record {
       every-case-holds = refl;
@@ -353,4 +413,11 @@ computed =
       curved-roads = (refl, refl);
       next-node = refl;
       next-none = refl;
+      busy-passed = refl;
+      town-sizes = (refl, refl);
+      adds = refl;
+      doubles = refl;
+      none-chosen = refl;
+      rests = refl;
+      taken-back = refl;
     }

@@ -16,6 +16,7 @@ use Rattle.theory.specs.Network.{Network, totalTrips}
 use Rattle.theory.specs.Flows.{totalsFit, conserves, permits}
 use Rattle.theory.specs.Routes.{routing, distances, isSome}
 use Rattle.theory.specs.Moves.{tableSize}
+use Rattle.theory.specs.Notes.{noteSize, noteLeads, canTakeBack}
 use Rattle.theory.specs.Study.{freeTime, rise, capacity, power, network}
 use Rattle.calls.specs.Study.{linkRows, destinationNodes, tripEntries, networkOf}
 
@@ -63,6 +64,10 @@ tripsReach g =
 -- 12. Does the flow table hold at least p·m numbers of 32 bits?
 unfoldable pub tableHolds : Network → List ℕ → Bool
 tableHolds g table = leb (tableSize g) (length table)
+
+-- 12 (A.6), of a call that is lent a note: does the note hold at least 1 + p·n numbers of 16 bits?
+unfoldable pub noteHolds : Network → List ℕ → Bool
+noteHolds g note = leb (noteSize g) (length note)
 
 -- 13. Is the budget 1 to 1,024?
 unfoldable pub budgetFits : ℕ → Bool
@@ -132,10 +137,24 @@ startQuestions file table = checkQuestions file ++ (ask 12 (tableHolds (networkO
 unfoldable pub runQuestions : List ℕ → List ℕ → ℕ → List Question
 runQuestions file table budget = startQuestions file table ++ (ask 13 (budgetFits budget) ∷ [])
 
--- pass and audit as start, then 14 to 16 and 20;
+-- audit as start, then 14 to 16 and 20;
 unfoldable pub tableQuestions : List ℕ → List ℕ → ℕ → List Question
 tableQuestions file table share = startQuestions file table ++ shareQuestions (networkOf file) table share
 
--- page (A.1) as the audit, then 18.
+-- page (A.1) as the audit, then 18;
 unfoldable pub pageQuestions : List ℕ → List ℕ → ℕ → List ℕ → List Question
 pageQuestions file table share page = tableQuestions file table share ++ (ask 18 (pageHolds (networkOf file) page) ∷ [])
+
+-- pass (A.6) as the audit, and 12 also of the note;
+unfoldable pub noteQuestions : List ℕ → List ℕ → List ℕ → List Question
+noteQuestions file table note =
+    checkQuestions file ++ (ask 12 (tableHolds (networkOf file) table && noteHolds (networkOf file) note) ∷ [])
+
+unfoldable pub passQuestions : List ℕ → List ℕ → ℕ → List ℕ → List Question
+passQuestions file table share note = noteQuestions file table note ++ shareQuestions (networkOf file) table share
+
+-- taking back (A.6) as pass, then 21 and 22.
+unfoldable pub takeBackQuestions : List ℕ → List ℕ → ℕ → List ℕ → List Question
+takeBackQuestions file table share note =
+    passQuestions file table share note
+    ++ (ask 21 (noteLeads (networkOf file) note) ∷ ask 22 (canTakeBack (networkOf file) (record { table = table; share = share }) note) ∷ [])

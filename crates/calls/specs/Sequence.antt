@@ -7,9 +7,9 @@ use lib.Dec.{eqb}
 use Rattle.theory.specs.Moves.{Shared}
 use Rattle.calls.specs.Calls.{startTable, passAnswer, passTable}
 
--- A later call, with the share that it is handed, which may be anything.
+-- A later call, with the share that it is handed, which may be anything, and a pass with the note that it is lent (A.6), likewise.
 pub data Call : Type 0 where
-  pass : ℕ → Call
+  pass : ℕ → List ℕ → Call
   audit : ℕ → Call
 
 -- The flow table and the share reached after the start: 1.
@@ -18,9 +18,9 @@ afterStart file table = record { table = startTable file table; share = 1 }
 
 -- After one more call: a pass leaves its table, and the new share that it answers unless it is refused; an audit changes nothing.
 unfoldable pub afterCall : List ℕ → Shared → Call → Shared
-afterCall file x (pass share) =
-    let answer = passAnswer file (x .table) share in
-    record { table = passTable file (x .table) share; share = cond (eqb (answer .refusal) 0) (answer .share) (x .share) }
+afterCall file x (pass share note) =
+    let answer = passAnswer file (x .table) share note in
+    record { table = passTable file (x .table) share note; share = cond (eqb (answer .refusal) 0) (answer .share) (x .share) }
 afterCall file x (audit share) = x
 
 -- After a list of calls.

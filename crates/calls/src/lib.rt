@@ -42,3 +42,9 @@ pub struct AuditAnswer {
     pub cost: u64,
     pub over: u32,
 }
+
+// (A.6) Taking back: the resulting share.
+pub struct TakeBackAnswer {
+    pub refusal: u8,
+    pub share: u32,
+}

@@ -18,7 +18,7 @@ use Rattle.theory.specs.Laws.Runs.{Judged}
 use Rattle.calls.specs.Study.{networkOf}
 use Rattle.calls.specs.Questions.{packedSize}
 use Rattle.calls.specs.Pack.{packed}
-use Rattle.calls.specs.Calls.{checkNumber, packNumber, packOutput, startNumber, startTable, tableNumber, auditAnswer, runNumber, runAnswer, runTable, pageNumber, pageSlice}
+use Rattle.calls.specs.Calls.{checkNumber, packNumber, packOutput, startNumber, startTable, tableNumber, auditAnswer, passNumber, takeBackNumber, runNumber, runAnswer, runTable, pageNumber, pageSlice}
 use Rattle.calls.specs.Sequence.{Call, afterStart, afterCalls}
 use Rattle.calls.specs.declared.Ending.the-variants as ending
 use Rattle.calls.specs.Laws.Questions.{Described, check-passed, start-both, table-both}
@@ -26,7 +26,7 @@ use Rattle.calls.specs.Laws.Networks.{share-range}
 use Rattle.calls.specs.Laws.Calls.{refusedAudit, audit-accepted, pack-kept, page-kept}
 use Rattle.demands.specs.Packing.{pack-reads-back, pack-twice}
 use Rattle.demands.specs.Packing.Same.{SameStudy}
-use Rattle.demands.specs.Refusals.{first-failing, PassRefused, RunRefused, refused-start, refused-audit, refused-pass, refused-run}
+use Rattle.demands.specs.Refusals.{first-failing, PassRefused, TakeBackRefused, RunRefused, refused-start, refused-audit, refused-pass, refused-take-back, refused-run}
 use Rattle.demands.specs.Results.{Fresh, start-fresh, run-fresh, start-carried, run-carried, auditable-carried}
 use Rattle.demands.specs.RunEndings.{reached-exactly, counted}
 use Rattle.demands.specs.Sequences.{start-auditable, calls-auditable}
@@ -41,7 +41,8 @@ pub record Demand1 : Type 0 where
   pub accepted : (questions : List Question) → AllYes questions → firstNo questions ≡ 0
   pub pack : (file output : List ℕ) → (packNumber file output ≡ 0 → ⊥) → packOutput file output ≡ output
   pub start : (file table : List ℕ) → (startNumber file table ≡ 0 → ⊥) → startTable file table ≡ table
-  pub pass : (file table : List ℕ) (share : ℕ) → (tableNumber file table share ≡ 0 → ⊥) → PassRefused file table share
+  pub pass : (file table : List ℕ) (share : ℕ) (note : List ℕ) → (passNumber file table share note ≡ 0 → ⊥) → PassRefused file table share note
+  pub take-back : (file table : List ℕ) (share : ℕ) (note : List ℕ) → (takeBackNumber file table share note ≡ 0 → ⊥) → TakeBackRefused file table share note
   pub audit : (file table : List ℕ) (share : ℕ) → (tableNumber file table share ≡ 0 → ⊥) → auditAnswer file table share ≡ refusedAudit (tableNumber file table share)
   pub run : (file table : List ℕ) (budget excess : ℕ) → (runNumber file table budget ≡ 0 → ⊥) → RunRefused file table budget excess
   pub page : (file table : List ℕ) (share : ℕ) (page : List ℕ) → (pageNumber file table share page ≡ 0 → ⊥) → pageSlice file table share page ≡ page
@@ -54,6 +55,7 @@ demand-1 =
       pack = pack-kept;
       start = refused-start;
       pass = refused-pass;
+      take-back = refused-take-back;
       audit = refused-audit;
       run = refused-run;
       page = page-kept;
@@ -110,9 +112,9 @@ certified file table share e =
     }
 
 -- Demand 3, whole: for every list of passes and audits from a fresh start, of any length, refused ones included, whatever share each is
--- handed, the audit after the list at the share reached accepts the table, and its cost and gap bound every rival. The same holds for every
--- table that the audit accepts. An accepted run ends 'reached' exactly when its gap is at most excess × W × total trips, and its count is
--- document 01's, at most the budget.
+-- handed, and whatever note each pass is lent (one that is too short is refused 12), the audit after the list at the share reached accepts
+-- the table, and its cost and gap bound every rival. The same holds for every table that the audit accepts. An accepted run ends 'reached'
+-- exactly when its gap is at most excess × W × total trips, and its count is document 01's, at most the budget.
 pub record Demand3 : Type 0 where
   pub list : (file before : List ℕ) → startNumber file before ≡ 0 → (calls : List Call) → Certified file (afterCalls file (afterStart file before) calls)
   pub table : (file table : List ℕ) (share : ℕ) → tableNumber file table share ≡ 0 → Certified file (record { table = table; share = share })

@@ -4,21 +4,26 @@ use Prim.Native.Nat.{ℕ, zero, suc, _+_, _*_, _/_, _^_, _≤_, _<_}
 use native.Mathlib.Omega.{arith}
 use mathlib.Core.Path.{_≡_}
 use mathlib.Core.Bool.{true, false}
-use mathlib.Core.List.{[], _∷_}
-use lib.ListN.{getD, take, replicate}
+use mathlib.Core.List.{List, [], _∷_}
+use lib.ListN.{length, getD, take, replicate}
 use Rattle.study.specs.Header.{version}
 use Rattle.study.specs.Sections.{links}
 use Rattle.theory.specs.Network.{Network}
 use Rattle.theory.specs.Flows.{entry, Carries, timeAt, total, overAt, over}
 use Rattle.theory.specs.Cost.{cost, gap}
+use Rattle.theory.specs.Moves.{Shared, tableSize}
+use Rattle.theory.specs.Notes.{noteLinks, noteSize, noteOf, takenBack}
+use Rattle.theory.specs.Study.{noLink}
 use Rattle.theory.specs.Marks.{bit, marked, unvisited}
+use Rattle.theory.specs.Laws.Conserving.{Carried}
 use Rattle.theory.specs.Laws.Finite.{Lowest}
+use Rattle.theory.specs.Laws.Paths.{Simple}
 use Rattle.calls.specs.Study.{networkOf}
 use Rattle.calls.specs.Sequence.{Call, afterStart, afterCalls}
-use Rattle.calls.specs.Cases.{town, busyTown, curvedTown, zoneTown, setOf, wordEnds, computed}
+use Rattle.calls.specs.Cases.{town, busyTown, curvedTown, zoneTown, blank, setOf, wordEnds, computed}
 use Rattle.calls.specs.Page.{pageOf}
 use Rattle.calls.specs.Questions.{packedSize}
-use Rattle.calls.specs.Calls.{packOutput, auditAnswer, passAnswer, runAnswer, runTable, pageSlice}
+use Rattle.calls.specs.Calls.{packOutput, auditAnswer, passAnswer, passTable, passNote, takeBackNumber, takeBackAnswer, takeBackTable, runAnswer, runTable, pageSlice}
 use Rattle.calls.specs.Laws.Questions.{Described, check-passed, table-both}
 use Rattle.calls.specs.Laws.Reach.{passed-carries}
 use Rattle.calls.specs.Laws.Networks.{sound}
@@ -29,7 +34,8 @@ use Rattle.demands.specs.Pages.{OfLine}
 use Rattle.demands.specs.Zones.{Closed, Avoids}
 use Rattle.demands.specs.PastCurves.{CountsOver}
 use Rattle.demands.specs.Powers.{freeOf, riseOf, powerOf, withCurves, curves-carry}
-use Rattle.demands.specs.Requests.{request-A1, request-A2, request-A3, request-A4, request-A5}
+use Rattle.demands.specs.TakingBack.{routingAt, nextWalk, TakesBackTo}
+use Rattle.demands.specs.Requests.{request-A1, request-A2, request-A3, request-A4, request-A5, request-A6}
 
 -- A study that passes questions 1 to 11.
 pub town-described : Described town
@@ -39,9 +45,12 @@ town-described = check-passed town (computed .check) .described
 pub town-rival : Carries (networkOf town) 9 (16 ∷ 2 ∷ [])
 town-rival = passed-carries town (16 ∷ 2 ∷ []) 9 (table-both town (16 ∷ 2 ∷ []) 9 (computed .table) .1)
 
--- An accepted start, followed by a list of calls of which some are refused.
-pub town-list : Certified town (afterCalls town (afterStart town (7 ∷ 7 ∷ [])) (Call.pass 1 ∷ Call.audit 3 ∷ Call.pass 5 ∷ Call.pass 2 ∷ []))
-town-list = demand-3 .list town (7 ∷ 7 ∷ []) (computed .start) (Call.pass 1 ∷ Call.audit 3 ∷ Call.pass 5 ∷ Call.pass 2 ∷ [])
+-- An accepted start, followed by a list of calls of which some are refused, one for its note.
+abbrev townCalls : List Call
+townCalls = Call.pass 1 blank ∷ Call.audit 3 ∷ Call.pass 5 blank ∷ Call.pass 2 (7 ∷ 7 ∷ []) ∷ Call.pass 2 blank ∷ []
+
+pub town-list : Certified town (afterCalls town (afterStart town (7 ∷ 7 ∷ [])) townCalls)
+town-list = demand-3 .list town (7 ∷ 7 ∷ []) (computed .start) townCalls
 
 -- A table that the audit accepts.
 pub town-table : Certified town (record { table = 16 ∷ 2 ∷ []; share = 9 })
@@ -95,8 +104,8 @@ busy-over = request-A4 .counted busyTown (8 ∷ 0 ∷ []) 1 (computed .busy) 0 (
 pub busy-audit : CountsOver busyTown (8 ∷ 0 ∷ []) 1 (auditAnswer busyTown (8 ∷ 0 ∷ []) 1 .over)
 busy-audit = request-A4 .audit busyTown (8 ∷ 0 ∷ []) 1 (computed .busy)
 
-pub busy-pass : CountsOver busyTown (8 ∷ 0 ∷ []) 1 (passAnswer busyTown (8 ∷ 0 ∷ []) 1 .over)
-busy-pass = request-A4 .pass busyTown (8 ∷ 0 ∷ []) 1 (computed .busy)
+pub busy-pass : CountsOver busyTown (8 ∷ 0 ∷ []) 1 (passAnswer busyTown (8 ∷ 0 ∷ []) 1 blank .over)
+busy-pass = request-A4 .pass busyTown (8 ∷ 0 ∷ []) 1 blank (computed .busy-passed)
 
 pub busy-run :
     let answer = runAnswer busyTown (7 ∷ 7 ∷ []) 1 0 in
@@ -143,3 +152,44 @@ pub seventh-bound : 9 * cost seventh 1 (2 ∷ 0 ∷ []) ≤ 1 * cost seventh 9 (
 seventh-bound =
     request-A5 .bound (networkOf town) (sound town town-described) (λ l. 10) (λ l. 10) (λ l. 7) (λ l h. omega arith) 1 (2 ∷ 0 ∷ []) (omega arith) 9 (16 ∷ 2 ∷ [])
     (curves-carry (networkOf town) (λ l. 10) (λ l. 10) (λ l. 7) 9 (16 ∷ 2 ∷ []) town-rival)
+
+-- A walk in the town at the times of P7's table, with a limit that it does not meet.
+pub town-walk : length (nextWalk town (16 ∷ 0 ∷ []) 8 0 0 9) < networkOf town .nodes
+town-walk = request-A6 .walk town (computed .check) (16 ∷ 0 ∷ []) 8 0 0 9 (omega (arith, computed .town-sizes)) (omega (arith, computed .town-sizes))
+
+pub town-once : Simple (routingAt town (16 ∷ 0 ∷ []) 8 0) (nextWalk town (16 ∷ 0 ∷ []) 8 0 0 9)
+town-once = request-A6 .once town (computed .check) (16 ∷ 0 ∷ []) 8 0 0 9 (omega (arith, computed .town-sizes)) (omega (arith, computed .town-sizes))
+
+-- P7's pass, which adds with j = 1, and the pass of the start's table, which doubles: both are taken back.
+pub town-added :
+    TakesBackTo town (16 ∷ 0 ∷ []) 8 (passTable town (16 ∷ 0 ∷ []) 8 blank) (passAnswer town (16 ∷ 0 ∷ []) 8 blank .share) (passNote town (16 ∷ 0 ∷ []) 8 blank)
+town-added = request-A6 .restores town (16 ∷ 0 ∷ []) 8 blank (computed .adds)
+
+pub town-doubled :
+    TakesBackTo town (2 ∷ 0 ∷ []) 1 (passTable town (2 ∷ 0 ∷ []) 1 blank) (passAnswer town (2 ∷ 0 ∷ []) 1 blank .share) (passNote town (2 ∷ 0 ∷ []) 1 blank)
+town-doubled = request-A6 .restores town (2 ∷ 0 ∷ []) 1 blank (computed .doubles)
+
+-- The note of P7's pass with another table and share.
+pub town-leads : takeBackNumber town (2 ∷ 0 ∷ []) 1 (passNote town (16 ∷ 0 ∷ []) 8 blank) ≡ 21 → ⊥
+town-leads = request-A6 .leads town (16 ∷ 0 ∷ []) 8 blank (computed .adds) (2 ∷ 0 ∷ []) 1
+
+-- A taking back that is accepted, with a note that no pass left.
+pub town-back : Carried (networkOf town) (takeBackAnswer town (16 ∷ 2 ∷ []) 9 (1 ∷ 1 ∷ 7 ∷ []) .share) (takeBackTable town (16 ∷ 2 ∷ []) 9 (1 ∷ 1 ∷ 7 ∷ []))
+town-back = request-A6 .conserves town (16 ∷ 2 ∷ []) 9 (1 ∷ 1 ∷ 7 ∷ []) (computed .taken-back)
+
+pub town-back-table :
+    let x : Shared = record { table = 16 ∷ 2 ∷ []; share = 9 } in
+    Fresh (tableSize (networkOf town)) (takenBack (networkOf town) x (1 ∷ 1 ∷ 7 ∷ []) .table) (16 ∷ 2 ∷ []) (takeBackTable town (16 ∷ 2 ∷ []) 9 (1 ∷ 1 ∷ 7 ∷ []))
+town-back-table = request-A6 .table town (16 ∷ 2 ∷ []) 9 (1 ∷ 1 ∷ 7 ∷ []) (computed .taken-back)
+
+-- The note of P7's pass; that of the start's table, whose j is 0; and one that 'finest' leaves as it was.
+pub town-note :
+    let x : Shared = record { table = 16 ∷ 0 ∷ []; share = 8 } in
+    Fresh (noteSize (networkOf town)) (noteOf (networkOf town) x) blank (passNote town (16 ∷ 0 ∷ []) 8 blank)
+town-note = request-A6 .note town (16 ∷ 0 ∷ []) 8 blank (computed .adds)
+
+pub town-doubling : noteOf (networkOf town) (record { table = 2 ∷ 0 ∷ []; share = 1 }) ≡ 0 ∷ replicate (noteLinks (networkOf town)) noLink
+town-doubling = request-A6 .doubling (networkOf town) (record { table = 2 ∷ 0 ∷ []; share = 1 }) (computed .none-chosen)
+
+pub town-still : passNote town (1820 ∷ 228 ∷ []) 1024 blank ≡ blank
+town-still = request-A6 .still town (1820 ∷ 228 ∷ []) 1024 blank (computed .rests)

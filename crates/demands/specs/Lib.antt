@@ -13,4 +13,5 @@ pub mod Zones
 pub mod NextNodes
 pub mod PastCurves
 pub mod Powers
+pub mod TakingBack
 pub mod Instances

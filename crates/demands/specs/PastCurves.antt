@@ -15,8 +15,8 @@ use Rattle.theory.specs.Laws.Finite.{count-cong, count-most, count-none}
 use Rattle.theory.specs.Laws.Local.{over-same}
 use Rattle.theory.specs.Laws.Times.{over-exactly, over-fourfold, over-empty}
 use Rattle.calls.specs.Study.{networkOf}
-use Rattle.calls.specs.Calls.{overwritten, tableNumber, auditAnswer, passAnswer, runNumber, runAnswer, runTable}
-use Rattle.calls.specs.Laws.Questions.{Passed, check-passed, start-both, run-both, table-both}
+use Rattle.calls.specs.Calls.{overwritten, tableNumber, auditAnswer, passNumber, passAnswer, runNumber, runAnswer, runTable}
+use Rattle.calls.specs.Laws.Questions.{Passed, check-passed, start-both, run-both, table-both, pass-both}
 use Rattle.calls.specs.Laws.Networks.{sound, share-range}
 use Rattle.calls.specs.Laws.Calls.{audit-accepted, pass-accepted, run-accepted, run-written}
 use Rattle.calls.specs.Laws.Page.{link-count}
@@ -69,8 +69,13 @@ module _ (file table : List ℕ) (share : ℕ) (e : tableNumber file table share
   pub audit-counts : CountsOver file table share (auditAnswer file table share .over)
   audit-counts = rw (audit-accepted file table share e) (over-counts file study table share some-share)
 
-  pub pass-counts : CountsOver file table share (passAnswer file table share .over)
-  pass-counts = rw (pass-accepted file table share e) (over-counts file study table share some-share)
+-- A pass accepts what the audit accepts, where it is lent a note that is long enough.
+pub pass-counts : (file table : List ℕ) (share : ℕ) (note : List ℕ) → passNumber file table share note ≡ 0
+    → CountsOver file table share (passAnswer file table share note .over)
+pass-counts file table share note e =
+    let audited = pass-both file table share note e .0 in
+    rw (pass-accepted file table share note e)
+    (over-counts file (study file table share audited) table share (some-share file table share audited))
 
 -- A run's count is that of the table that it leaves, at the share that it answers.
 pub run-counts : (file table : List ℕ) (budget excess : ℕ) → runNumber file table budget ≡ 0

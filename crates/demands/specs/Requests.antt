@@ -3,9 +3,9 @@
 use Prim.Native.Nat.{ℕ, _*_, _+_, _/_, _%_, _^_, _≤_, _<_}
 use mathlib.Core.Path.{_≡_}
 use mathlib.Core.Bool.{true, false}
-use mathlib.Core.List.{List}
+use mathlib.Core.List.{List, _∷_}
 use mathlib.Core.Logic.{_↔_}
-use lib.ListN.{length, getD, take}
+use lib.ListN.{length, getD, take, replicate}
 use Rattle.study.specs.Header.{version}
 use Rattle.study.specs.Sections.{links}
 use Rattle.text.specs.Decimal.{decimal, hundredths}
@@ -13,19 +13,28 @@ use Rattle.theory.specs.Network.{Network, Sound}
 use Rattle.theory.specs.Flows.{entry, Carries, stepTime, timeAt, total, overAt, over}
 use Rattle.theory.specs.Cost.{cost, gap}
 use Rattle.theory.specs.Routes.{routing, IsPath}
+use Rattle.theory.specs.Moves.{Shared, tableSize}
+use Rattle.theory.specs.Notes.{noteLinks, noteSize, noteOf, takenBack}
+use Rattle.theory.specs.Study.{noLink}
 use Rattle.theory.specs.Marks.{bit, marked, unvisited, lowestUnvisited}
+use Rattle.theory.specs.Laws.Conserving.{Carried}
 use Rattle.theory.specs.Laws.Finite.{Lowest}
+use Rattle.theory.specs.Laws.Moves.{chosenOf}
+use Rattle.theory.specs.Laws.Paths.{Simple}
 use Rattle.theory.specs.Laws.Times.{stepTime-mono}
 use Rattle.calls.specs.Study.{networkOf}
 use Rattle.calls.specs.Questions.{packedSize}
 use Rattle.calls.specs.Page.{lineOf, pageOf}
-use Rattle.calls.specs.Calls.{checkNumber, packNumber, packOutput, tableNumber, auditAnswer, passAnswer, runNumber, runAnswer, runTable, pageNumber, pageSlice}
+use Rattle.calls.specs.Calls.{checkNumber, packNumber, packOutput, tableNumber, auditAnswer, runNumber, runAnswer, runTable, pageNumber, pageSlice}
+use Rattle.calls.specs.Calls.{passNumber, passAnswer, passTable, passNote, takeBackNumber, takeBackAnswer, takeBackTable}
+use Rattle.calls.specs.declared.Outcome.the-variants as outcome
 use Rattle.calls.specs.Laws.Page.{LineRange, LineFits}
 use Rattle.demands.specs.Results.{Fresh}
 use Rattle.demands.specs.Zones.{Closed, Avoids, OnlyClosed, permitted-exactly, version-1-open, path-avoids, flow-avoids, pack-version, only-closed}
 use Rattle.demands.specs.NextNodes.{word-of, found-exactly, none-exactly}
 use Rattle.demands.specs.PastCurves.{CountsOver, over-when, over-when-fourfold, audit-counts, pass-counts, run-counts, empty-counts}
 use Rattle.demands.specs.Powers.{freeOf, riseOf, powerOf, power-range, curve-exactly, versions-fourth, time-rises, withCurves, curves-rise, curves-bound}
+use Rattle.demands.specs.TakingBack.{routingAt, nextWalk, TakesBackTo, walk-short, walk-simple, moved-leads, moved-restores, back-carried, back-fresh, note-fresh, finest-note, doubling-note}
 use Rattle.demands.specs.Pages.{Plain, Pointed, OfLine, Largest, decimal-plain, hundredths-pointed, full-road, numbers-range, numbers-fit, line-length, line-place, page-length, page-fresh}
 
 -- A.1, volumes on paper. Whatever table the audit accepts, every number fits its columns (3, 3, 3, 8 and 8), so each line has exactly 30
@@ -106,7 +115,8 @@ pub record RequestA4 : Type 0 where
       → (overAt (networkOf file) share (total (networkOf file) table) l ≡ true)
       ↔ (4 * (networkOf file .capacity l * share) ≤ total (networkOf file) table l)
   pub audit : (file table : List ℕ) (share : ℕ) → tableNumber file table share ≡ 0 → CountsOver file table share (auditAnswer file table share .over)
-  pub pass : (file table : List ℕ) (share : ℕ) → tableNumber file table share ≡ 0 → CountsOver file table share (passAnswer file table share .over)
+  pub pass : (file table : List ℕ) (share : ℕ) (note : List ℕ) → passNumber file table share note ≡ 0
+      → CountsOver file table share (passAnswer file table share note .over)
   pub run : (file table : List ℕ) (budget excess : ℕ) → runNumber file table budget ≡ 0
       → CountsOver file (runTable file table budget excess) (runAnswer file table budget excess .share) (runAnswer file table budget excess .over)
   pub empty : (file table : List ℕ) (share : ℕ) → ((l : ℕ) → l < links file → total (networkOf file) table l ≡ 0) → over (networkOf file) share table ≡ 0
@@ -152,4 +162,45 @@ request-A5 =
       rising = stepTime-mono;
       flows = curves-rise;
       bound = curves-bound;
+    }
+
+-- A.6, taking a loading back out. In an accepted study, at the times of any table, a walk along next links has fewer links than there are
+-- nodes and meets no node twice, whatever node it begins at and whatever its limit. Taking back directly after a move, with the table, the new
+-- share and the note as that pass left them, is accepted, and restores exactly the share and the table, later numbers included, that the pass
+-- judged, whether it added or doubled. With whatever table and share, the note of a pass that moved is never refused 21. Whatever note it is
+-- handed, an accepted taking back leaves a table that carries the trips at the share that it answers, and later numbers are untouched. A pass that
+-- moves fills the first 1 + p·n numbers of the note, and later ones are untouched; 'finest' leaves the note unchanged; the note of a doubling
+-- is 0 and 65,535 throughout. (A pass that answers 'moved' or 'finest' was accepted. That a refusal leaves table and note unchanged is in
+-- demand 1.)
+pub record RequestA6 : Type 0 where
+  pub walk : (file : List ℕ) → checkNumber file ≡ 0 → (table : List ℕ) (share k j most : ℕ) → k < networkOf file .commodities → j < networkOf file .nodes
+      → length (nextWalk file table share k j most) < networkOf file .nodes
+  pub once : (file : List ℕ) → checkNumber file ≡ 0 → (table : List ℕ) (share k j most : ℕ) → k < networkOf file .commodities → j < networkOf file .nodes
+      → Simple (routingAt file table share k) (nextWalk file table share k j most)
+  pub restores : (file table : List ℕ) (share : ℕ) (note : List ℕ) → passAnswer file table share note .outcome ≡ outcome.Moved
+      → TakesBackTo file table share (passTable file table share note) (passAnswer file table share note .share) (passNote file table share note)
+  pub leads : (file table : List ℕ) (share : ℕ) (note : List ℕ) → passAnswer file table share note .outcome ≡ outcome.Moved
+      → (other : List ℕ) (w : ℕ) → takeBackNumber file other w (passNote file table share note) ≡ 21 → ⊥
+  pub conserves : (file table : List ℕ) (share : ℕ) (note : List ℕ) → takeBackNumber file table share note ≡ 0
+      → Carried (networkOf file) (takeBackAnswer file table share note .share) (takeBackTable file table share note)
+  pub table : (file table : List ℕ) (share : ℕ) (note : List ℕ) → takeBackNumber file table share note ≡ 0
+      → Fresh (tableSize (networkOf file)) (takenBack (networkOf file) (record { table = table; share = share }) note .table) table (takeBackTable file table share note)
+  pub note : (file table : List ℕ) (share : ℕ) (note : List ℕ) → passAnswer file table share note .outcome ≡ outcome.Moved
+      → Fresh (noteSize (networkOf file)) (noteOf (networkOf file) (record { table = table; share = share })) note (passNote file table share note)
+  pub still : (file table : List ℕ) (share : ℕ) (note : List ℕ) → passAnswer file table share note .outcome ≡ outcome.Finest
+      → passNote file table share note ≡ note
+  pub doubling : (g : Network) (x : Shared) → chosenOf g x ≡ 0 → noteOf g x ≡ 0 ∷ replicate (noteLinks g) noLink
+
+pub request-A6 : RequestA6
+request-A6 =
+    record {
+      walk = walk-short;
+      once = walk-simple;
+      restores = moved-restores;
+      leads = moved-leads;
+      conserves = back-carried;
+      table = back-fresh;
+      note = note-fresh;
+      still = finest-note;
+      doubling = doubling-note;
     }

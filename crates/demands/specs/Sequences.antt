@@ -9,9 +9,9 @@ use lib.ListN.{length}
 use lib.Dec.{eqb·suc-zero}
 use Rattle.theory.specs.Moves.{Shared, tableSize, started, move}
 use Rattle.calls.specs.Study.{networkOf}
-use Rattle.calls.specs.Calls.{overwritten, startNumber, startTable, tableNumber, shareAfter, tableAfter, passAnswer, passTable}
+use Rattle.calls.specs.Calls.{overwritten, startNumber, startTable, tableNumber, shareAfter, tableAfter, passNumber, passAnswer, passTable}
 use Rattle.calls.specs.Sequence.{Call, afterStart, afterCall, afterCalls}
-use Rattle.calls.specs.Laws.Questions.{Passed, SharePassed, check-passed, start-both, both-start, table-both, both-table}
+use Rattle.calls.specs.Laws.Questions.{Passed, SharePassed, check-passed, start-both, both-start, table-both, both-table, pass-both}
 use Rattle.calls.specs.Laws.Networks.{holds-length, length-holds}
 use Rattle.calls.specs.Laws.Calls.{refusedPass, start-written, pass-accepted, pass-table, pass-refused, pass-kept}
 use Rattle.calls.specs.Laws.Tables.{started-passes, started-length, moved-passes, moved-length, overwritten-passes, overwritten-length}
@@ -40,7 +40,7 @@ module _ (file : List ℕ) where
       (overwritten-accepted (started (networkOf file) .table) table 1 s (started-length file study) (started-passes file study))
 
   -- What an accepted pass leaves, with the share that it answers.
-  after-move : (x : Shared) (next : Option Shared) → Auditable x → move (networkOf file) x ≡ next
+  pub after-move : (x : Shared) (next : Option Shared) → Auditable x → move (networkOf file) x ≡ next
       → Auditable (record { table = tableAfter (x .table) next; share = shareAfter (x .share) next })
   after-move x none a e = a
   after-move x (some x′) a e =
@@ -51,14 +51,17 @@ module _ (file : List ℕ) where
   pub call-auditable : (x : Shared) (call : Call) → Auditable x → Auditable (afterCall file x call)
   unfolding afterCall
   call-auditable x (Call.audit share) a = a
-  call-auditable x (Call.pass share) a = go (tableNumber file (x .table) share) refl
+  call-auditable x (Call.pass share note) a = go (passNumber file (x .table) share note) refl
     where
-      go : (number : ℕ) → tableNumber file (x .table) share ≡ number → Auditable (afterCall file x (Call.pass share))
+      judged-table : Shared
+      judged-table = record { table = x .table; share = share }
+
+      go : (number : ℕ) → passNumber file (x .table) share note ≡ number → Auditable (afterCall file x (Call.pass share note))
       go zero e =
-          rw (pass-accepted file (x .table) share e, pass-table file (x .table) share e)
-          (after-move (record { table = x .table; share = share }) (move (networkOf file) (record { table = x .table; share = share })) e refl)
+          rw (pass-accepted file (x .table) share note e, pass-table file (x .table) share note e)
+          (after-move judged-table (move (networkOf file) judged-table) (pass-both file (x .table) share note e .0) refl)
       go (suc number) e =
-          rw (pass-refused file (x .table) share number e, pass-kept file (x .table) share (λ z. omega arith), eqb·suc-zero number) a
+          rw (pass-refused file (x .table) share note number e, pass-kept file (x .table) share note (λ z. omega arith), eqb·suc-zero number) a
 
   pub calls-auditable : (calls : List Call) (x : Shared) → Auditable x → Auditable (afterCalls file x calls)
   unfolding afterCalls

@@ -6,10 +6,15 @@ use Rattle.calls.specs.Calls.{endingNumber, outcomeNumber}
 use Rattle.calls.specs.declared.RunAnswer.{RunAnswer}
 use Rattle.calls.specs.declared.PassAnswer.{PassAnswer}
 use Rattle.calls.specs.declared.AuditAnswer.{AuditAnswer}
+use Rattle.calls.specs.declared.TakeBackAnswer.{TakeBackAnswer}
 
 -- Outcome, gap, cost, share, over.
 abbrev pub passNumbers : PassAnswer → List ℕ
 passNumbers a = outcomeNumber (a .outcome) ∷ a .gap ∷ a .cost ∷ a .share ∷ a .over ∷ []
+
+-- The resulting share.
+abbrev pub takeBackNumbers : TakeBackAnswer → List ℕ
+takeBackNumbers a = a .share ∷ []
 
 -- Ending, tables judged, share, gap, cost, over.
 abbrev pub runNumbers : RunAnswer → List ℕ

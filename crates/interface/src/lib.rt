@@ -7,13 +7,15 @@
 ghost use mathlib.Core.Path.{_≡_};
 ghost use Rattle.calls.specs.Calls.{endingNumber, outcomeNumber};
 ghost use Rattle.calls.specs.Calls.{checkNumber, packNumber, packOutput, startNumber, startTable};
-ghost use Rattle.calls.specs.Calls.{auditAnswer, passAnswer, passTable, runAnswer, runTable, pageNumber, pageSlice};
-ghost use Rattle.interface.specs.Numbers.{auditNumbers, passNumbers, runNumbers};
+ghost use Rattle.calls.specs.Calls.{auditAnswer, passAnswer, passTable, passNote, runAnswer, runTable, pageNumber, pageSlice};
+ghost use Rattle.calls.specs.Calls.{takeBackAnswer, takeBackTable};
+ghost use Rattle.interface.specs.Numbers.{auditNumbers, passNumbers, runNumbers, takeBackNumbers};
 use calls::AuditAnswer;
 use calls::Ending;
 use calls::Outcome;
 use calls::PassAnswer;
 use calls::RunAnswer;
+use calls::TakeBackAnswer;
 
 #[no_mangle]
 pub extern "C" fn ilstrovan_check(file: &[u8]) -> u8
@@ -38,21 +40,41 @@ pub extern "C" fn ilstrovan_start(file: &[u8], table: &mut [u32]) -> u8
     assignment::start(file, table)
 }
 
-// Writes outcome (1 moved, 2 finest), gap, cost, the new share and how many links of the judged table are over.
+// Writes outcome (1 moved, 2 finest), gap, cost, the new share and how many links of the judged table are over, and fills the note of a move.
 #[no_mangle]
 pub extern "C" fn ilstrovan_pass(
     file: &[u8],
     table: &mut [u32],
     share: u32,
+    note: &mut [u16],
     answer: &mut [u64; 5],
 ) -> u8
-    ensures { λ r. ⌜ r ≡ passAnswer (now (file .entry)) (now (table .entry)) share .refusal ⌝ }
-    ensures { λ _. ⌜ now (table .exit) ≡ passTable (now (file .entry)) (now (table .entry)) share ⌝ }
-    ensures { λ _. ⌜ now (answer .exit) ≡ passNumbers (passAnswer (now (file .entry)) (now (table .entry)) share) ⌝ }
+    ensures { λ r. ⌜ r ≡ passAnswer (now (file .entry)) (now (table .entry)) share (now (note .entry)) .refusal ⌝ }
+    ensures { λ _. ⌜ now (table .exit) ≡ passTable (now (file .entry)) (now (table .entry)) share (now (note .entry)) ⌝ }
+    ensures { λ _. ⌜ now (note .exit) ≡ passNote (now (file .entry)) (now (table .entry)) share (now (note .entry)) ⌝ }
+    ensures { λ _. ⌜ now (answer .exit) ≡ passNumbers (passAnswer (now (file .entry)) (now (table .entry)) share (now (note .entry))) ⌝ }
 {
-    let passed = assignment::pass(file, table, share);
+    let passed = passes::pass(file, table, share, note);
     *answer = pass_numbers(passed);
     passed.refusal
+}
+
+// Takes the loading of the note that a pass filled back out of the table, and writes the resulting share.
+#[no_mangle]
+pub extern "C" fn ilstrovan_take_back(
+    file: &[u8],
+    table: &mut [u32],
+    share: u32,
+    note: &[u16],
+    answer: &mut [u64; 1],
+) -> u8
+    ensures { λ r. ⌜ r ≡ takeBackAnswer (now (file .entry)) (now (table .entry)) share (now (note .entry)) .refusal ⌝ }
+    ensures { λ _. ⌜ now (table .exit) ≡ takeBackTable (now (file .entry)) (now (table .entry)) share (now (note .entry)) ⌝ }
+    ensures { λ _. ⌜ now (answer .exit) ≡ takeBackNumbers (takeBackAnswer (now (file .entry)) (now (table .entry)) share (now (note .entry))) ⌝ }
+{
+    let taken = passes::take_back(file, table, share, note);
+    *answer = take_back_numbers(taken);
+    taken.refusal
 }
 
 // Writes ending (1 reached, 2 finest, 3 spent), tables judged, share, gap, cost and how many links are over.
@@ -109,6 +131,12 @@ fn pass_numbers(passed: PassAnswer) -> [u64; 5]
         passed.share as u64,
         passed.over as u64,
     ]
+}
+
+fn take_back_numbers(taken: TakeBackAnswer) -> [u64; 1]
+    ensures { λ r. ⌜ r ≡ takeBackNumbers taken ⌝ }
+{
+    [taken.share as u64]
 }
 
 fn run_numbers(ended: RunAnswer) -> [u64; 6]

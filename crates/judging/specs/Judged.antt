@@ -8,7 +8,8 @@ use Rattle.theory.specs.Network.{Network}
 use Rattle.theory.specs.Flows.{linkTotal, over}
 use Rattle.theory.specs.Cost.{cost, gap}
 use Rattle.theory.specs.Moves.{moves}
-use Rattle.calls.specs.Calls.{shareAfter, tableAfter}
+use Rattle.theory.specs.Notes.{noteOf}
+use Rattle.calls.specs.Calls.{shareAfter, tableAfter, noteAfter}
 use Rattle.travel.specs.Links.{padded, listTime, listProduct, totalOf, loadOf}
 use Rattle.travel.specs.Ranges.{LinkPowers, Within, Clear, TimesFit, mostTime, mostFlow}
 use Rattle.search.specs.Chains.{Linked}
@@ -78,13 +79,14 @@ pub record Audited (g : Network) (table : List ℕ) (share : ℕ) (r : Sums) : T
   pub over-is : r .over ≡ over g share table
 
 -- What a pass answers of a table, and what it leaves.
-pub record PassedOn (g : Network) (table : List ℕ) (share : ℕ) (r : Passed) (after : List ℕ) : Type 0 where
+pub record PassedOn (g : Network) (table : List ℕ) (share : ℕ) (note : List ℕ) (r : Passed) (after noted : List ℕ) : Type 0 where
   pub moved-is : r .moved ≡ moves (moveOf g table share)
   pub share-is : r .share ≡ shareAfter share (moveOf g table share)
   pub gap-is : r .gap ≡ gap g share table
   pub cost-is : r .cost ≡ cost g share table
   pub over-is : r .over ≡ over g share table
   pub table-is : after ≡ tableAfter table (moveOf g table share)
+  pub note-is : noted ≡ noteAfter (noteOf g (record { table = table; share = share })) note (moveOf g table share)
 
 -- What a turn is handed: a share, and a limit that excess × T can be.
 pub record Stands (d : Study) (table : List ℕ) (at : Standing) (times : List ℕ) (nexts volumes flows : List (List ℕ)) : Type 0 where

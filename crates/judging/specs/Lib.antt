@@ -1,4 +1,5 @@
 -- What the functions of this crate ask and compute, over a decoded study.
 pub mod Study
 pub mod Judged
+pub mod Noted
 pub mod Laws

@@ -3,6 +3,7 @@
 mod audit;
 mod gaps;
 mod judge;
+mod note;
 mod pass;
 mod start;
 mod turns;

@@ -6,10 +6,11 @@ mod adding;
 mod sending;
 
 pub use adding::add_volumes;
+pub use sending::any_trips;
 pub use sending::volumes;
 
 // A number of 16 bits, as an index.
-fn index(x: u16) -> usize
+pub fn index(x: u16) -> usize
     ensures { λ r. ⌜ r ≡ x ⌝ }
 {
     x as usize

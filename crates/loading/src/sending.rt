@@ -176,7 +176,7 @@ fn first_waiting(trips: &[u16]) -> [u32; 128]
 }
 
 // Whether there are trips: 0 if there are none. There is no branch, so several numbers are seen at once.
-fn any_trips(trips: &[u16]) -> u16
+pub fn any_trips(trips: &[u16]) -> u16
     ensures { λ r. ⌜ (r ≡ 0 → ZeroBelow (length (now (trips .entry))) (now (trips .entry))) ⌝ }
 {
     let mut any: u16 = 0;

@@ -5,6 +5,7 @@ mod widths;
 
 pub use loads::add_loadings;
 pub use loads::load;
+pub use loads::load_volumes;
 pub use moves::can_move;
 pub use moves::empty_flows;
 pub use moves::move_table;

@@ -37,6 +37,27 @@ pub fn load(
     widened(&sums, m, loads);
 }
 
+// The volumes alone.
+pub fn load_volumes(
+    nodes: usize,
+    links: &[[u16; 6]],
+    destinations: &[u16],
+    trips: &[u16],
+    next: &[[u16; 128]; 32],
+    volumes: &mut [[u16; 128]; 32],
+)
+    requires { ⌜ AllFollowable nodes (now links) (length (now destinations)) (now trips) (now next) × (length (now volumes) ≡ 32) ⌝ }
+    ensures { λ _. ⌜ volumeRows nodes (length (now (links .entry))) (length (now (destinations .entry))) (now (next .entry)) (now (volumes .exit)) ≡ loadingAlong nodes (now (links .entry)) (length (now (destinations .entry))) (now (trips .entry)) (now (next .entry)) ⌝ }
+{
+    let mut k: usize = 0;
+    while k < destinations.len() {
+        let first = k * nodes;
+        let past = first + nodes;
+        loading::volumes(nodes, links, &trips[first..past], &next[k], &mut volumes[k]);
+        k += 1;
+    }
+}
+
 // Puts the first m of an array's numbers into one that is wide enough for the totals of any table.
 fn widened(sums: &[u32; 512], m: usize, totals: &mut [u64; 512])
     requires { ⌜ (m ≤ 512) × Clear m (now totals) ⌝ }

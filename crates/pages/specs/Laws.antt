@@ -23,9 +23,9 @@ use Rattle.travel.specs.Laws.Network.{padded-holds}
 use Rattle.judging.specs.Study.{studyOf, Judgeable}
 use Rattle.judging.specs.Laws.Study.{links-fit}
 use Rattle.judging.specs.Laws.Judged.{share-fits, totals-within}
-use Rattle.assignment.specs.Parts.{PartsOf}
-use Rattle.assignment.specs.Laws.Parts.{network-is}
-use Rattle.assignment.specs.Laws.Answers.{table-ready}
+use Rattle.refusals.specs.Parts.{PartsOf}
+use Rattle.refusals.specs.Laws.Parts.{network-is}
+use Rattle.refusals.specs.Laws.Ready.{table-ready}
 use Rattle.pages.specs.Lines.{rowLine, rowLines, Printable, afterAudit}
 
 -- An accepted page's table is one that the audit accepts.

@@ -2,13 +2,13 @@ ghost use mathlib.Core.Path.{_≡_};
 ghost use lib.ListN.{length};
 ghost use Rattle.calls.specs.Calls.{pageNumber, pageSlice};
 ghost use Rattle.network.specs.Decoded.{Room};
-ghost use Rattle.assignment.specs.Places.{curvePlaces};
+ghost use Rattle.refusals.specs.Places.{curvePlaces};
 ghost use Rattle.pages.specs.Lines.{afterAudit};
 use crate::lines::put_lines;
-use assignment::curve_places;
-use assignment::is_small;
 use network::SHORT_ENTRIES;
 use network::SHORT_LINKS;
+use refusals::curve_places;
+use refusals::is_small;
 use travel::ALL_LISTS;
 use travel::ONE_LIST;
 
@@ -61,7 +61,7 @@ fn page_in(
     let destinations = &places[..p];
     let trips = &entries[..p * n];
     let mut flows = [0u64; 512];
-    let audited = assignment::totals_refusal(
+    let audited = refusals::totals_refusal(
         file,
         opening.refusal,
         n,

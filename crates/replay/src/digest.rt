@@ -22,11 +22,25 @@ pub fn of_numbers(numbers: &[u32]) -> u64 {
     digest
 }
 
+// A table, and its note after it.
+pub fn of_noted(table: &[u32], note: &[u16]) -> u64 {
+    let mut digest = of_numbers(table);
+    for i in 0..note.len() {
+        digest = with_half(digest, note[i]);
+    }
+    digest
+}
+
 fn with_number(digest: u64, number: u32) -> u64 {
     let one = with_byte(digest, (number % 256) as u64);
     let two = with_byte(one, (number / 256 % 256) as u64);
     let three = with_byte(two, (number / 65536 % 256) as u64);
     with_byte(three, (number / 16777216) as u64)
+}
+
+fn with_half(digest: u64, number: u16) -> u64 {
+    let one = with_byte(digest, (number % 256) as u64);
+    with_byte(one, (number / 256) as u64)
 }
 
 fn with_byte(digest: u64, byte: u64) -> u64 {

@@ -2,20 +2,22 @@
 // that it answers and a digest of what it was lent, as the call left it. The stream, all numbers
 // little-endian, holds for each call:
 //
-//     u8   kind: 1 check, 2 pack, 3 start, 4 pass, 5 run, 6 audit, 7 page; any other ends the stream
+//     u8   kind: 1 check, 2 pack, 3 start, 4 pass, 5 run, 6 audit, 7 page, 8 take back; any other
+//          ends the stream
 //     u32  length of the file, and its bytes
-//     u32  length of what is lent, and its bytes (pack) or its numbers of 32 bits (start to page)
+//     u32  length of what is lent, and its bytes (pack) or its numbers of 32 bits (start to take back)
 //     u32  length of the page slice, and its bytes (page)
+//     u32  length of the note, and its numbers of 16 bits (pass and take back)
 //     u32  share, u32 budget, u16 excess; 0 where the call takes none
 //
-// A length of 2^32 - 1 has nothing after it: the file of the call before, or the table as the call
-// before left it.
+// A length of 2^32 - 1 has nothing after it: the file of the call before, the table as the call
+// before left it, or the note as the last call that was lent one left it (empty before any).
 ghost use mathlib.Core.Path.{_≡_};
 ghost use Prim.Native.Nat.{_*_, _≤_};
 ghost use lib.ListN.{length};
 ghost use Rattle.replay.specs.State.{Within};
 use crate::input::Read;
-use crate::play::Arguments;
+use crate::play::Call;
 
 mod digest;
 mod input;
@@ -25,123 +27,139 @@ mod play;
 // A stream has fewer calls than this.
 const MOST_CALLS: usize = 1000000;
 
-// How much of the file's and the table's memory the calls before used, and whether the stream goes
-// on.
+// A call's kind, or 0 at the end of the stream, and how much of the file's, the table's, the note's and
+// the output's memory is in use.
 struct State {
+    kind: u8,
     file: usize,
     table: usize,
-    more: bool,
+    note: usize,
+    output: usize,
 }
 
 fn main() {
     let mut file_space = [0u8; 65540];
     let mut table_space = [0u32; 16400];
+    let mut note_space = [0u16; 4200];
     let mut byte_space = [0u8; 65600];
     let file: &mut [u8] = &mut file_space;
     let table: &mut [u32] = &mut table_space;
+    let note: &mut [u16] = &mut note_space;
     let bytes: &mut [u8] = &mut byte_space;
-    let mut state = state_of(0, 0, true);
+    let mut state = blank();
     for _ in 0..MOST_CALLS {
-        state = play_next(file, table, bytes, state);
-        if !state.more {
+        state = read_next(file, table, note, bytes, state);
+        if state.kind == 0 {
             return;
         }
+        play_call(file, table, note, bytes, state);
     }
 }
 
-fn state_of(file: usize, table: usize, more: bool) -> State
-    ensures { λ r. ⌜ (r .file ≡ file) × (r .table ≡ table) ⌝ }
+// No call, and no memory in use.
+fn blank() -> State
+    ensures { λ r. ⌜ (r .file ≡ 0) × (r .table ≡ 0) × (r .note ≡ 0) × (r .output ≡ 0) ⌝ }
 {
-    State { file, table, more }
+    State {
+        kind: 0,
+        file: 0,
+        table: 0,
+        note: 0,
+        output: 0,
+    }
 }
 
-fn ended() -> State
-    ensures { λ r. ⌜ (r .file ≡ 0) × (r .table ≡ 0) ⌝ }
+// Reads the next call of the stream, up to its share. `bytes` holds a pack's output or a page slice, and
+// before that the bytes of a table and of a note while they are read.
+fn read_next(
+    file: &mut [u8],
+    table: &mut [u32],
+    note: &mut [u16],
+    bytes: &mut [u8],
+    before: State,
+) -> State
+    requires { ⌜ Within (length (now file)) (length (now table)) (length (now note)) (length (now bytes)) before ⌝ }
+    requires { ⌜ (4 * length (now table) ≤ length (now bytes)) × (2 * length (now note) ≤ length (now bytes)) ⌝ }
+    ensures { λ r. ⌜ Within (length (now (file .entry))) (length (now (table .entry))) (length (now (note .entry))) (length (now (bytes .entry))) r ⌝ }
 {
-    state_of(0, 0, false)
-}
-
-// The next call of the stream. `bytes` holds a pack's output, a page slice, and a table's bytes while
-// they are read.
-fn play_next(file: &mut [u8], table: &mut [u32], bytes: &mut [u8], before: State) -> State
-    requires { ⌜ Within (length (now file)) (length (now table)) before ⌝ }
-    requires { ⌜ 4 * length (now table) ≤ length (now bytes) ⌝ }
-    ensures { λ r. ⌜ Within (length (now (file .entry))) (length (now (table .entry))) r ⌝ }
-{
-    let kept = before.table;
     let kind = input::byte();
-    if kind == 0 || 7 < kind {
-        return ended();
+    if kind == 0 || 8 < kind {
+        return blank();
     }
-    let read = input::read_bytes(file, before.file);
-    let count = read.count;
-    if !read.whole {
-        return ended();
-    }
-    if kind < 3 {
-        let more = play_bytes(kind, &file[..count], bytes);
-        return state_of(count, kept, more);
-    }
-    let lent = play_table(kind, &file[..count], table, bytes, kept);
-    state_of(count, lent.count, lent.whole)
+    let of_file = input::read_bytes(file, before.file);
+    let of_table = read_table(kind, table, bytes, before.table);
+    let of_note = read_note(kind, note, bytes, before.note);
+    let of_output = read_output(kind, bytes);
+    state_of(kind, of_file, of_table, of_note, of_output)
 }
 
-// A check or a pack, with its output. Answers whether the stream has it whole.
-fn play_bytes(kind: u8, file: &[u8], bytes: &mut [u8]) -> bool {
-    let lent = input::read_bytes(bytes, 0);
-    let count = lent.count;
-    if lent.whole {
-        play::call(kind, file, &mut bytes[..count], &mut [0u32; 0], arguments());
-    }
-    lent.whole
-}
-
-// A call with a table, of which the call before left `kept` numbers. Answers how many numbers it has, and whether the stream has the call
-// whole.
-fn play_table(kind: u8, file: &[u8], table: &mut [u32], bytes: &mut [u8], kept: usize) -> Read
+// The table of a call that is lent one.
+fn read_table(kind: u8, table: &mut [u32], bytes: &mut [u8], kept: usize) -> Read
     requires { ⌜ (kept ≤ length (now table)) × (4 * length (now table) ≤ length (now bytes)) ⌝ }
     ensures { λ r. ⌜ r .count ≤ length (now (table .entry)) ⌝ }
 {
-    let lent = input::read_numbers(table, bytes, kept);
-    let count = lent.count;
-    if !lent.whole {
-        return lent;
+    if kind < 3 {
+        return input::as_left(kept);
     }
-    let page = read_page(kind, bytes);
-    let size = page.count;
-    if page.whole {
-        play::call(
-            kind,
-            file,
-            &mut bytes[..size],
-            &mut table[..count],
-            arguments(),
-        );
-    }
-    Read {
-        count,
-        whole: page.whole,
-    }
+    input::read_numbers(table, bytes, kept)
 }
 
-// The page slice of a page. Any other call has none.
-fn read_page(kind: u8, bytes: &mut [u8]) -> Read
+// The note of a pass or a taking back.
+fn read_note(kind: u8, note: &mut [u16], bytes: &mut [u8], kept: usize) -> Read
+    requires { ⌜ (kept ≤ length (now note)) × (2 * length (now note) ≤ length (now bytes)) ⌝ }
+    ensures { λ r. ⌜ r .count ≤ length (now (note .entry)) ⌝ }
+{
+    if kind == 4 || kind == 8 {
+        return input::read_halves(note, bytes, kept);
+    }
+    input::as_left(kept)
+}
+
+// The output of a pack, which a check has at length 0, or the page slice of a page. Any other call has
+// none.
+fn read_output(kind: u8, bytes: &mut [u8]) -> Read
     ensures { λ r. ⌜ r .count ≤ length (now (bytes .entry)) ⌝ }
 {
-    if kind == 7 {
+    if kind < 3 || kind == 7 {
         return input::read_bytes(bytes, 0);
     }
-    Read {
-        count: 0,
-        whole: true,
+    input::as_left(0)
+}
+
+// A call of this kind with what was read for it, or the end where some of that is not whole.
+fn state_of(kind: u8, file: Read, table: Read, note: Read, output: Read) -> State
+    ensures { λ r. ⌜ (r .file ≡ file .count) × (r .table ≡ table .count) × (r .note ≡ note .count) × (r .output ≡ output .count) ⌝ }
+{
+    let whole = file.whole && table.whole && note.whole && output.whole;
+    State {
+        kind: if whole { kind } else { 0 },
+        file: file.count,
+        table: table.count,
+        note: note.count,
+        output: output.count,
     }
 }
 
-fn arguments() -> Arguments {
+// Reads the rest of a call, and makes it.
+fn play_call(file: &[u8], table: &mut [u32], note: &mut [u16], bytes: &mut [u8], state: State)
+    requires { ⌜ Within (length (now file)) (length (now table)) (length (now note)) (length (now bytes)) state ⌝ }
+{
+    let call = read_call(state.kind);
+    play::play(
+        &file[..state.file],
+        &mut bytes[..state.output],
+        &mut table[..state.table],
+        &mut note[..state.note],
+        call,
+    );
+}
+
+fn read_call(kind: u8) -> Call {
     let share = input::word();
     let budget = input::word();
     let excess = input::half();
-    Arguments {
+    Call {
+        kind,
         share,
         budget,
         excess,

@@ -10,9 +10,9 @@ use lib.Dec.{eqb, ltb}
 use Rattle.theory.specs.Finite.{first}
 use Rattle.theory.specs.Laws.Filled.{Filled}
 use Rattle.theory.specs.Routes.{distances, fitsNext}
-use Rattle.theory.specs.Study.{head, closed, noLink}
+use Rattle.theory.specs.Study.{head, closed, noLink, linkMark}
 use Rattle.search.specs.Search.{routingFrom}
-use Rattle.search.specs.Chains.{linkMark, Passed}
+use Rattle.search.specs.Chains.{Passed}
 use Rattle.search.specs.Rows.{Worked}
 
 -- Whether link l fits as the next link of node j to destination s.

@@ -1,14 +1,13 @@
 -- Next links kept by destination and by node.
-use Prim.Native.Nat.{ℕ, _-_, _≤_, _<_}
+use Prim.Native.Nat.{ℕ, _-_, _/_, _%_, _≤_, _<_, min}
 use mathlib.Core.Path.{_≡_}
 use mathlib.Core.List.{List, [], _++_, map}
 use mathlib.Core.Logic.{_⊎_}
 use lib.ListN.{length, getD, set, replicate}
 use Rattle.theory.specs.Routes.{Routing, nextLinks}
-use Rattle.theory.specs.Study.{noLink}
+use Rattle.theory.specs.Study.{noLink, linkMark}
 use Rattle.theory.specs.Laws.Filled.{Filled}
 use Rattle.search.specs.Search.{routingFrom}
-use Rattle.search.specs.Chains.{linkMark}
 use Rattle.search.specs.Groups.{NoTrips}
 use Rattle.routes.specs.Next.{firstOpen}
 
@@ -20,26 +19,48 @@ linkMarks q = map linkMark (nextLinks q) ++ replicate (128 - q .nodes) noLink
 unfoldable pub noLinks : List ℕ
 noLinks = replicate 128 noLink
 
--- The next links to destination k, or none, which is as good where nobody goes there.
+-- The next links to destination k.
+abbrev pub FullRow : ℕ → List (List ℕ) → List ℕ → List ℕ → ℕ → List ℕ → Type 0
+FullRow nodes links destinations times k row = row ≡ linkMarks (routingFrom nodes links times (getD destinations k 0))
+
+-- Nobody goes to a destination of the group of eight that k is in.
+abbrev pub GroupUnused : ℕ → List ℕ → List ℕ → ℕ → Type 0
+GroupUnused nodes destinations trips k = (q : ℕ) → q / 8 ≡ k / 8 → q < length destinations → NoTrips nodes trips q
+
+-- The next links to destination k, or none, which is as good where nobody goes there. There are none only where nobody goes to k's group.
 abbrev pub NextRow : ℕ → List (List ℕ) → List ℕ → List ℕ → List ℕ → ℕ → List ℕ → Type 0
 NextRow nodes links destinations trips times k row =
-    (row ≡ linkMarks (routingFrom nodes links times (getD destinations k 0))) ⊎ ((row ≡ noLinks) × NoTrips nodes trips k)
+    FullRow nodes links destinations times k row ⊎ ((row ≡ noLinks) × NoTrips nodes trips k × GroupUnused nodes destinations trips k)
 
--- A table of 32 rows, of which the first are the next links to each destination.
+-- A table of 32 rows, of which the first are the next links to each destination, where somebody goes to its group.
 pub record Nexts (nodes : ℕ) (links : List (List ℕ)) (destinations trips times : List ℕ) (table : List (List ℕ)) : Type 0 where
   pub size : length table ≡ 32
   pub row : (k : ℕ) → k < length destinations → NextRow nodes links destinations trips times k (getD table k [])
 
--- The rows of the destinations below k are done.
-pub record NextsBelow (nodes : ℕ) (links : List (List ℕ)) (destinations trips times : List ℕ) (k : ℕ) (table : List (List ℕ)) : Type 0 where
+-- A table of 32 rows, of which the first are the next links to each destination.
+pub record AllNexts (nodes : ℕ) (links : List (List ℕ)) (destinations times : List ℕ) (table : List (List ℕ)) : Type 0 where
   pub size : length table ≡ 32
-  pub done : (q : ℕ) → q < k → q < length destinations → NextRow nodes links destinations trips times q (getD table q [])
+  pub row : (k : ℕ) → k < length destinations → FullRow nodes links destinations times k (getD table k [])
 
 -- The rows from `first` on and below k are as `Put` says of each, and the others are as they were.
 pub record RowsPut (Put : ℕ → List ℕ → Type 0) (table₀ : List (List ℕ)) (first k : ℕ) (table : List (List ℕ)) : Type 0 where
   pub size : length table ≡ 32
   pub put : (q : ℕ) → first ≤ q → q < k → Put q (getD table q [])
   pub rest : (q : ℕ) → (first ≤ q → q < k → ⊥) → getD table q [] ≡ getD table₀ q []
+
+-- The rows of the groups before the one that begins with `first`, of p destinations, are as `Put` says, and the others are as they were.
+pub record GroupsPut (Put : ℕ → List ℕ → Type 0) (table₀ : List (List ℕ)) (p first : ℕ) (table : List (List ℕ)) : Type 0 where
+  pub begins : first % 8 ≡ 0
+  pub rows : RowsPut Put table₀ 0 (min first p) table
+
+-- Those rows are next links, or have no link where nobody goes to their group.
+abbrev pub NextsBelow : ℕ → List (List ℕ) → List ℕ → List ℕ → List ℕ → List (List ℕ) → ℕ → List (List ℕ) → Type 0
+NextsBelow nodes links destinations trips times table₀ first table =
+    GroupsPut (NextRow nodes links destinations trips times) table₀ (length destinations) first table
+
+-- They all are next links.
+abbrev pub AllBelow : ℕ → List (List ℕ) → List ℕ → List ℕ → List (List ℕ) → ℕ → List (List ℕ) → Type 0
+AllBelow nodes links destinations times table₀ first table = GroupsPut (FullRow nodes links destinations times) table₀ (length destinations) first table
 
 -- The rows from `first` on and below k have no link.
 abbrev pub RowsEmpty : ℕ → ℕ → List (List ℕ) → Type 0
@@ -72,3 +93,7 @@ RowsOpen nodes links times group first k table =
 abbrev pub GroupPut : ℕ → List (List ℕ) → List ℕ → List ℕ → List (List ℕ) → ℕ → ℕ → List (List ℕ) → Type 0
 GroupPut nodes links times group table₀ first k table =
     RowsPut (λ q row. row ≡ linkMarks (routingFrom nodes links times (getD group (q - first) 0))) table₀ first k table
+
+-- The next links to the destinations from `first` on and below k are written.
+abbrev pub NextsPut : ℕ → List (List ℕ) → List ℕ → List ℕ → List (List ℕ) → ℕ → ℕ → List (List ℕ) → Type 0
+NextsPut nodes links destinations times table₀ first k table = RowsPut (FullRow nodes links destinations times) table₀ first k table

@@ -1,13 +1,15 @@
 // Next links, found from the least times to eight destinations side by side.
 ghost use mathlib.Core.Path.{_≡_};
-ghost use Prim.Native.Nat.{ℕ, _+_, _*_, _≤_, _<_, _%_};
+ghost use Prim.Native.Nat.{ℕ, _+_, _*_, _≤_, _<_, _%_, min};
+ghost use mathlib.Core.Bool.{false};
 ghost use lib.ListN.{length, getD};
 ghost use Rattle.search.specs.Search.{routingFrom};
 ghost use Rattle.search.specs.Given.{AllSearchable};
 ghost use Rattle.search.specs.Chains.{Chainable, Linked, chainOf};
 ghost use Rattle.search.specs.Lanes.{EachSearchable, Found};
+ghost use Rattle.search.specs.Groups.{Unused};
 ghost use Rattle.routes.specs.Next.{firstOpen, Unfit, Lows, Kept, RowKept, Candidates, Lowered};
-ghost use Rattle.routes.specs.Table.{linkMarks, Nexts, RowsEmpty, RowsCleared, NodePut, OpenRow, OpenPut, RowsOpen, GroupPut};
+ghost use Rattle.routes.specs.Table.{linkMarks, Nexts, AllNexts, RowsEmpty, RowsCleared, NodePut, OpenRow, OpenPut, RowsOpen, GroupPut, NextsPut};
 use search::INTO;
 use search::OUT;
 use search::group_end;
@@ -278,6 +280,49 @@ fn clear_rows(table: &mut [[u16; 128]; 32], first: usize, past: usize)
     }
 }
 
+// Writes the next links to the destinations of a group, which are those from `first` on and below `past`. The marks are lent for the search.
+fn put_next(
+    table: &mut [[u16; 128]; 32],
+    first: usize,
+    past: usize,
+    nodes: usize,
+    links: &[[u16; 6]],
+    destinations: &[u16],
+    times: &[u32; 512],
+    chains: &[[u16; 768]; 2],
+    marks: &mut [[u32; 8]; 128],
+)
+    requires { ⌜ AllSearchable nodes (now links) (now destinations) (now times) × Linked (now links) (now chains) ⌝ }
+    requires { ⌜ (first < length (now destinations)) × (past ≡ min (first + 8) (length (now destinations))) ⌝ }
+    requires { ⌜ (length (now table) ≡ 32) × RowsEmpty first past (now table) ⌝ }
+    ensures { λ _. ⌜ NextsPut nodes (now (links .entry)) (now (destinations .entry)) (now (times .entry)) (now (table .entry)) first past (now (table .exit)) ⌝ }
+{
+    let group = group_of(destinations, first);
+    search(nodes, links, times, group, &chains[INTO], marks);
+    put_group(
+        table,
+        first,
+        past,
+        nodes,
+        links,
+        times,
+        &group,
+        &chains[OUT],
+        marks,
+    );
+    put_closed(
+        table,
+        first,
+        past,
+        nodes,
+        links,
+        times,
+        &group,
+        &chains[INTO],
+        marks,
+    );
+}
+
 // The next links to each destination, kept by destination and by node. A group of destinations to which nobody goes is not searched, and
 // has no link.
 pub fn next_table(
@@ -299,29 +344,70 @@ pub fn next_table(
         let past = group_end(destinations.len(), first);
         clear_rows(table, first, past);
         if 0 < group_trips(nodes, trips, first, past) {
-            let group = group_of(destinations, first);
-            search(nodes, links, times, group, &chains[INTO], &mut marks);
-            put_group(
+            put_next(
                 table,
                 first,
                 past,
                 nodes,
                 links,
+                destinations,
                 times,
-                &group,
-                &chains[OUT],
-                &marks,
+                chains,
+                &mut marks,
             );
-            put_closed(
+        }
+        first += 8;
+    }
+}
+
+// Whether nobody goes to the destinations from `first` on and below `past`: false only where there are trips to one of them.
+// (`group_trips` promises the other half: it is 0 only where there are none.)
+fn no_trips(nodes: usize, trips: &[u16], first: usize, past: usize) -> bool
+    requires { ⌜ (nodes ≤ 128) × (first ≤ past) × (past ≤ 32) × (past * nodes ≤ length (now trips)) ⌝ }
+    ensures { λ r. ⌜ (r ≡ false → Unused nodes (now (trips .entry)) first past → ⊥) ⌝ }
+{
+    let end = past * nodes;
+    let mut i = first * nodes;
+    while i < end {
+        if trips[i] != 0 {
+            return false;
+        }
+        i += 1;
+    }
+    true
+}
+
+// The next links to the destinations of the groups to which nobody goes, which `next_table` leaves out.
+pub fn complete_table(
+    nodes: usize,
+    links: &[[u16; 6]],
+    destinations: &[u16],
+    trips: &[u16],
+    times: &[u32; 512],
+    chains: &[[u16; 768]; 2],
+    table: &mut [[u16; 128]; 32],
+)
+    requires { ⌜ AllSearchable nodes (now links) (now destinations) (now times) × Linked (now links) (now chains) ⌝ }
+    requires { ⌜ length (now trips) ≡ length (now destinations) * nodes ⌝ }
+    requires { ⌜ Nexts nodes (now links) (now destinations) (now trips) (now times) (now table) ⌝ }
+    ensures { λ _. ⌜ AllNexts nodes (now (links .entry)) (now (destinations .entry)) (now (times .entry)) (now (table .exit)) ⌝ }
+{
+    let mut first: usize = 0;
+    while first < destinations.len() {
+        let past = group_end(destinations.len(), first);
+        if no_trips(nodes, trips, first, past) {
+            let mut marks = [[0; 8]; 128];
+            clear_rows(table, first, past);
+            put_next(
                 table,
                 first,
                 past,
                 nodes,
                 links,
+                destinations,
                 times,
-                &group,
-                &chains[INTO],
-                &marks,
+                chains,
+                &mut marks,
             );
         }
         first += 8;

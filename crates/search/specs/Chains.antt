@@ -9,16 +9,11 @@ use mathlib.Core.Option.{Option, none, some}
 use lib.ListN.{length, getD}
 use lib.Dec.{eqb, leb}
 use Rattle.theory.specs.Finite.{first, tabulate}
-use Rattle.theory.specs.Study.{column, tail, head, closed, noLink}
+use Rattle.theory.specs.Study.{column, tail, head, closed, noLink, linkMark}
 
 -- Where a link ends.
 unfoldable pub endOf : List (List ℕ) → ℕ → ℕ → ℕ
 endOf links end l = cond (eqb (closed links l) 1) (128 + column end links l) (column end links l)
-
--- A link, or none, as it is kept.
-unfoldable pub linkMark : Option ℕ → ℕ
-linkMark none = noLink
-linkMark (some l) = l
 
 -- The lowest of the links from number a on with an end at place j.
 unfoldable pub lowestFrom : List (List ℕ) → ℕ → ℕ → ℕ → ℕ

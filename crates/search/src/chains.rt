@@ -22,9 +22,17 @@ pub fn link_chains(links: &[[u16; 6]]) -> [[u16; 768]; 2]
     ensures { λ r. ⌜ Linked (now (links .entry)) r ⌝ }
 {
     let mut chains = [[NO_LINK; 768]; 2];
+    put_chains(links, &mut chains);
+    chains
+}
+
+// The same, in an array that is lent without links: one that a function returns is copied.
+pub fn put_chains(links: &[[u16; 6]], chains: &mut [[u16; 768]; 2])
+    requires { ⌜ Chainable (now links) × (now chains ≡ replicate 2 (replicate 768 noLink)) ⌝ }
+    ensures { λ _. ⌜ Linked (now (links .entry)) (now (chains .exit)) ⌝ }
+{
     chain_links(links, HEAD, &mut chains[INTO]);
     chain_links(links, TAIL, &mut chains[OUT]);
-    chains
 }
 
 // The chains of the links into each node.

@@ -9,6 +9,7 @@ pub use chains::INTO;
 pub use chains::OUT;
 pub use chains::into_chain;
 pub use chains::link_chains;
+pub use chains::put_chains;
 pub use groups::group_end;
 pub use groups::group_of;
 pub use groups::group_trips;

@@ -16,6 +16,7 @@ pub mod Distances
 pub mod Reach
 pub mod Next
 pub mod Walks
+pub mod Noted
 pub mod Routings
 pub mod Loading
 pub mod Unreachable
@@ -28,6 +29,7 @@ pub mod Bound
 pub mod Tables
 pub mod Choice
 pub mod Moves
+pub mod Notes
 pub mod Descent
 pub mod Runs
 pub mod Local

@@ -7,5 +7,6 @@ pub mod Routes
 pub mod Cost
 pub mod Moves
 pub mod Study
+pub mod Notes
 pub mod Marks
 pub mod Laws

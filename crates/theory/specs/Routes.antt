@@ -106,12 +106,15 @@ abbrev pub occurrences : ℕ → List ℕ → ℕ
 occurrences l [] = 0
 occurrences l (x ∷ rest) = cond (eqb x l) 1 0 + occurrences l rest
 
--- The loading Y of one destination, by link: all D(j,s) are sent along next links. No walk has as many links as there are nodes.
+-- What trips from the nodes send over each link along next links. No walk that ends has as many links as there are nodes.
+unfoldable pub sentAlong : ℕ → ℕ → (ℕ → ℕ) → List (Option ℕ) → (ℕ → ℕ) → List ℕ
+sentAlong nodes links head next trips =
+    let walks = tabulate nodes (walk head next nodes) in
+    tabulate links (λ l. sum nodes (λ j. trips j * occurrences l (getD walks j [])))
+
+-- The loading Y of one destination, by link: all D(j,s) are sent along next links.
 unfoldable pub loadingRow : Routing → (ℕ → ℕ) → List ℕ
-loadingRow q trips =
-    let next = nextLinks q in
-    let walks = tabulate (q .nodes) (walk (q .head) next (q .nodes)) in
-    tabulate (q .links) (λ l. sum (q .nodes) (λ j. trips j * occurrences l (getD walks j [])))
+loadingRow q trips = sentAlong (q .nodes) (q .links) (q .head) (nextLinks q) trips
 
 -- The loading Y of all commodities at the times of a list: a table of share 1.
 unfoldable pub loading : Network → List ℕ → List ℕ

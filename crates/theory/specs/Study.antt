@@ -4,6 +4,7 @@ use Prim.Native.Nat.{ℕ, _+_, _*_, _/_, _%_, _<_}
 use mathlib.Core.Bool.{Bool, not, _||_}
 use mathlib.Core.Path.{_≡_}
 use mathlib.Core.List.{List, []}
+use mathlib.Core.Option.{Option, none, some}
 use lib.ListN.{length, getD}
 use lib.Dec.{eqb}
 use Rattle.theory.specs.Network.{Network}
@@ -63,3 +64,8 @@ network nodes links destinations trips =
 -- No link, where link numbers are kept: the largest number of 16 bits.
 abbrev pub noLink : ℕ
 noLink = 65535
+
+-- A link, or none, as it is kept.
+unfoldable pub linkMark : Option ℕ → ℕ
+linkMark none = noLink
+linkMark (some l) = l

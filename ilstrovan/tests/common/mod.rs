@@ -3,7 +3,7 @@
 
 use ilstrovan::sys;
 use second::stream::Calls;
-use second::{AuditAnswer, PassAnswer, RunAnswer};
+use second::{AuditAnswer, PassAnswer, RunAnswer, TakeBackAnswer};
 
 /// Guard words on either side, so that places of any alignment come up.
 const GUARDS: usize = 24;
@@ -78,6 +78,10 @@ fn guarded_table(table: &[u32]) -> Guarded<u32> {
     Guarded::new(table, GUARD as u32)
 }
 
+fn guarded_note(note: &[u16]) -> Guarded<u16> {
+    Guarded::new(note, GUARD as u16)
+}
+
 /// An answer that holds anything but what the call is to write.
 fn guarded_answer<const N: usize>() -> Guarded<u64> {
     Guarded::new(&[!GUARD; N], GUARD)
@@ -125,11 +129,13 @@ impl Calls for Proved {
         refusal
     }
 
-    fn pass(&self, file: &[u8], table: &mut [u32], share: u32) -> PassAnswer {
+    fn pass(&self, file: &[u8], table: &mut [u32], share: u32, note: &mut [u16]) -> PassAnswer {
         let file = File::new(file);
         let file = file.guarded.numbers();
         let mut lent = guarded_table(table);
         let flows = lent.numbers_mut();
+        let mut lent_note = guarded_note(note);
+        let noted = lent_note.numbers_mut();
         let mut answer = guarded_answer::<5>();
         let refusal = unsafe {
             sys::ilstrovan_pass(
@@ -138,10 +144,13 @@ impl Calls for Proved {
                 flows.as_mut_ptr(),
                 flows.len(),
                 share,
+                noted.as_mut_ptr(),
+                noted.len(),
                 answer.numbers_mut().as_mut_ptr().cast(),
             )
         };
         table.copy_from_slice(lent.open());
+        note.copy_from_slice(lent_note.open());
         let [outcome, gap, cost, share, over] = opened(&answer);
         PassAnswer {
             refusal,
@@ -230,5 +239,40 @@ impl Calls for Proved {
         assert!(lent.open() == table, "a page changed the table");
         page.copy_from_slice(paper.open());
         refusal
+    }
+
+    fn take_back(
+        &self,
+        file: &[u8],
+        table: &mut [u32],
+        share: u32,
+        note: &[u16],
+    ) -> TakeBackAnswer {
+        let file = File::new(file);
+        let file = file.guarded.numbers();
+        let mut lent = guarded_table(table);
+        let flows = lent.numbers_mut();
+        let lent_note = guarded_note(note);
+        let noted = lent_note.numbers();
+        let mut answer = guarded_answer::<1>();
+        let refusal = unsafe {
+            sys::ilstrovan_take_back(
+                file.as_ptr(),
+                file.len(),
+                flows.as_mut_ptr(),
+                flows.len(),
+                share,
+                noted.as_ptr(),
+                noted.len(),
+                answer.numbers_mut().as_mut_ptr().cast(),
+            )
+        };
+        table.copy_from_slice(lent.open());
+        assert!(lent_note.open() == note, "taking back changed the note");
+        let [share] = opened(&answer);
+        TakeBackAnswer {
+            refusal,
+            share: narrow(share),
+        }
     }
 }

@@ -13,8 +13,8 @@ pub(super) fn closed_sample() -> Versioned {
 }
 
 impl List {
-    /// One of the seven calls, another at each turn, with what it needs for
-    /// the sample study.
+    /// One of the seven calls besides taking back, another at each turn, with
+    /// what it needs for the sample study.
     pub(super) fn one_of_seven(&mut self, turn: usize, file: &[u8]) {
         let table = vec![0; 10];
         match turn % 7 {

@@ -189,7 +189,7 @@ pub(super) fn twins(list: &mut List) {
 }
 
 impl List {
-    /// All seven calls for one study, tables by a start and passes.
+    /// All calls but taking back for one study, tables by a start and passes.
     fn all_calls(&mut self, study: &Versioned) {
         let file = study.file();
         let links = study.draft.links.len();

@@ -55,7 +55,7 @@ pub(super) fn zone_in_the_middle(list: &mut List) {
 
 /// Nodes 1 and 3 are destinations, node 1 is closed; links into it come from
 /// 0 and from 2.
-fn crossing() -> Draft {
+pub(super) fn crossing() -> Draft {
     Draft {
         nodes: 4,
         links: vec![

@@ -1,9 +1,9 @@
-//! The definitions of document 01 and of requests A.1, A.2, A.4 and A.5 of
+//! The definitions of document 01 and of requests A.1, A.2 and A.4 to A.6 of
 //! document 02, word for word and by brute force, in whole numbers of 128 bits
 //! with a sign.
 
 use second::stream::Calls;
-use second::{AuditAnswer, PassAnswer, RunAnswer};
+use second::{AuditAnswer, PassAnswer, RunAnswer, TakeBackAnswer};
 
 type Whole = i128;
 
@@ -357,19 +357,30 @@ fn next_link(
     })
 }
 
+/// "Next links are kept by destination and by node"
+type NextLinks = Vec<Vec<Option<usize>>>;
+
+fn next_links(study: &Study, times: &[Whole]) -> NextLinks {
+    let destinations = study.destinations.iter();
+    destinations
+        .map(|&s| {
+            let distance = distances(study, times, s);
+            (0..study.n)
+                .map(|j| next_link(study, times, &distance, s, j))
+                .collect()
+        })
+        .collect()
+}
+
 /// "The loading Y sends all D(j,s) along next links".
-fn loading(study: &Study, times: &[Whole]) -> Table {
+fn loading(study: &Study, next: &NextLinks) -> Table {
     let mut y = vec![vec![0; study.m]; study.p];
     for (position, &s) in study.destinations.iter().enumerate() {
-        let distance = distances(study, times, s);
-        let next: Vec<Option<usize>> = (0..study.n)
-            .map(|j| next_link(study, times, &distance, s, j))
-            .collect();
         for j in 0..study.n as usize {
             let trips = study.trips[position][j];
             let mut node = j;
             while trips > 0 && node as Whole != s {
-                let l = next[node].unwrap();
+                let l = next[position][node].unwrap();
                 y[position][l] += trips;
                 node = study.links[l].head as usize;
             }
@@ -413,13 +424,24 @@ fn gap(study: &Study, table: &Table, w: Whole) -> Whole {
 
 /// "Start: W = 1, the table is Y at empty roads."
 fn started(study: &Study) -> Table {
-    loading(study, &times(study, &vec![0; study.m], 1))
+    let times = times(study, &vec![0; study.m], 1);
+    loading(study, &next_links(study, &times))
+}
+
+/// A table after a move, and the move's note.
+struct Moved {
+    table: Table,
+    w: Whole,
+    /// "the note: j, then p·n next links"
+    j: Whole,
+    next: NextLinks,
 }
 
 /// What a pass makes of a table and its share, if it moves it.
-fn moved(study: &Study, table: &Table, w: Whole) -> Option<(Table, Whole)> {
+fn moved(study: &Study, table: &Table, w: Whole) -> Option<Moved> {
     let s = totals(study, table);
-    let y_table = loading(study, &times(study, &s, w));
+    let next = next_links(study, &times(study, &s, w));
+    let y_table = loading(study, &next);
     let y = totals(study, &y_table);
     let d: Vec<Whole> = (0..study.m).map(|l| w * y[l] - s[l]).collect();
     // "Take the largest j from 1 to the smaller of 64 and 1,024 − W for
@@ -438,7 +460,8 @@ fn moved(study: &Study, table: &Table, w: Whole) -> Option<(Table, Whole)> {
                         .collect()
                 })
                 .collect();
-            return Some((table, w + j));
+            let w = w + j;
+            return Some(Moved { table, w, j, next });
         }
     }
     // "If not and 2W is at most 1,024, table and W are doubled. Otherwise
@@ -448,9 +471,90 @@ fn moved(study: &Study, table: &Table, w: Whole) -> Option<(Table, Whole)> {
             .iter()
             .map(|row| row.iter().map(|flow| 2 * flow).collect())
             .collect();
-        return Some((doubled, 2 * w));
+        // "A doubling has j = 0 and 65,535 throughout."
+        return Some(Moved {
+            table: doubled,
+            w: 2 * w,
+            j: 0,
+            next: vec![vec![None; study.n as usize]; study.p],
+        });
     }
     None
+}
+
+/// "j, then p·n next links as u16, destination by destination, 65,535 for none"
+fn give_note(study: &Study, moved: &Moved, note: &mut [u16]) {
+    note[0] = u16::try_from(moved.j).unwrap();
+    for position in 0..study.p {
+        for node in 0..study.n as usize {
+            let next = moved.next[position][node];
+            note[1 + position * study.n as usize + node] =
+                next.map_or(65_535, |l| u16::try_from(l).unwrap());
+        }
+    }
+}
+
+/// "21, a node with trips from which the note, for j above 0, does not lead
+/// along its own outgoing, permitted links to the destination within n steps":
+/// the note's links of all nodes that such walks pass.
+fn question_21(study: &Study, note: &[u16]) -> Result<NextLinks, u8> {
+    let n = study.n as usize;
+    let mut next = vec![vec![None; n]; study.p];
+    for (position, &s) in study.destinations.iter().enumerate() {
+        for j in 0..n {
+            if study.trips[position][j] == 0 {
+                continue;
+            }
+            let mut node = j;
+            let mut steps = 0;
+            while node as Whole != s {
+                let l = usize::from(note[1 + position * n + node]);
+                if steps == n
+                    || l >= study.m
+                    || study.links[l].tail != node as Whole
+                    || !study.may_carry(l, s)
+                {
+                    return Err(21);
+                }
+                next[position][node] = Some(l);
+                node = study.links[l].head as usize;
+                steps += 1;
+            }
+        }
+    }
+    Ok(next)
+}
+
+/// "Taking back lessens the table by j·Y, Y being the note's loading, and W by
+/// j, or halves both." The table and share that are left.
+fn taken_back(study: &Study, table: &Table, w: Whole, note: &[u16]) -> Result<(Table, Whole), u8> {
+    let j = Whole::from(note[0]);
+    if j == 0 {
+        // "22, ... or an odd entry or share to be halved"
+        if w % 2 != 0 || table.iter().flatten().any(|flow| flow % 2 != 0) {
+            return Err(22);
+        }
+        let halved = table
+            .iter()
+            .map(|row| row.iter().map(|flow| flow / 2).collect())
+            .collect();
+        return Ok((halved, w / 2));
+    }
+    let y = loading(study, &question_21(study, note)?);
+    // "22, j not below W, a table entry smaller than its part of j·Y"
+    if j >= w {
+        return Err(22);
+    }
+    let mut left = table.clone();
+    for position in 0..study.p {
+        for l in 0..study.m {
+            if table[position][l] < j * y[position][l] {
+                return Err(22);
+            }
+            left[position][l] -= j * y[position][l];
+        }
+    }
+    Ok((left, w - j))
 }
 
 /// Questions 14 to 16, then 20.
@@ -488,6 +592,14 @@ fn question_12(study: &Study, numbers: &[u32]) -> Result<(), u8> {
     Ok(())
 }
 
+/// "For pass and taking back, question 12 also wants 1 + p·n numbers there"
+fn question_12_of_the_note(study: &Study, note: &[u16]) -> Result<(), u8> {
+    if note.len() < 1 + study.p * study.n as usize {
+        return Err(12);
+    }
+    Ok(())
+}
+
 fn u64_of(number: Whole) -> u64 {
     u64::try_from(number).unwrap()
 }
@@ -519,7 +631,7 @@ fn page_text(study: &Study, table: &Table, w: Whole) -> String {
     text
 }
 
-/// The seven calls by the definitions.
+/// The eight calls by the definitions.
 pub struct Literal;
 
 impl Calls for Literal {
@@ -588,21 +700,24 @@ impl Calls for Literal {
         result.err().unwrap_or(0)
     }
 
-    fn pass(&self, file: &[u8], numbers: &mut [u32], share: u32) -> PassAnswer {
+    fn pass(&self, file: &[u8], numbers: &mut [u32], share: u32, note: &mut [u16]) -> PassAnswer {
         let result = study(file).and_then(|study| {
             question_12(&study, numbers)?;
+            question_12_of_the_note(&study, note)?;
             let table = table(&study, numbers, share)?;
             let w = Whole::from(share);
             let moved = moved(&study, &table, w);
-            if let Some((table, _)) = &moved {
-                give(&study, table, numbers);
+            // "'Finest' and a refusal leave the note unchanged."
+            if let Some(moved) = &moved {
+                give(&study, &moved.table, numbers);
+                give_note(&study, moved, note);
             }
             Ok(PassAnswer {
                 refusal: 0,
                 outcome: if moved.is_some() { 1 } else { 2 },
                 gap: u64_of(gap(&study, &table, w)),
                 cost: u64_of(cost(&study, &table, w)),
-                share: u32_of(moved.map_or(w, |(_, w)| w)),
+                share: u32_of(moved.map_or(w, |moved| moved.w)),
                 // "return the count for the judged table"
                 over: over(&study, &table, w),
             })
@@ -637,7 +752,7 @@ impl Calls for Literal {
                 } else if judged == budget {
                     3
                 } else {
-                    (table, w) = moved.unwrap();
+                    Moved { table, w, .. } = moved.unwrap();
                     continue;
                 };
                 give(&study, &table, numbers);
@@ -699,5 +814,28 @@ impl Calls for Literal {
             Ok(())
         });
         result.err().unwrap_or(0)
+    }
+
+    fn take_back(
+        &self,
+        file: &[u8],
+        numbers: &mut [u32],
+        share: u32,
+        note: &[u16],
+    ) -> TakeBackAnswer {
+        let result = study(file).and_then(|study| {
+            question_12(&study, numbers)?;
+            question_12_of_the_note(&study, note)?;
+            // "Table questions up to 20 come first."
+            let table = table(&study, numbers, share)?;
+            let (left, w) = taken_back(&study, &table, Whole::from(share), note)?;
+            give(&study, &left, numbers);
+            // "It returns the resulting share"
+            Ok(TakeBackAnswer {
+                refusal: 0,
+                share: u32_of(w),
+            })
+        });
+        result.unwrap_or_else(|refusal| TakeBackAnswer { refusal, share: 0 })
     }
 }

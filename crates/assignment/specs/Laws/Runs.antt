@@ -36,9 +36,9 @@ use Rattle.judging.specs.declared.Turn.{Turn}
 use Rattle.judging.specs.declared.Step.{Step}
 use Rattle.judging.specs.declared.Step.the-variants as step
 use Rattle.assignment.specs.Answers.{endingOf, endedAnswer}
-use Rattle.assignment.specs.Parts.{PartsOf, studyIn}
+use Rattle.refusals.specs.Parts.{PartsOf, studyIn}
 use Rattle.assignment.specs.Runs.{Running, Begun}
-use Rattle.assignment.specs.Laws.Parts.{study-is, network-is, parts-sized, ready, judgeable}
+use Rattle.refusals.specs.Laws.Parts.{study-is, network-is, parts-sized, ready, judgeable}
 
 -- What the definitions read of a table that stands in the first numbers of a lent one.
 module _ (file before : List ℕ) (study : Passed file) (i : ℕ) where

@@ -7,10 +7,10 @@ use Rattle.assignment_cases.proofs.run.Statement.{statement}
 use Rattle.assignment_cases.proofs.run.Tie as tie
 
 abbrev Inv-loop : tie.InvT-loop
-Inv-loop file₀ table₀ sizes₀ counter₀ file table sizes counter = (length file ≡ length file₀) × (length table ≡ length table₀) × (sizes .file ≤ length file₀) × (sizes .table ≤ length table₀)
+Inv-loop file₀ table₀ note₀ sizes₀ counter₀ file table note sizes counter = (length file ≡ length file₀) × (length table ≡ length table₀) × (length note ≡ length note₀) × (sizes .file ≤ length file₀) × (sizes .table ≤ length table₀)
 
 abbrev μ-loop : tie.MeasureT-loop
-μ-loop file₀ table₀ sizes₀ counter₀ file table sizes counter = 1000 - counter
+μ-loop file₀ table₀ note₀ sizes₀ counter₀ file table note sizes counter = 1000 - counter
 
 loop-holds : tie.Need-loop-holds Inv-loop μ-loop
 loop-holds c = search needs
@@ -23,6 +23,9 @@ same-length c = search needs
 
 same-length-2 : tie.Need-same-length-2 Inv-loop μ-loop
 same-length-2 c = search needs
+
+same-length-3 : tie.Need-same-length-3 Inv-loop μ-loop
+same-length-3 c = search needs
 
 returns : tie.Need-returns Inv-loop μ-loop
 returns c = search needs
@@ -39,11 +42,14 @@ loop-less c = search needs
 loop-again : tie.Need-loop-again Inv-loop μ-loop
 loop-again c = search needs
 
-same-length-3 : tie.Need-same-length-3 Inv-loop μ-loop
-same-length-3 c = search needs
-
 same-length-4 : tie.Need-same-length-4 Inv-loop μ-loop
 same-length-4 c = search needs
+
+same-length-5 : tie.Need-same-length-5 Inv-loop μ-loop
+same-length-5 c = search needs
+
+same-length-6 : tie.Need-same-length-6 Inv-loop μ-loop
+same-length-6 c = search needs
 
 returns-2 : tie.Need-returns-2 Inv-loop μ-loop
 returns-2 c = search needs
@@ -58,11 +64,13 @@ run-spec =
     word-requires
     same-length
     same-length-2
+    same-length-3
     returns
     run-line-requires
     add-counter
     loop-less
     loop-again
-    same-length-3
     same-length-4
+    same-length-5
+    same-length-6
     returns-2)

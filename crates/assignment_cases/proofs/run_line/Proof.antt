@@ -11,6 +11,9 @@ read-study-requires c κs = search needs
 read-table-requires : tie.Need-read-table-requires
 read-table-requires c κs = search needs
 
+read-note-requires : tie.Need-read-note-requires
+read-note-requires c κs = search needs
+
 slice-reshare-prefix-call : tie.Need-slice-reshare-prefix-call
 slice-reshare-prefix-call c = search needs
 
@@ -41,11 +44,20 @@ returns-2 c = search needs
 same-length-3 : tie.Need-same-length-3
 same-length-3 c = search needs
 
+returns-3 : tie.Need-returns-3
+returns-3 c = search needs
+
 same-length-4 : tie.Need-same-length-4
 same-length-4 c = search needs
 
-returns-3 : tie.Need-returns-3
-returns-3 c = search needs
+same-length-5 : tie.Need-same-length-5
+same-length-5 c = search needs
+
+same-length-6 : tie.Need-same-length-6
+same-length-6 c = search needs
+
+returns-4 : tie.Need-returns-4
+returns-4 c = search needs
 
 pub run-line-spec : {M : Type 1} → statement M
 run-line-spec =
@@ -53,6 +65,7 @@ run-line-spec =
     (tie.spec
     read-study-requires
     read-table-requires
+    read-note-requires
     slice-reshare-prefix-call
     slice-aggregate-call
     slice-relend-prefix-call
@@ -63,5 +76,8 @@ run-line-spec =
     same-length-2
     returns-2
     same-length-3
+    returns-3
     same-length-4
-    returns-3)
+    same-length-5
+    same-length-6
+    returns-4)

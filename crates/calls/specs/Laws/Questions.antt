@@ -1,17 +1,21 @@
 -- What the numbers of the calls say of the questions: a call answers 0 exactly where every question of its list is answered yes.
 use Prim.Native.Nat.{ℕ}
+use native.Mathlib.Omega.{arith}
 use mathlib.Core.Path.{_≡_, refl}
-use mathlib.Core.Bool.{Bool, true, cond}
+use mathlib.Core.Bool.{Bool, true, false, _&&_, cond}
 use mathlib.Core.List.{List, [], _∷_, _++_}
 use lib.Dec.{eqb}
+use borrow.Author.Tests.{eqb-false}
 use Rattle.study.specs.Sections.{nodes, closedPart}
 use Rattle.study.specs.Questions.{Question, firstNo, opening, refusal}
 use Rattle.study.specs.Laws.{numbered, numbered-append, firstNo-append, firstNo-both, all-yes, no-refusal, AllYes, opening-both, after-opening, opening-numbered}
 use Rattle.theory.specs.Flows.{totalsFit, conserves, permits}
+use Rattle.theory.specs.Moves.{Shared}
+use Rattle.theory.specs.Notes.{noteLeads, canTakeBack}
 use Rattle.calls.specs.Study.{linkRows, destinationNodes, tripEntries, networkOf}
-use Rattle.calls.specs.Questions.{endsFit, timesFit, destinationsFit, closedFit, noTripsWithin, totalFits, tripsReach, tableHolds, budgetFits, shareFits, outputHolds, pageHolds}
-use Rattle.calls.specs.Questions.{ask, studyQuestions, shareQuestions, checkQuestions, packQuestions, startQuestions, runQuestions, tableQuestions, pageQuestions}
-use Rattle.calls.specs.Calls.{checkNumber, packNumber, startNumber, runNumber, tableNumber, pageNumber}
+use Rattle.calls.specs.Questions.{endsFit, timesFit, destinationsFit, closedFit, noTripsWithin, totalFits, tripsReach, tableHolds, noteHolds, budgetFits, shareFits, outputHolds, pageHolds}
+use Rattle.calls.specs.Questions.{ask, studyQuestions, shareQuestions, checkQuestions, packQuestions, startQuestions, runQuestions, tableQuestions, pageQuestions, noteQuestions, passQuestions, takeBackQuestions}
+use Rattle.calls.specs.Calls.{checkNumber, packNumber, startNumber, runNumber, tableNumber, pageNumber, passNumber, takeBackNumber}
 
 -- A study that passes questions 1 to 10, 19 among them.
 pub record Described (file : List ℕ) : Type 0 where
@@ -143,3 +147,82 @@ page-both file table share page e =
 
 pub both-page : (file table : List ℕ) (share : ℕ) (page : List ℕ) → tableNumber file table share ≡ 0 → pageHolds (networkOf file) page ≡ true → pageNumber file table share page ≡ 0
 both-page file table share page t p = rw (page-number file table share page, t, p)
+
+-- The number of a pass, from the audit's: a note that is too short is refused where a table that is too short would be.
+module _ (file table : List ℕ) (share : ℕ) (note : List ℕ) where
+  abbrev x : Shared
+  x = record { table = table; share = share }
+
+  note-numbered : numbered (noteQuestions file table note) ≡ true
+  unfolding noteQuestions
+  note-numbered =
+      numbered-append (checkQuestions file) (ask 12 (tableHolds (networkOf file) table && noteHolds (networkOf file) note) ∷ [])
+      (check-numbered file) refl
+
+  pass-numbered : numbered (passQuestions file table share note) ≡ true
+  unfolding passQuestions shareQuestions
+  pass-numbered = numbered-append (noteQuestions file table note) (shareQuestions (networkOf file) table share) note-numbered refl
+
+  note-number : firstNo (noteQuestions file table note) ≡ cond (eqb (startNumber file table) 0) (cond (noteHolds (networkOf file) note) 0 12) (startNumber file table)
+  unfolding noteQuestions checkNumber
+  note-number =
+      rw (firstNo-append (checkQuestions file) (ask 12 (tableHolds (networkOf file) table && noteHolds (networkOf file) note) ∷ []) (check-numbered file), start-number file table)
+      (go (checkNumber file) (eqb (checkNumber file) 0) refl (tableHolds (networkOf file) table) (noteHolds (networkOf file) note))
+    where
+      go : (c : ℕ) (none : Bool) → eqb c 0 ≡ none → (a b : Bool)
+          → cond none (cond (a && b) 0 12) c ≡ cond (eqb (cond none (cond a 0 12) c) 0) (cond b 0 12) (cond none (cond a 0 12) c)
+      go c true e true b = refl
+      go c true e false b = refl
+      go c false e a b = rw e
+
+  pub pass-number : passNumber file table share note ≡ cond (noteHolds (networkOf file) note) (tableNumber file table share) (cond (eqb (startNumber file table) 0) 12 (startNumber file table))
+  unfolding passNumber passQuestions
+  pass-number =
+      rw (firstNo-append (noteQuestions file table note) (shareQuestions (networkOf file) table share) note-numbered, note-number, table-number file table share)
+      (go (startNumber file table) (eqb (startNumber file table) 0) refl (noteHolds (networkOf file) note) (firstNo (shareQuestions (networkOf file) table share)))
+    where
+      go : (s : ℕ) (none : Bool) → eqb s 0 ≡ none → (b : Bool) (q : ℕ)
+          → cond (eqb (cond none (cond b 0 12) s) 0) q (cond none (cond b 0 12) s) ≡ cond b (cond none q s) (cond none 12 s)
+      go s true e true q = refl
+      go s true e false q = refl
+      go s false e true q = rw e
+      go s false e false q = rw e
+
+  pub take-back-number : takeBackNumber file table share note
+      ≡ cond (eqb (passNumber file table share note) 0) (cond (noteLeads (networkOf file) note) (cond (canTakeBack (networkOf file) x note) 0 22) 21) (passNumber file table share note)
+  unfolding takeBackNumber takeBackQuestions passNumber
+  take-back-number =
+      firstNo-append (passQuestions file table share note)
+      (ask 21 (noteLeads (networkOf file) note) ∷ ask 22 (canTakeBack (networkOf file) x note) ∷ [])
+      pass-numbered
+
+  -- They are accepted exactly where their questions are answered yes.
+  pub pass-both : passNumber file table share note ≡ 0 → (tableNumber file table share ≡ 0) × (noteHolds (networkOf file) note ≡ true)
+  pass-both e = go (noteHolds (networkOf file) note) (startNumber file table) (rw pass-number at e)
+    where
+      go : (b : Bool) (s : ℕ) → cond b (tableNumber file table share) (cond (eqb s 0) 12 s) ≡ 0 → (tableNumber file table share ≡ 0) × (b ≡ true)
+      go true s f = (f, refl)
+      go false s f = short (eqb s 0) refl f
+        where
+          short : (none : Bool) → eqb s 0 ≡ none → cond none 12 s ≡ 0 → (tableNumber file table share ≡ 0) × (false ≡ true)
+          short true z f = absurd (omega arith)
+          short false z f = absurd (eqb-false s 0 z f)
+
+  pub both-pass : tableNumber file table share ≡ 0 → noteHolds (networkOf file) note ≡ true → passNumber file table share note ≡ 0
+  both-pass t b = rw (pass-number, b) t
+
+  pub record TakenBack : Type 0 where
+    pub passed : passNumber file table share note ≡ 0
+    pub leads : noteLeads (networkOf file) note ≡ true
+    pub can : canTakeBack (networkOf file) x note ≡ true
+
+  pub take-back-passed : takeBackNumber file table share note ≡ 0 → TakenBack
+  unfolding takeBackNumber takeBackQuestions passNumber
+  take-back-passed e =
+      let last = ask 21 (noteLeads (networkOf file) note) ∷ ask 22 (canTakeBack (networkOf file) x note) ∷ [] in
+      let parts = firstNo-both (passQuestions file table share note) last pass-numbered e in
+      let yes′ = all-yes last refl (parts .1) in
+      record { passed = parts .0; leads = yes′ .0; can = yes′ .1 .0 }
+
+  pub passed-take-back : TakenBack → takeBackNumber file table share note ≡ 0
+  passed-take-back h = rw (take-back-number, h .passed, h .leads, h .can)

@@ -12,8 +12,9 @@ use Rattle.study.specs.Laws.{after-opening, closed-length}
 use Rattle.calls.specs.Study.{linkRows, destinationNodes, tripEntries, networkOf}
 use Rattle.calls.specs.Questions.{packedSize, outputHolds, checkQuestions}
 use Rattle.calls.specs.Pack.{packed}
-use Rattle.calls.specs.Laws.Questions.{pack-number, start-number, table-number, run-number}
-use Rattle.calls.specs.Calls.{checkNumber, packNumber, packOutput, startNumber, startTable, tableNumber, auditAnswer, passAnswer, passTable, runNumber, runAnswer, runTable}
+use Rattle.calls.specs.Laws.Questions.{pack-number, start-number, table-number, pass-number, take-back-number, run-number}
+use Rattle.calls.specs.Calls.{checkNumber, packNumber, packOutput, startNumber, startTable, tableNumber, auditAnswer, runNumber, runAnswer, runTable}
+use Rattle.calls.specs.Calls.{passNumber, passAnswer, passTable, passNote, takeBackNumber, takeBackAnswer, takeBackTable}
 
 -- The file layer answers the same of both files: the refusal of questions 1 to 5, the version, n, m and p, and the parts.
 pub record SameStudy (a b : List ℕ) : Type 0 where
@@ -110,17 +111,40 @@ module _ {a b : List ℕ} (same : SameStudy a b) where
       by-number zero e = rw (same-table-number table share, e, auditAnswer, same-network)
       by-number (suc number) e = rw (same-table-number table share, e, auditAnswer)
 
-  pub same-pass : (table : List ℕ) (share : ℕ) → passAnswer a table share ≡ passAnswer b table share
-  unfolding passAnswer
-  same-pass table share = by-number (tableNumber b table share) refl
-    where
-      by-number : (number : ℕ) → tableNumber b table share ≡ number → passAnswer a table share ≡ passAnswer b table share
-      by-number zero e = rw (same-table-number table share, e, passAnswer, same-network)
-      by-number (suc number) e = rw (same-table-number table share, e, passAnswer)
+  module _ (table : List ℕ) (share : ℕ) (note : List ℕ) where
+    same-pass-number : passNumber a table share note ≡ passNumber b table share note
+    same-pass-number = rw (pass-number a, pass-number b, same-table-number, same-start-number, same-network)
 
-  pub same-pass-table : (table : List ℕ) (share : ℕ) → passTable a table share ≡ passTable b table share
-  unfolding passTable
-  same-pass-table table share = rw (same-table-number, same-network)
+    pub same-pass : passAnswer a table share note ≡ passAnswer b table share note
+    unfolding passAnswer
+    same-pass = by-number (passNumber b table share note) refl
+      where
+        by-number : (number : ℕ) → passNumber b table share note ≡ number → passAnswer a table share note ≡ passAnswer b table share note
+        by-number zero e = rw (same-pass-number, e, passAnswer, same-network)
+        by-number (suc number) e = rw (same-pass-number, e, passAnswer)
+
+    pub same-pass-table : passTable a table share note ≡ passTable b table share note
+    unfolding passTable
+    same-pass-table = rw (same-pass-number, same-network)
+
+    pub same-pass-note : passNote a table share note ≡ passNote b table share note
+    unfolding passNote
+    same-pass-note = rw (same-pass-number, same-network)
+
+    same-take-back-number : takeBackNumber a table share note ≡ takeBackNumber b table share note
+    same-take-back-number = rw (take-back-number a, take-back-number b, same-pass-number, same-network)
+
+    pub same-take-back : takeBackAnswer a table share note ≡ takeBackAnswer b table share note
+    unfolding takeBackAnswer
+    same-take-back = by-number (takeBackNumber b table share note) refl
+      where
+        by-number : (number : ℕ) → takeBackNumber b table share note ≡ number → takeBackAnswer a table share note ≡ takeBackAnswer b table share note
+        by-number zero e = rw (same-take-back-number, e, takeBackAnswer, same-network)
+        by-number (suc number) e = rw (same-take-back-number, e, takeBackAnswer)
+
+    pub same-take-back-table : takeBackTable a table share note ≡ takeBackTable b table share note
+    unfolding takeBackTable
+    same-take-back-table = rw (same-take-back-number, same-network)
 
   same-run-number : (table : List ℕ) (budget : ℕ) → runNumber a table budget ≡ runNumber b table budget
   same-run-number table budget = rw (run-number a, run-number b, same-start-number)

@@ -16,10 +16,13 @@ pass-numbers-requires c κs = search needs
 same-length : tie.Need-same-length
 same-length c = search needs
 
+same-length-2 : tie.Need-same-length-2
+same-length-2 c = search needs
+
 returns : tie.Need-returns
 returns c =
-    let passed = c .before .before .before .pass .ensures in
-    (ap (λ (a : PassAnswer). a .refusal) (passed .0), (passed .1, c .pass-numbers .ensures ∙ ap passNumbers (passed .0)))
+    let passed = c .before .before .before .before .before .pass .ensures in
+    (ap (λ (a : PassAnswer). a .refusal) (passed .0), (passed .1 .0, (passed .1 .1, c .pass-numbers .ensures ∙ ap passNumbers (passed .0))))
 
 pub ilstrovan-pass-spec : {M : Type 1} → statement M
-ilstrovan-pass-spec = tie.close (tie.spec pass-requires pass-numbers-requires same-length returns)
+ilstrovan-pass-spec = tie.close (tie.spec pass-requires pass-numbers-requires same-length same-length-2 returns)

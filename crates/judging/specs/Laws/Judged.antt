@@ -13,10 +13,11 @@ use Rattle.theory.specs.Flows.{linkTotal, total, step, stepTime, times, isOver,
 use Rattle.theory.specs.Routes.{loading}
 use Rattle.theory.specs.Cost.{linkCost, cost, leastTimes, spentTimes, gap}
 use Rattle.theory.specs.Moves.{movedTimes, qualifies, chosen, added, doubled, moves}
+use Rattle.theory.specs.Notes.{noteOf}
 use Rattle.theory.specs.Laws.Cases.{true-false}
 use Rattle.theory.specs.Laws.Finite.{order, sum-cong, count-cong, largest-cong}
 use Rattle.theory.specs.Laws.Times.{length-times, times-at}
-use Rattle.theory.specs.Laws.Tables.{totalsFit-all}
+use Rattle.theory.specs.Laws.Tables.{totalsFit-all, number-most}
 use Rattle.theory.specs.Laws.Routings.{routing-consistent}
 use Rattle.theory.specs.Laws.Loading.{loading-spends}
 use Rattle.theory.specs.Laws.Bound.{gap-exact}
@@ -24,7 +25,7 @@ use Rattle.theory.specs.Laws.Choice.{chosen-le}
 use Rattle.theory.specs.Laws.Moves.{chosenOf}
 use Rattle.theory.specs.Laws.Local.{moveBy, move-by}
 use Rattle.theory.specs.Study.{freeTime, rise, capacity, power, network}
-use Rattle.calls.specs.Calls.{tableAfter}
+use Rattle.calls.specs.Calls.{tableAfter, noteAfter}
 use Rattle.travel.specs.Links.{padded, roads, listTime, listCost, listOver, listProduct, totalOf, loadOf}
 use Rattle.travel.specs.Ranges.{Within, ShareFits, TimesFit, MoveFits, mostFlow}
 use Rattle.travel.specs.Laws.Padded.{length-padded, getD-padded, getD-padded-rest, padded-clear, zeros-clear}
@@ -33,13 +34,14 @@ use Rattle.judging.specs.declared.Step.{Step}
 use Rattle.judging.specs.Study.{Study, linkCount, destinationCount, networkIn, Ready, Judgeable, moveOf}
 use Rattle.moves.specs.Loading.{loadingAlong, volumeRows}
 use Rattle.moves.specs.Moves.{canMove, moveAlong, TotalsMovable, Movable}
+use Rattle.judging.specs.Noted.{noteBy, Notable}
 use Rattle.judging.specs.Judged.{Lent, TotalsOf, Known, JudgedAt, GapFits, Left, turnOf}
 use Rattle.judging.specs.Laws.Study.{holds-rows, links-fit}
-use Rattle.judging.specs.Laws.Tables.{number-most}
 use Rattle.moves.specs.Laws.Moves.{moves-by}
 use Rattle.moves.specs.Laws.Totals.{movedTo, moved-totals}
 use Rattle.judging.specs.Laws.Routes.{TimesIn, timed, served, loading-is, load-most, next-links}
 use Rattle.judging.specs.Laws.Least.{least-over}
+use Rattle.judging.specs.Laws.Noted.{note-by}
 
 -- The choice of j goes by the flows of the links, their capacities and their times.
 chosen-roads :
@@ -325,3 +327,20 @@ module _ {d : Study} {table : List ℕ} {share : ℕ} (judgeable : Judgeable d t
       -- There is a move exactly where the code says so.
       pub moves-is : canMove share j ≡ moves (moveOf (networkIn d) table share)
       moves-is = sym (moves-by share j _ _) ∙ ap moves move-is
+
+      -- The note of the move can be filled,
+      pub notable : (note : List ℕ) → destinationCount d * d .nodes < length note → Notable d times′ nexts j note
+      notable note holds =
+          let most = chosen-le (networkIn d) share (total (networkIn d) table) (total (networkIn d) (loading (networkIn d) exact)) in
+          let chose = step-is j-is in
+          record {
+            ready = ready;
+            times-fit = c .times-fit;
+            nexts-are = c .nexts-are;
+            small-step = omega arith;
+            holds = holds;
+          }
+
+      -- and is the definition's.
+      pub note-is : (note : List ℕ) → noteBy (networkIn d) times′ j (2 * share) note ≡ noteAfter (noteOf (networkIn d) (record { table = table; share = share })) note (moveOf (networkIn d) table share)
+      note-is note = note-by (networkIn d) table share times′ (t .same) note (step-is j-is)

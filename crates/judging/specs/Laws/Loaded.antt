@@ -13,9 +13,8 @@ use Rattle.theory.specs.Laws.Finite.{order, sum-cong, first-some}
 use Rattle.theory.specs.Laws.Next.{length-next, next-first, next-without-path}
 use Rattle.theory.specs.Laws.Walks.{walkFrom, walked, walk-stops}
 use Rattle.theory.specs.Laws.Loading.{loaded as flow}
-use Rattle.theory.specs.Study.{head, noLink}
+use Rattle.theory.specs.Study.{head, noLink, linkMark}
 use Rattle.search.specs.Search.{routingFrom}
-use Rattle.search.specs.Chains.{linkMark}
 use Rattle.search.specs.Given.{Searchable}
 use Rattle.loading.specs.Along.{linkOf, walkAlong, flowAlong, Followable}
 use Rattle.theory.specs.Laws.Padded.{getD-default, length-padded}
@@ -40,7 +39,7 @@ walk-none head next (suc most) j e = walk-stops head next most j e
 
 -- A mark of a next link stands for the link.
 module _ (q : Routing) (few-nodes : q .nodes ≤ 128) (few-links : q .links ≤ 512) where
-  length-marks : length (linkMarks q) ≡ 128
+  pub length-marks : length (linkMarks q) ≡ 128
   unfolding linkMarks linkMark
   length-marks = length-padded linkMark (nextLinks q) (q .nodes) (length-next q) few-nodes
 

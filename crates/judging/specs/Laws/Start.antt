@@ -21,7 +21,7 @@ use Rattle.moves.specs.Loading.{loadingAlong, volumeRows, front, addedRows, Add
 use Rattle.judging.specs.Judged.{Known}
 use Rattle.moves.specs.Laws.Front.{front-at, front-past, length-front, front-is}
 use Rattle.moves.specs.Laws.Loading.{length-along}
-use Rattle.judging.specs.Laws.Tables.{number-most}
+use Rattle.theory.specs.Laws.Tables.{number-most}
 use Rattle.judging.specs.Laws.Routes.{TimesIn, loading-is, load-most, next-links}
 
 -- No flow on any link.

@@ -1,5 +1,5 @@
 -- Lent memory of which the first numbers are replaced.
-use Prim.Native.Nat.{ℕ, _+_, _-_, _≤_, _<_}
+use Prim.Native.Nat.{ℕ, _+_, _*_, _-_, _≤_, _<_}
 use native.Mathlib.Omega.{arith}
 use mathlib.Core.Path.{_≡_, refl, sym, _∙_, ap}
 use mathlib.Core.List.{List, _++_}
@@ -9,6 +9,7 @@ use lib.Seq.{getD-append-add, getD-drop, getD-set-same, getD-set-other, ext-getD
 use Rattle.theory.specs.Finite.{tabulate}
 use Rattle.theory.specs.Laws.Cases.{on-equal}
 use Rattle.theory.specs.Laws.Finite.{order, length-tabulate, getD-tabulate}
+use Rattle.theory.specs.Laws.Parts.{part, replaced, part-at, length-replaced, replaced-before, replaced-within, replaced-past}
 use Rattle.calls.specs.Calls.{overwritten}
 use Rattle.travel.specs.Links.{padded}
 use Rattle.travel.specs.Ranges.{Clear}
@@ -62,6 +63,53 @@ front-more f table i xs x h e v =
   where
     long : length xs ≡ length table
     long = ap length e ∙ length-front i f table (omega arith)
+
+-- A row of m numbers more.
+module _ (f : ℕ → ℕ) (table : List ℕ) (k m : ℕ) (within : k * m + m ≤ length table) {now : List ℕ} (e : now ≡ front (k * m) f table) where
+  pub row-within-front : k * m + m ≤ length now
+  row-within-front = omega (arith, ap length e, length-front (k * m) f table (omega arith))
+
+  -- It is as it was when the rows before it are replaced,
+  pub front-row : (l : ℕ) → l < m → getD (part now (k * m) m) l 0 ≡ getD table (k * m + l) 0
+  front-row l b = part-at now (k * m) m l b ∙ ap (λ xs. getD xs (k * m + l) 0) e ∙ front-past (k * m) f table (k * m + l) (omega arith)
+
+  -- and may stay so where nothing in it changes;
+  pub front-row-kept : ((l : ℕ) → l < m → f (k * m + l) ≡ getD table (k * m + l) 0) → now ≡ front ((k + 1) * m) f table
+  front-row-kept same =
+      front-is ((k + 1) * m) f table (omega arith) now
+      (ap length e ∙ length-front (k * m) f table (omega arith))
+      (λ i b. ap (λ xs. getD xs i 0) e ∙ ⊎-elim
+      (λ s. front-at (k * m) f table i s)
+      (λ s. front-past (k * m) f table i s ∙ sym (here i s b))
+      (order i (k * m)))
+      (λ i b. ap (λ xs. getD xs i 0) e ∙ front-past (k * m) f table i (omega arith))
+    where
+      here : (i : ℕ) → k * m ≤ i → i < (k + 1) * m → f i ≡ getD table i 0
+      here i s b =
+          let place : i ≡ k * m + (i - k * m) = omega arith in
+          let below : i - k * m < m = omega arith in
+          rw place (same (i - k * m) below)
+
+  -- or its numbers are replaced too.
+  pub front-row-more : (row : List ℕ) → length row ≡ m → ((l : ℕ) → l < m → getD row l 0 ≡ f (k * m + l)) →
+      replaced now (k * m) m row ≡ front ((k + 1) * m) f table
+  front-row-more row long is =
+      front-is ((k + 1) * m) f table (omega arith) (replaced now (k * m) m row)
+      (length-replaced now (k * m) m row-within-front row long ∙ ap length e ∙ length-front (k * m) f table (omega arith))
+      (λ i b. ⊎-elim
+      (λ s. replaced-before now (k * m) m row-within-front row long i s ∙ ap (λ xs. getD xs i 0) e ∙ front-at (k * m) f table i s)
+      (λ s. here i s b)
+      (order i (k * m)))
+      (λ i b.
+      replaced-past now (k * m) m row-within-front row long i (omega arith)
+      ∙ ap (λ xs. getD xs i 0) e
+      ∙ front-past (k * m) f table i (omega arith))
+    where
+      here : (i : ℕ) → k * m ≤ i → i < (k + 1) * m → getD (replaced now (k * m) m row) i 0 ≡ f i
+      here i s b =
+          let place : i ≡ k * m + (i - k * m) = omega arith in
+          let below : i - k * m < m = omega arith in
+          rw place (replaced-within now (k * m) m row-within-front row long (i - k * m) below ∙ is (i - k * m) below)
 
 -- An array that is 0 past the first m of its numbers is so when these are replaced.
 pub front-clear : (m : ℕ) (f : ℕ → ℕ) {xs ys : List ℕ} → m ≤ 512 → Clear m xs → ys ≡ front m f xs → ys ≡ padded m f

@@ -20,8 +20,8 @@ use Rattle.travel.specs.Laws.Totals.{linkTotal-more}
 use Rattle.loading.specs.Along.{walkAlong, flowAlong, volumeOver, scattered, Sendable, Scatterable}
 use Rattle.loading.specs.Laws.Scattered.{volume-most}
 use Rattle.moves.specs.Loading.{rowAlong, loadingAlong, volumeRows, front, addedRows, AllFollowable, Addable}
-use Rattle.moves.specs.Laws.Front.{front-at, front-past, length-front, front-is, front-none}
-use Rattle.theory.specs.Laws.Parts.{part, replaced, row-within, part-at, length-part, length-replaced, replaced-before, replaced-within, replaced-past}
+use Rattle.moves.specs.Laws.Front.{front-at, front-past, length-front, front-none, row-within-front, front-row, front-row-more}
+use Rattle.theory.specs.Laws.Parts.{part, replaced, row-within, part-at, length-part}
 
 -- A row that volumes are added to is a row with its first numbers replaced.
 scattered-front :
@@ -200,11 +200,12 @@ module _ {n m p : ℕ} {nexts volumes : List (List ℕ)} {weight : ℕ} {table :
   more i = getD table i 0 + weight * getD (volumeRows n m p nexts volumes) i 0
 
   -- Row k of the table stands within it,
-  long : length now ≡ length table
-  long = rows-length w (le-of-lt h) e
+  table-within : k * m + m ≤ length table
+  table-within = omega (arith, row-within m h, w .holds)
 
   pub rows-within : k * m + m ≤ length now
-  rows-within = omega (arith, long, row-within m h, w .holds)
+  unfolding addedRows
+  rows-within = row-within-front more table k m table-within e
 
   length-row : length (part now (k * m) m) ≡ m
   length-row = length-part now (k * m) m rows-within
@@ -212,8 +213,7 @@ module _ {n m p : ℕ} {nexts volumes : List (List ℕ)} {weight : ℕ} {table :
   -- and is as it was when the rows before it have their loading.
   row-kept : (l : ℕ) → l < m → getD (part now (k * m) m) l 0 ≡ getD table (k * m + l) 0
   unfolding addedRows
-  row-kept l b =
-      part-at now (k * m) m l b ∙ ap (λ xs. getD xs (k * m + l) 0) e ∙ front-past (k * m) more table (k * m + l) (omega arith)
+  row-kept = front-row more table k m table-within e
 
   abbrev over-link : ℕ → ℕ
   over-link l = volumeOver n (getD nexts k []) (getD volumes k []) l
@@ -238,32 +238,9 @@ module _ {n m p : ℕ} {nexts volumes : List (List ℕ)} {weight : ℕ} {table :
       replaced now (k * m) m row ≡ addedRows ((k + 1) * m) weight (volumeRows n m p nexts volumes) table
   unfolding addedRows
   rows-more {row} f =
-      front-is ((k + 1) * m) more table (omega (arith, row-within m h, w .holds)) (replaced now (k * m) m row)
-      (length-replaced now (k * m) m rows-within row row-long ∙ long)
-      (λ i b. ⊎-elim (λ s. before i s) (λ s. within i s b) (order i (k * m)))
-      (λ i b.
-      replaced-past now (k * m) m rows-within row row-long i (omega arith)
-      ∙ ap (λ xs. getD xs i 0) e
-      ∙ front-past (k * m) more table i (omega arith))
+      front-row-more more table k m table-within e row
+      (ap length is-front ∙ length-front m _ (part now (k * m) m) (omega (arith, length-row)) ∙ length-row)
+      (λ l b. ap (λ xs. getD xs l 0) is-front ∙ front-at m _ (part now (k * m) m) l b ∙ row-more l b)
     where
       is-front : row ≡ front m (λ l. getD (part now (k * m) m) l 0 + weight * over-link l) (part now (k * m) m)
       is-front = f ∙ scattered-front n m (getD nexts k []) (getD volumes k []) weight (part now (k * m) m)
-
-      row-long : length row ≡ m
-      row-long = ap length is-front ∙ length-front m _ (part now (k * m) m) (omega (arith, length-row)) ∙ length-row
-
-      before : (i : ℕ) → i < k * m → getD (replaced now (k * m) m row) i 0 ≡ more i
-      before i s =
-          replaced-before now (k * m) m rows-within row row-long i s
-          ∙ ap (λ xs. getD xs i 0) e
-          ∙ front-at (k * m) more table i s
-
-      within : (i : ℕ) → k * m ≤ i → i < (k + 1) * m → getD (replaced now (k * m) m row) i 0 ≡ more i
-      within i s b =
-          let place : i ≡ k * m + (i - k * m) = omega arith in
-          let below : i - k * m < m = omega arith in
-          rw place
-          (replaced-within now (k * m) m rows-within row row-long (i - k * m) below
-          ∙ ap (λ xs. getD xs (i - k * m) 0) is-front
-          ∙ front-at m _ (part now (k * m) m) (i - k * m) below
-          ∙ row-more (i - k * m) below)

@@ -8,11 +8,11 @@ use Rattle.replay.proofs.main.Statement.{statement}
 use Rattle.replay.proofs.main.Tie as tie
 
 abbrev Inv-loop : tie.InvT-loop
-Inv-loop file₀ table₀ bytes₀ state₀ counter₀ file table bytes state counter =
-    (counter ≤ 1000000) × (length table ≤ 16400) × (length bytes ≡ 65600) × Within (length file) (length table) state
+Inv-loop file₀ table₀ note₀ bytes₀ state₀ counter₀ file table note bytes state counter =
+    (counter ≤ 1000000) × (length table ≤ 16400) × (length note ≤ 4200) × (length bytes ≡ 65600) × Within (length file) (length table) (length note) (length bytes) state
 
 abbrev μ-loop : tie.MeasureT-loop
-μ-loop file₀ table₀ bytes₀ state₀ counter₀ file table bytes state counter = 1000000 - counter
+μ-loop file₀ table₀ note₀ bytes₀ state₀ counter₀ file table note bytes state counter = 1000000 - counter
 
 slice-aggregate-file : tie.Need-slice-aggregate-file Inv-loop μ-loop
 slice-aggregate-file c = search needs
@@ -20,20 +20,26 @@ slice-aggregate-file c = search needs
 slice-aggregate-table : tie.Need-slice-aggregate-table Inv-loop μ-loop
 slice-aggregate-table c = search needs
 
+slice-aggregate-note : tie.Need-slice-aggregate-note Inv-loop μ-loop
+slice-aggregate-note c = search needs
+
 slice-aggregate-bytes : tie.Need-slice-aggregate-bytes Inv-loop μ-loop
 slice-aggregate-bytes c = search needs
 
-state-of-requires : tie.Need-state-of-requires Inv-loop μ-loop
-state-of-requires c κs = search needs
+blank-requires : tie.Need-blank-requires Inv-loop μ-loop
+blank-requires c κs = search needs
 
 loop-holds : tie.Need-loop-holds Inv-loop μ-loop
 loop-holds c = search needs
 
-play-next-requires : tie.Need-play-next-requires Inv-loop μ-loop
-play-next-requires c κs = search needs
+read-next-requires : tie.Need-read-next-requires Inv-loop μ-loop
+read-next-requires c κs = search needs
 
 returns : tie.Need-returns Inv-loop μ-loop
 returns c = search needs
+
+play-call-requires : tie.Need-play-call-requires Inv-loop μ-loop
+play-call-requires c κs = search needs
 
 add-counter : tie.Need-add-counter Inv-loop μ-loop
 add-counter c = search needs
@@ -55,11 +61,13 @@ main-spec =
     μ-loop
     slice-aggregate-file
     slice-aggregate-table
+    slice-aggregate-note
     slice-aggregate-bytes
-    state-of-requires
+    blank-requires
     loop-holds
-    play-next-requires
+    read-next-requires
     returns
+    play-call-requires
     add-counter
     loop-less
     loop-again

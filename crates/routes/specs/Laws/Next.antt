@@ -10,7 +10,7 @@ use lib.Dec.{eqb}
 use borrow.Author.Tests.{eq-eqb, ne-eqb}
 use Rattle.theory.specs.Finite.{first}
 use Rattle.theory.specs.Routes.{Routing, distances, distance, fitsNext, nextLinks}
-use Rattle.theory.specs.Study.{tail, head, closed, mayUse, noLink}
+use Rattle.theory.specs.Study.{tail, head, closed, mayUse, noLink, linkMark}
 use Rattle.theory.specs.Laws.Cases.{on-equal, on-test, on-option}
 use Rattle.theory.specs.Laws.Finite.{some-first, none-first}
 use Rattle.theory.specs.Laws.Paths.{WellFormed}
@@ -21,7 +21,7 @@ use Rattle.theory.specs.Laws.Padded.{padded-at}
 use Rattle.theory.specs.Laws.Filled.{Filled, filled-is, map-tabulate}
 use Rattle.search.specs.Search.{routingFrom, unreached, mark, marks}
 use Rattle.search.specs.Given.{Searchable}
-use Rattle.search.specs.Chains.{linkMark, chainOf}
+use Rattle.search.specs.Chains.{chainOf}
 use Rattle.search.specs.Lanes.{EachSearchable, Found}
 use Rattle.search.specs.Laws.Chains.{place-open, place-of-open, chain-goes}
 use Rattle.search.specs.Laws.Found.{well-formed, marks-at}

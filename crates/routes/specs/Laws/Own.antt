@@ -13,14 +13,14 @@ use lib.Dec.{eqb, ltb}
 use borrow.Author.Tests.{lt-ltb, le-ltb, ne-eqb}
 use Rattle.theory.specs.Finite.{first}
 use Rattle.theory.specs.Routes.{distances}
-use Rattle.theory.specs.Study.{tail, head, closed, noLink}
+use Rattle.theory.specs.Study.{tail, head, closed, noLink, linkMark}
 use Rattle.theory.specs.Laws.Cases.{on-equal, on-option, on-test}
 use Rattle.theory.specs.Laws.Finite.{order, Lowest, first-some, some-first, first-none}
 use Rattle.theory.specs.Laws.Next.{fits-through}
 use Rattle.theory.specs.Laws.Padded.{getD-default}
 use Rattle.theory.specs.Laws.Permission.{may-own, may-closed}
 use Rattle.search.specs.Search.{routingFrom}
-use Rattle.search.specs.Chains.{endOf, linkMark, chainOf, Passed}
+use Rattle.search.specs.Chains.{endOf, chainOf, Passed}
 use Rattle.search.specs.Lanes.{EachSearchable, Found}
 use Rattle.search.specs.Laws.Chains.{place-closed, place-of-closed, first-cong, chain-begins, chain-goes}
 use Rattle.routes.specs.Next.{fitting, fittingBelow, firstBelow, Lowered, OwnBelow}

@@ -12,11 +12,11 @@ use lib.Seq.{getD-append-add, getD-set-same, getD-set-other, ext-getD}
 use lib.Dec.{eqb, leb}
 use borrow.Author.Tests.{eq-eqb, ne-eqb, eqb-true, le-leb, lt-leb, leb-true}
 use Rattle.theory.specs.Finite.{first, tabulate}
-use Rattle.theory.specs.Study.{column, closed, noLink}
+use Rattle.theory.specs.Study.{column, closed, noLink, linkMark}
 use Rattle.theory.specs.Laws.Cases.{on-equal, on-option, true-false}
 use Rattle.theory.specs.Laws.Finite.{order, and-left, and-right, Lowest, first-some, some-first, first-none, none-first, length-tabulate, getD-tabulate}
 use Rattle.search.specs.Given.{Roads}
-use Rattle.search.specs.Chains.{endOf, linkMark, lowestFrom, chainOf, Chainable, Passed}
+use Rattle.search.specs.Chains.{endOf, lowestFrom, chainOf, Linked, Chainable, Passed}
 
 -- Chains can be made of links whose ends are among few enough nodes.
 pub chainable : {nodes : ℕ} {links : List (List ℕ)} {times : List ℕ} → Roads nodes links times → Chainable links
@@ -25,6 +25,18 @@ chainable g =
       few-links = g .few-links;
       tail-node = λ l b. omega (arith, g .tail-node l b, g .few-nodes);
       head-node = λ l b. omega (arith, g .head-node l b, g .few-nodes);
+    }
+
+-- Both chains, put into two rows one after the other.
+pub linked-rows :
+    {links : List (List ℕ)} (rows : List (List ℕ)) {into out : List ℕ} → length rows ≡ 2 → into ≡ chainOf links 1 → out ≡ chainOf links 0 →
+    Linked links (set (set rows 0 into) 1 out)
+linked-rows rows {into} {out} two e h =
+    let first : 0 < length rows = omega (arith, two) in
+    let second : 1 < length (set rows 0 into) = omega (arith, two, length-set rows 0 into) in
+    record {
+      into = getD-set-other (set rows 0 into) 1 0 out [] (λ e. omega arith) ∙ getD-set-same rows 0 into [] first ∙ e;
+      out = getD-set-same (set rows 0 into) 1 out [] second ∙ h;
     }
 
 -- Where a link ends: at its node if its head is open, and 128 places on if that is closed.

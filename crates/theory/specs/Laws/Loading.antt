@@ -13,7 +13,7 @@ use borrow.Author.Tests.{eq-eqb, ne-eqb, le-leb}
 use Rattle.theory.specs.Finite.{sum}
 use Rattle.theory.specs.Network.{Network, Sound, totalTrips}
 use Rattle.theory.specs.Flows.{entry, total, linkTotal, sumAt, Carries, totalsFit}
-use Rattle.theory.specs.Routes.{Routing, routing, distance, isSome, occurrences, loadingRow, loading}
+use Rattle.theory.specs.Routes.{Routing, routing, distance, isSome, occurrences, sentAlong, loadingRow, loading}
 use Rattle.theory.specs.Cost.{leastTimes, spentTimes}
 use Rattle.theory.specs.Laws.Cases.{on-equal, on-option, true-false}
 use Rattle.theory.specs.Laws.Finite.{sum-cong, sum-mono, sum-add, sum-zero, sum-scale, sum-swap, sum-pick}
@@ -29,12 +29,12 @@ loaded q trips l = sum (q .nodes) (λ j. trips j * occurrences l (walkFrom q j))
 
 -- The loading of one destination has a number for each link,
 pub length-row : (q : Routing) (trips : ℕ → ℕ) → length (loadingRow q trips) ≡ q .links
-unfolding loadingRow
+unfolding loadingRow sentAlong
 length-row q trips = length-tabulate (q .links) _
 
 -- the trips over that link.
 pub row-loaded : (q : Routing) (trips : ℕ → ℕ) (l : ℕ) → l < q .links → getD (loadingRow q trips) l 0 ≡ loaded q trips l
-unfolding loadingRow loaded
+unfolding loadingRow sentAlong loaded
 row-loaded q trips l h =
     getD-tabulate (q .links) _ 0 l h
     ∙ sum-cong (q .nodes) _ _ (λ j k. ap (λ path. trips j * occurrences l path) (getD-tabulate (q .nodes) (walkFrom q) [] j k))

@@ -1,18 +1,18 @@
 -- Tables with j·Y added, and doubled: their entries, totals and conservation.
-use Prim.Native.Nat.{ℕ, _+_, _*_, _≤_, _<_}
-use native.Mathlib.Nat.{mul-le-mul-left}
+use Prim.Native.Nat.{ℕ, _+_, _*_, _-_, _/_, _%_, _≤_, _<_}
+use native.Mathlib.Nat.{mul-le-mul-left, mul-le-mul-right, eq-of-mul-eq-mul-left, div-add-mod', mod-lt, div-lt-iff-lt-mul, pos-of-ne-zero, le-trans}
 use native.Mathlib.Omega.{arith}
 use mathlib.Core.Path.{_≡_, _∙_, ap, ap₂}
 use mathlib.Core.Bool.{Bool, true, false, cond}
 use mathlib.Core.List.{List}
-use lib.ListN.{length}
+use lib.ListN.{length, getD}
 use lib.Arith.{digits-lt}
 use lib.Dec.{eqb}
 use borrow.Author.Tests.{leb-true, le-leb}
 use Rattle.theory.specs.Network.{Network, totalTrips}
 use Rattle.theory.specs.Flows.{entry, total, linkTotal, sumAt, Carries, totalsFit}
 use Rattle.theory.specs.Moves.{tableSize, added, doubled}
-use Rattle.theory.specs.Laws.Finite.{sum-cong, all-elim, all-intro, length-tabulate, getD-tabulate}
+use Rattle.theory.specs.Laws.Finite.{sum-cong, sum-term, all-elim, all-intro, length-tabulate, getD-tabulate}
 use Rattle.theory.specs.Laws.Inequalities.{sum-both}
 use Rattle.theory.specs.Laws.Conserving.{conserves-balanced, balanced-conserves}
 
@@ -27,6 +27,19 @@ pub all-totalsFit : (g : Network) (share : ℕ) (table : List ℕ) →
     ((l : ℕ) → l < g .links → total g table l ≤ share * totalTrips g) → totalsFit g share table ≡ true
 unfolding totalsFit
 all-totalsFit g share table h = all-intro (g .links) _ (λ l p. le-leb _ _ (h l p))
+
+-- A number of a table is at most its link's total, so at most what every total is at most.
+pub number-most :
+    (p m : ℕ) (table : List ℕ) (most : ℕ) → ((l : ℕ) → l < m → linkTotal p m table l ≤ most) →
+    (i : ℕ) → i < p * m → getD table i 0 ≤ most
+unfolding linkTotal
+number-most p m table most totals i h =
+    let some-links : 0 < m = pos-of-ne-zero (λ e. let none = ap (λ x. p * x) e in omega arith) in
+    let row : i / m < p = div-lt-iff-lt-mul some-links .1 h in
+    let link : i % m < m = mod-lt i some-links in
+    let place : i / m * m + i % m ≡ i = div-add-mod' i m in
+    let term = sum-term p (λ k. getD table (k * m + i % m) 0) (i / m) row in
+    le-trans (rw place at term) (totals (i % m) link)
 
 -- A table of which every entry is a × that of one table + b × that of another.
 abbrev Combined : Network → ℕ → ℕ → List ℕ → List ℕ → List ℕ → Type 0
@@ -64,6 +77,18 @@ module _ (g : Network) (a b : ℕ) (x y z : List ℕ) (c : Combined g a b x y z)
             omega (arith, sumAt-combined (g .tail) k j p, sumAt-combined (g .head) k j p));
         permitted = λ k l p q barred.
             c k l p q ∙ ap₂ (λ m n. a * m + b * n) (cx .permitted k l p q barred) (cy .permitted k l p q barred) ∙ omega arith;
+      }
+
+  -- Where it carries at the shares combined and the second table at its own, the first carries at its own.
+  carries-parted : (v w : ℕ) → 1 ≤ a → Carries g (a * v + b * w) z → Carries g w y → Carries g v x
+  carries-parted v w some-a cz cy =
+      record {
+        conserving = balanced-conserves g v x (λ k j p q off.
+            let zs = conserves-balanced g (a * v + b * w) z (cz .conserving) k j p q off in
+            let ys = ap (λ n. b * n) (conserves-balanced g w y (cy .conserving) k j p q off) in
+            eq-of-mul-eq-mul-left a some-a _ _ (omega (arith, sumAt-combined (g .tail) k j p, sumAt-combined (g .head) k j p)));
+        permitted = λ k l p q barred.
+            omega (arith, c k l p q, cz .permitted k l p q barred, cy .permitted k l p q barred, mul-le-mul-right (entry (g .links) x k l) some-a);
       }
 
 -- A table's place for a commodity and a link is below its size.
@@ -131,3 +156,23 @@ module _ (g : Network) (table : List ℕ) where
   pub totalsFit-doubled : (share : ℕ) → totalsFit g share table ≡ true → totalsFit g (2 * share) (doubled g table) ≡ true
   totalsFit-doubled share fits =
       all-totalsFit g (2 * share) (doubled g table) (λ l p. omega (arith, total-doubled l p, totalsFit-all g share table fits l p))
+
+-- A table from which j·Y is taken, where that is possible: it carries at share V where the table carries at V + j and Y at 1.
+pub carries-lessened : (g : Network) (table : List ℕ) (j : ℕ) (y less : List ℕ) → ((i : ℕ) → i < tableSize g → j * getD y i 0 ≤ getD table i 0)
+    → ((i : ℕ) → i < tableSize g → getD less i 0 ≡ getD table i 0 - j * getD y i 0)
+    → (v : ℕ) → Carries g (v + j) table → Carries g 1 y → Carries g v less
+carries-lessened g table j y less part is v c d =
+    let e : v + j ≡ 1 * v + j * 1 = omega arith in
+    carries-parted g 1 j less y table
+    (λ k l p q. let h = place-lt g k l p q in omega (arith, part (k * g .links + l) h, is (k * g .links + l) h))
+    v 1 (omega arith) (rw e at c) d
+
+-- A halved table, where every entry is even: it carries at share V where the table carries at 2V.
+pub carries-halved : (g : Network) (table half : List ℕ) → ((i : ℕ) → i < tableSize g → getD table i 0 % 2 ≡ 0)
+    → ((i : ℕ) → i < tableSize g → getD half i 0 ≡ getD table i 0 / 2)
+    → (v : ℕ) → Carries g (2 * v) table → Carries g v half
+carries-halved g table half evens is v c =
+    let e : 2 * v ≡ 2 * v + 0 * (2 * v) = omega arith in
+    carries-parted g 2 0 half table table
+    (λ k l p q. let h = place-lt g k l p q in omega (arith, evens (k * g .links + l) h, is (k * g .links + l) h))
+    v (2 * v) (omega arith) (rw e at c) c

@@ -1,12 +1,29 @@
 //! The calls of an earlier build, whose static library ILSTROVAN_BEFORE names.
 //! `build.rs` renames what it exports: its `ilstrovan_run` is linked as
-//! `before_run`. A build from before A.4 leaves out the last number of an answer.
+//! `before_run`. A build from before A.4 leaves out the last number of an answer,
+//! and the pass of one from before A.6 is lent no note.
 
 use std::hint::black_box;
 
 mod sys {
     #![allow(dead_code, reason = "not every call is timed")]
     declare_calls!("before");
+    #[cfg(before_note)]
+    declare_noted_calls!("before");
+
+    #[cfg(not(before_note))]
+    unsafe extern "C" {
+        /// Pass without a note: outcome, gap, cost, share, over.
+        #[link_name = "before_pass"]
+        pub fn ilstrovan_pass(
+            file: *const u8,
+            file_length: usize,
+            table: *mut u32,
+            table_length: usize,
+            share: u32,
+            answer: *mut [u64; 5],
+        ) -> u8;
+    }
 }
 
 /// Whether it accepts a study: it refuses a version that it does not know.
@@ -19,19 +36,37 @@ pub fn check(file: &[u8]) {
     black_box(accepts(file));
 }
 
-pub fn pass(file: &[u8], table: &mut [u32], share: u32) {
+#[cfg(not(before_note))]
+pub fn pass(file: &[u8], table: &mut [u32], share: u32, _: &mut [u16]) {
     let mut answer = [0; 5];
     let (bytes, size) = (file.as_ptr(), file.len());
+    let (flows, length) = (table.as_mut_ptr(), table.len());
     // SAFETY: pointers and lengths are those of slices, and the answer has five numbers.
+    unsafe { sys::ilstrovan_pass(bytes, size, flows, length, share, &mut answer) };
+    black_box(answer);
+}
+
+#[cfg(before_note)]
+pub fn pass(file: &[u8], table: &mut [u32], share: u32, note: &mut [u16]) {
+    let mut answer = [0; 5];
+    let (bytes, size) = (file.as_ptr(), file.len());
+    let (flows, length) = (table.as_mut_ptr(), table.len());
+    let (noted, room) = (note.as_mut_ptr(), note.len());
+    // SAFETY: pointers and lengths are those of slices, and the answer has five numbers.
+    unsafe { sys::ilstrovan_pass(bytes, size, flows, length, share, noted, room, &mut answer) };
+    black_box(answer);
+}
+
+/// Only where the earlier build has it.
+#[cfg(before_note)]
+pub fn take_back(file: &[u8], table: &mut [u32], share: u32, note: &[u16]) {
+    let mut answer = [0];
+    let (bytes, size) = (file.as_ptr(), file.len());
+    let (flows, length) = (table.as_mut_ptr(), table.len());
+    let (noted, room) = (note.as_ptr(), note.len());
+    // SAFETY: as in `pass`, and the answer has one number.
     unsafe {
-        sys::ilstrovan_pass(
-            bytes,
-            size,
-            table.as_mut_ptr(),
-            table.len(),
-            share,
-            &mut answer,
-        )
+        sys::ilstrovan_take_back(bytes, size, flows, length, share, noted, room, &mut answer)
     };
     black_box(answer);
 }

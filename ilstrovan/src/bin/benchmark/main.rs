@@ -11,6 +11,7 @@
 #[cfg(before)]
 #[macro_use]
 #[path = "../../declare.rs"]
+#[allow(unused_macros, reason = "an earlier build may know no note")]
 mod declare;
 
 #[cfg(before)]
@@ -29,8 +30,9 @@ mod studies;
 use std::cell::RefCell;
 use std::hint::black_box;
 
+use ilstrovan::LONGEST_NOTE;
 use measure::{Comparison, Way};
-use studies::Study;
+use studies::{Moved, Study};
 
 fn main() {
     let studies = studies::all();
@@ -56,14 +58,15 @@ fn main() {
     }
 }
 
-/// The calls on one study: a run to its end, a pass over, an audit and a page of
-/// the start's table, and a check.
-fn calls(study: &Study) -> [(String, Comparison); 5] {
+/// The calls on one study: a run to its end, a pass over the start's table, a move
+/// taken back, an audit and a page of the start's table, and a check.
+fn calls(study: &Study) -> [(String, Comparison); 6] {
     let file = &study.file;
     let room = vec![0; study.table_length];
-    let mut started = room.clone();
-    assert_eq!(second::start(file, &mut started), 0);
+    let started = study.started();
+    let moved = study.moved();
     let judged = agree(study, &started);
+    agree_on_moves(study, &started, &moved);
     // The third way is the earlier build's.
     let compare = |table: &[u32], ways: &mut [Way<'_>]| {
         let known = if before::accepts(file) { ways.len() } else { 2 };
@@ -79,13 +82,25 @@ fn calls(study: &Study) -> [(String, Comparison); 5] {
             &mut |table| before::run(file, table, 1_024, 0),
         ],
     );
+    // All write to the same place, so that where it lies favours none.
+    let note = RefCell::new(vec![0; LONGEST_NOTE]);
     let passing = compare(
         &started,
         &mut [
-            &mut |table| _ = black_box(ilstrovan::pass(file, table, 1)),
-            &mut |table| _ = black_box(second::pass(file, table, 1)),
+            &mut |table| _ = black_box(ilstrovan::pass(file, table, 1, &mut note.borrow_mut())),
+            &mut |table| _ = black_box(second::pass(file, table, 1, &mut note.borrow_mut())),
             #[cfg(before)]
-            &mut |table| before::pass(file, table, 1),
+            &mut |table| before::pass(file, table, 1, &mut note.borrow_mut()),
+        ],
+    );
+    let Moved { table, share, note } = &moved;
+    let taking_back = compare(
+        table,
+        &mut [
+            &mut |table| _ = black_box(ilstrovan::take_back(file, table, *share, note)),
+            &mut |table| _ = black_box(second::take_back(file, table, *share, note)),
+            #[cfg(before_note)]
+            &mut |table| before::take_back(file, table, *share, note),
         ],
     );
     let auditing = compare(
@@ -97,7 +112,6 @@ fn calls(study: &Study) -> [(String, Comparison); 5] {
             &mut |table| before::audit(file, table, 1),
         ],
     );
-    // All write to the same place, so that where it lies favours none.
     let paper = RefCell::new(study.paper());
     let paging = compare(
         &started,
@@ -120,6 +134,7 @@ fn calls(study: &Study) -> [(String, Comparison); 5] {
     [
         (format!("run, {judged} tables"), running),
         ("pass".to_string(), passing),
+        (format!("take back, {}", moved.words()), taking_back),
         ("audit".to_string(), auditing),
         ("page".to_string(), paging),
         ("check".to_string(), checking),
@@ -146,4 +161,23 @@ fn agree(study: &Study, started: &[u32]) -> u32 {
     ilstrovan::page(file, started, 1, &mut proved).expect("accepted");
     assert_eq!(proved, lines);
     run.judged
+}
+
+/// The same for a pass of the start's table and for a move taken back.
+fn agree_on_moves(study: &Study, started: &[u32], moved: &Moved) {
+    let file = &study.file;
+    let (mut table, mut other) = (started.to_vec(), started.to_vec());
+    let (mut note, mut other_note) = (vec![0; LONGEST_NOTE], vec![0; LONGEST_NOTE]);
+    let pass = second::pass(file, &mut table, 1, &mut note);
+    let proved = ilstrovan::pass(file, &mut other, 1, &mut other_note).expect("accepted");
+    assert_eq!((proved.gap, proved.cost), (pass.gap, pass.cost));
+    assert_eq!((proved.share, proved.over), (pass.share, pass.over));
+    assert!(other == table && other_note == note);
+
+    let Moved { table, share, note } = moved;
+    let (mut table, mut other) = (table.clone(), table.clone());
+    let back = second::take_back(file, &mut table, *share, note);
+    let proved = ilstrovan::take_back(file, &mut other, *share, note);
+    assert_eq!(proved, Ok(back.share));
+    assert!(other == table);
 }

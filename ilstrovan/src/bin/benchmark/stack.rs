@@ -4,7 +4,7 @@
 use std::ffi::{c_int, c_void};
 use std::ptr;
 
-use ilstrovan::{Refusal, audit, check, pack, page, pass, run, start};
+use ilstrovan::{LONGEST_NOTE, Refusal, audit, check, pack, page, pass, run, start, take_back};
 
 use crate::studies::Study;
 
@@ -52,11 +52,13 @@ pub fn needs(studies: &[Study]) -> Vec<(&'static str, usize, &str)> {
 }
 
 /// The stack that each call uses with one study, and a thread with it.
-fn needs_of(study: &Study) -> [(&'static str, usize); 7] {
+fn needs_of(study: &Study) -> [(&'static str, usize); 8] {
     let file = &study.file;
     let mut output = vec![0; file.len()];
     let mut paper = study.paper();
+    let mut note = vec![0; LONGEST_NOTE];
     let mut table = vec![0; study.table_length];
+    let mut moved = study.moved();
     let mut call = |name, work: &mut dyn FnMut(&mut [u32]) -> Result<(), Refusal>| {
         (name, used(&mut || work(&mut table).expect("accepted")))
     };
@@ -67,7 +69,12 @@ fn needs_of(study: &Study) -> [(&'static str, usize); 7] {
         call("start", &mut |table| start(file, table)),
         call("audit", &mut |table| audit(file, table, 1).map(drop)),
         call("page", &mut |table| page(file, table, 1, &mut paper)),
-        call("pass", &mut |table| pass(file, table, 1).map(drop)),
+        call("pass", &mut |table| {
+            pass(file, table, 1, &mut note).map(drop)
+        }),
+        call("take back", &mut |_| {
+            take_back(file, &mut moved.table, moved.share, &moved.note).map(drop)
+        }),
     ]
 }
 

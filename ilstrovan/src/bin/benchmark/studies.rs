@@ -2,7 +2,7 @@
 
 use std::path::Path;
 
-use ilstrovan::LINE_BYTES;
+use ilstrovan::{LINE_BYTES, LONGEST_NOTE};
 use second::draft::{Dice, Draft, DraftLink, Plan, Versioned, grid};
 use study_tool::exact::Fraction;
 use study_tool::format::{self, Version};
@@ -46,6 +46,33 @@ impl Study {
         vec![0; LINE_BYTES * self.links]
     }
 
+    /// The start's table.
+    pub fn started(&self) -> Vec<u32> {
+        let mut table = vec![0; self.table_length];
+        assert_eq!(second::start(&self.file, &mut table), 0);
+        table
+    }
+
+    /// What the first pass from the start on that adds loadings leaves, or the
+    /// last of several where all of them double.
+    pub fn moved(&self) -> Moved {
+        let mut moved = Moved {
+            table: self.started(),
+            share: 1,
+            note: vec![0; LONGEST_NOTE],
+        };
+        for _ in 0..MOST_PASSES {
+            let Moved { table, share, note } = &mut moved;
+            let answer = second::pass(&self.file, table, *share, note);
+            assert_eq!(answer.outcome, second::MOVED);
+            *share = answer.share;
+            if note[0] > 0 {
+                break;
+            }
+        }
+        moved
+    }
+
     fn of_draft(name: &str, draft: &Draft) -> Self {
         Study::of(name, &draft.clone().into())
     }
@@ -65,6 +92,16 @@ impl Study {
         Study::of(&name, &draft.clone().with_powers(powers))
     }
 
+    /// The same with trips to the first eight destinations only, as many as
+    /// before. Eight destinations are searched together, and those without trips
+    /// only for the note of a pass that adds loadings, as its first pass does.
+    fn of_eight(name: &str, draft: &Draft) -> Self {
+        let mut eight = draft.clone();
+        eight.trips[8..].iter_mut().for_each(|row| row.fill(0));
+        top_up(&mut eight, draft.total());
+        Study::of_powers(&format!("{name}, trips to 8"), &eight)
+    }
+
     fn of(name: &str, study: &Versioned) -> Self {
         let draft = &study.draft;
         Study {
@@ -79,8 +116,30 @@ impl Study {
     }
 }
 
+/// A table that a pass has moved, and its share and note.
+pub struct Moved {
+    pub table: Vec<u32>,
+    pub share: u32,
+    pub note: Vec<u16>,
+}
+
+impl Moved {
+    /// What the pass did.
+    pub fn words(&self) -> String {
+        match self.note[0] {
+            0 => "a doubling".to_string(),
+            1 => "1 loading".to_string(),
+            step => format!("{step} loadings"),
+        }
+    }
+}
+
+/// Most passes until one adds loadings.
+const MOST_PASSES: usize = 8;
+
 /// The town, Sioux Falls, and grids and random networks up to the largest study;
-/// three of them once more with their zones closed, and five with other powers.
+/// three of them once more with their zones closed, five with other powers, and
+/// one with trips to few of its destinations.
 pub fn all() -> Vec<Study> {
     let town = Draft::town();
     let mut studies = vec![
@@ -104,6 +163,7 @@ pub fn all() -> Vec<Study> {
         }
         if nodes == 128 {
             studies.push(Study::of_powers(&name, &draft));
+            studies.push(Study::of_eight(&name, &draft));
         }
     }
     for nodes in [16, 32, 64, 128] {

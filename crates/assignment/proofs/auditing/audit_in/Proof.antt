@@ -5,9 +5,10 @@ use borrow.Author.Needs.{needs}
 use denote.Ref.{now}
 use Rattle.calls.specs.Calls.{tableNumber}
 use Rattle.network.specs.Laws.Decoding.{trips-few, links-counted, destinations-counted, trips-counted}
-use Rattle.assignment.specs.Laws.Parts.{parts-decoded}
-use Rattle.assignment.specs.Laws.Places.{parts-room, table-passed}
-use Rattle.assignment.specs.Laws.Answers.{audit-refusal, table-ready, audit-answers}
+use Rattle.refusals.specs.Laws.Parts.{parts-decoded}
+use Rattle.refusals.specs.Laws.Places.{parts-room, table-passed}
+use Rattle.refusals.specs.Laws.Ready.{table-ready}
+use Rattle.assignment.specs.Laws.Answers.{audit-refusal, audit-answers}
 use Rattle.assignment.proofs.auditing.audit_in.Statement.{statement}
 use Rattle.assignment.proofs.auditing.audit_in.Tie as tie
 

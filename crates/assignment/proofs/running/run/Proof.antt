@@ -2,7 +2,7 @@
 use borrow.Author.Needs.{needs}
 use mathlib.Core.Path.{refl, sym, _∙_}
 use Rattle.network.specs.Laws.Decoding.{room-most, room-short}
-use Rattle.assignment.specs.Laws.Places.{small-length, small-curves, curves-most, curves-counted}
+use Rattle.refusals.specs.Laws.Places.{small-length, small-curves, curves-most, curves-counted}
 use Rattle.assignment.proofs.running.run.Statement.{statement}
 use Rattle.assignment.proofs.running.run.Tie as tie
 

@@ -6,7 +6,7 @@ use denote.Ref.{now}
 use Rattle.calls.specs.Calls.{runNumber}
 use Rattle.calls.specs.Laws.Calls.{run-kept}
 use Rattle.network.specs.Laws.Decoding.{trips-few, links-counted, destinations-counted, trips-counted}
-use Rattle.assignment.specs.Laws.Parts.{parts-decoded, parts-opened}
+use Rattle.refusals.specs.Laws.Parts.{parts-decoded, parts-opened}
 use Rattle.assignment.specs.Laws.Answers.{run-refusal, run-opened}
 use Rattle.assignment.proofs.running.run_in.Statement.{statement}
 use Rattle.assignment.proofs.running.run_in.Tie as tie

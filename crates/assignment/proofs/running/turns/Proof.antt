@@ -23,9 +23,9 @@ use Rattle.judging.specs.Judged.{Known, Lent, TotalsOf}
 use Rattle.judging.specs.Laws.Study.{links-fit, chainable}
 use Rattle.judging.specs.Laws.Judged.{zeros-lent, totals-set, totals-lent, share-fits, holds, totals-within, cost-is, over-is}
 use Rattle.assignment.specs.Runs.{Running, Begun}
-use Rattle.assignment.specs.Laws.Parts.{network-is, parts-sized}
-use Rattle.assignment.specs.Laws.Places.{curve-room, parts-room, run-passed}
-use Rattle.assignment.specs.Laws.Answers.{start-holds}
+use Rattle.refusals.specs.Laws.Parts.{network-is, parts-sized}
+use Rattle.refusals.specs.Laws.Places.{curve-room, parts-room, run-passed}
+use Rattle.refusals.specs.Laws.Ready.{start-holds}
 use Rattle.assignment.specs.Laws.Runs.{begun-running, run-ready, limit-is, limit-fits, turn-judgeable, turn-runs, still-judgeable, turn-ends}
 use Rattle.assignment.proofs.running.turns.Statement.{statement}
 use Rattle.assignment.proofs.running.turns.Tie as tie

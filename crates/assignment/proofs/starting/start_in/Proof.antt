@@ -10,9 +10,10 @@ use Rattle.network.specs.Laws.Decoding.{trips-few, links-counted, destinations-
 use Rattle.judging.specs.Laws.Judged.{zeros-lent}
 use Rattle.judging.specs.Laws.Study.{chainable}
 use Rattle.travel.specs.Laws.Powers.{link-powers}
-use Rattle.assignment.specs.Laws.Places.{curve-room, parts-room, start-passed}
-use Rattle.assignment.specs.Laws.Parts.{parts-decoded}
-use Rattle.assignment.specs.Laws.Answers.{start-ready, start-holds, start-leaves}
+use Rattle.refusals.specs.Laws.Places.{curve-room, parts-room, start-passed}
+use Rattle.refusals.specs.Laws.Parts.{parts-decoded}
+use Rattle.refusals.specs.Laws.Ready.{start-ready, start-holds}
+use Rattle.assignment.specs.Laws.Answers.{start-leaves}
 use Rattle.assignment.proofs.starting.start_in.Statement.{statement}
 use Rattle.assignment.proofs.starting.start_in.Tie as tie
 

@@ -8,8 +8,8 @@ use Rattle.calls.specs.Laws.Calls.{page-kept}
 use Rattle.calls.specs.Laws.Questions.{Passed}
 use Rattle.network.specs.Laws.Decoding.{decoded-counts, trips-few, links-counted, destinations-counted, trips-counted}
 use Rattle.travel.specs.Laws.Powers.{link-powers}
-use Rattle.assignment.specs.Laws.Parts.{parts-decoded}
-use Rattle.assignment.specs.Laws.Places.{curve-room, parts-room, table-passed}
+use Rattle.refusals.specs.Laws.Parts.{parts-decoded}
+use Rattle.refusals.specs.Laws.Places.{curve-room, parts-room, table-passed}
 use Rattle.pages.specs.Laws.{page-audited, page-numbered, page-room, page-printable, page-leaves}
 use Rattle.pages.proofs.printing.page_in.Statement.{statement}
 use Rattle.pages.proofs.printing.page_in.Tie as tie

@@ -1,4 +1,4 @@
--- `replay::play::pass` is safe: the answer that a pass writes has four numbers.
+-- `replay::play::pass` is safe: the answer that a pass writes has five numbers.
 use borrow.Author.Needs.{needs}
 use mathlib.Core.Path.{sym, ap}
 use lib.ListN.{length}
@@ -12,16 +12,19 @@ slice-aggregate-print : tie.Need-slice-aggregate-print
 slice-aggregate-print c = search needs
 
 slice-aggregate-print-2 : tie.Need-slice-aggregate-print-2
-slice-aggregate-print-2 c = sym (ap length (c .before .before .before .before .ilstrovan-pass .ensures .1 .1))
+slice-aggregate-print-2 c = sym (ap length (c .before .before .before .before .before .before .ilstrovan-pass .ensures .1 .1 .1))
 
-of-numbers-requires : tie.Need-of-numbers-requires
-of-numbers-requires c κs = search needs
+of-noted-requires : tie.Need-of-noted-requires
+of-noted-requires c κs = search needs
 
 print-requires : tie.Need-print-requires
 print-requires c κs = search needs
 
 same-length : tie.Need-same-length
 same-length c = search needs
+
+same-length-2 : tie.Need-same-length-2
+same-length-2 c = search needs
 
 returns : tie.Need-returns
 returns c = search needs
@@ -33,7 +36,8 @@ pass-spec =
     ilstrovan-pass-requires
     slice-aggregate-print
     slice-aggregate-print-2
-    of-numbers-requires
+    of-noted-requires
     print-requires
     same-length
+    same-length-2
     returns)

@@ -1,20 +1,18 @@
 -- `next::next_table` meets its contract. The loop's invariant: the rows below `first` are the next links to the destinations there, or have no link
--- where nobody goes there. The measure is what is left of the destinations.
-use Prim.Native.Nat.{_+_, _-_, _≤_}
+-- where nobody goes to their group. The measure is what is left of the destinations.
+use Prim.Native.Nat.{_-_}
+use mathlib.Core.Logic.{⊎-elim}
 use native.Mathlib.Omega.{arith}
 use borrow.Author.Needs.{needs}
 use lib.ListN.{length}
-use mathlib.Core.Logic.{⊎-elim}
-use Rattle.search.specs.Lanes.{EachSearchable}
-use Rattle.search.specs.Laws.Groups.{members-searchable}
 use Rattle.routes.specs.Table.{NextsBelow}
-use Rattle.routes.specs.Laws.Table.{put-both, groups-none, groups-more, groups-skip, groups-all}
-use native.Mathlib.Nat.{mul-le-mul-right}
+use Rattle.routes.specs.Laws.Table.{groups-none, groups-all, group-span, trips-within, nexts-put, nexts-skip}
 use Rattle.routes.proofs.next.next_table.Statement.{statement}
 use Rattle.routes.proofs.next.next_table.Tie as tie
 
 abbrev Inv-loop : tie.InvT-loop
-Inv-loop nodes links destinations trips times chains table₀ marks₀ first₀ table marks first = NextsBelow nodes links destinations trips times first table
+Inv-loop nodes links destinations trips times chains table₀ marks₀ first₀ table marks first =
+    NextsBelow nodes links destinations trips times table₀ first table
 
 abbrev μ-loop : tie.MeasureT-loop
 μ-loop nodes links destinations trips times chains table₀ marks₀ first₀ table marks first = length destinations - first
@@ -29,86 +27,36 @@ start-of c = c .before .before .before
 group-end-requires : tie.Need-group-end-requires Inv-loop μ-loop
 group-end-requires c κs = (start-of (c .before) .pre .0 .0 .few-destinations, c .loop-test .taken)
 
+-- The turn of the loop, from where the end of its group is known.
+abbrev turn-of : tie.After-group-end Inv-loop μ-loop → tie.At-loop Inv-loop μ-loop
+turn-of c = c .before .before
+
 clear-rows-requires : tie.Need-clear-rows-requires Inv-loop μ-loop
 clear-rows-requires c κs =
-    let after-end = c .before in
-    let turn = after-end .before .before in
-    let few = start-of turn .pre .0 .0 .few-destinations in
-    (omega (arith, after-end .group-end .ensures, after-end .before .loop-test .taken), omega (arith, after-end .group-end .ensures, few), turn .loop .inv .size)
+    let end = c .before in
+    let (low, high, few) = group-span (start-of (turn-of end) .pre .0 .0) (end .before .loop-test .taken) (end .group-end .ensures) in
+    (low, few, turn-of end .loop .inv .rows .size)
 
--- The end of the group, and the turn of the loop, from where its rows are cleared.
+-- The end of the group, from where its rows are cleared.
 abbrev end-of : tie.After-clear-rows Inv-loop μ-loop → tie.After-group-end Inv-loop μ-loop
 end-of c = c .before .before
 
-abbrev turn-of : tie.After-clear-rows Inv-loop μ-loop → tie.At-loop Inv-loop μ-loop
-turn-of c = end-of c .before .before
-
--- The destinations of the group.
-span :
-    (c : tie.After-clear-rows Inv-loop μ-loop) →
-    let first = turn-of c .loop .first in
-    let past = end-of c .group-end .result in (first ≤ past) × (past ≤ first + 8) × (past ≤ 32)
-span c =
-    let past = end-of c .group-end .ensures in
-    let few = start-of (turn-of c) .pre .0 .0 .few-destinations in
-    let inside = end-of c .before .loop-test .taken in (omega (arith, past, inside), omega (arith, past), omega (arith, past, few))
-
 group-trips-requires : tie.Need-group-trips-requires Inv-loop μ-loop
 group-trips-requires c κs =
-    let start = start-of (turn-of c) in
-    let given = start .pre in
-    let (low, high, few) = span c in
-    let past : end-of c .group-end .result ≤ length (start .args .destinations .now) = omega (arith, end-of c .group-end .ensures) in
-    (given .0 .0 .roads .few-nodes, low, few, omega (arith, mul-le-mul-right (start .args .nodes) past, given .1 .0))
+    let end = end-of c in
+    let given = start-of (turn-of end) .pre in
+    trips-within (given .0 .0) (end .before .loop-test .taken) (end .group-end .ensures) (given .1 .0)
 
-group-of-requires : tie.Need-group-of-requires Inv-loop μ-loop
-group-of-requires c κs = (start-of (turn-of (c .before .before)) .pre .0 .0 .few-destinations, end-of (c .before .before) .before .loop-test .taken)
-
--- The network can be searched to the destinations of the group.
-searchable :
-    (c : tie.After-group-of Inv-loop μ-loop) →
-    let x = start-of (turn-of (c .before .before .before)) .args in EachSearchable (x .nodes) (x .links .now) (x .times .now) (c .group-of .result)
-searchable c = members-searchable (start-of (turn-of (c .before .before .before)) .pre .0 .0) (c .group-of .result) (c .group-of .ensures)
-
-index-1-search : tie.Need-index-1-search Inv-loop μ-loop
-index-1-search c = search needs
-
-search-requires : tie.Need-search-requires Inv-loop μ-loop
-search-requires c κs =
-    let after-group = c .before .before in
-    (searchable after-group, start-of (turn-of (after-group .before .before .before)) .pre .0 .1 .into)
-
-index-1-put-group : tie.Need-index-1-put-group Inv-loop μ-loop
-index-1-put-group c = search needs
-
--- The search, from where its least times are handed on.
-abbrev search-of : tie.After-marks2 Inv-loop μ-loop → tie.After-search Inv-loop μ-loop
-search-of c = c .before .before .before .before
-
-put-group-requires : tie.Need-put-group-requires Inv-loop μ-loop
-put-group-requires c κs =
-    let after-search = search-of c in
-    let after-group = after-search .before .before .before in
-    let cleared = after-group .before .before .before in
-    let (low, high, few) = span cleared in
-    let kept = cleared .clear-rows .ensures in
-    ((searchable after-group, after-search .search .ensures), ((start-of (turn-of cleared) .pre .0 .1 .out, kept .size, kept .put), (low, high, few)))
-
-index-1-put-closed : tie.Need-index-1-put-closed Inv-loop μ-loop
-index-1-put-closed c = search needs
-
-put-closed-requires : tie.Need-put-closed-requires Inv-loop μ-loop
-put-closed-requires c κs =
-    let after-put = c .before .before .before .before in
-    let after-search = search-of (after-put .before) in
-    let after-group = after-search .before .before .before in
-    let cleared = after-group .before .before .before in
-    let (low, high, few) = span cleared in
-    let put = after-put .put-group .ensures in
-    ((searchable after-group, after-search .search .ensures), ((start-of (turn-of cleared) .pre .0 .1 .into, put .size, put .put), (low, high, few)))
+put-next-requires : tie.Need-put-next-requires Inv-loop μ-loop
+put-next-requires c κs =
+    let cleared = c .before .before .before .before in
+    let end = end-of cleared in
+    let rows = cleared .clear-rows .ensures in
+    (start-of (turn-of end) .pre .0, ((end .before .loop-test .taken, end .group-end .ensures), (rows .size, rows .put)))
 
 add-first : tie.Need-add-first Inv-loop μ-loop
-add-first c = omega (arith, start-of (turn-of (c .before .before)) .pre .0 .0 .few-destinations, end-of (c .before .before) .before .loop-test .taken)
+add-first c =
+    let end = end-of (c .before .before) in omega (arith, start-of (turn-of end) .pre .0 .0 .few-destinations, end .before .loop-test .taken)
 
 loop-less : tie.Need-loop-less Inv-loop μ-loop
 loop-less c = search needs
@@ -116,16 +64,21 @@ loop-less c = search needs
 loop-again : tie.Need-loop-again Inv-loop μ-loop
 loop-again c =
     let cleared = c .before .before in
-    let done = turn-of cleared .loop .inv in
-    let last = end-of cleared .group-end .ensures in
+    let end = end-of cleared in
+    let start = start-of (turn-of end) in
+    let g = start .pre .0 .0 in
+    let inside = end .before .loop-test .taken in
+    let past = end .group-end .ensures in
+    let trips = start .args .trips .now in
+    let done = turn-of end .loop .inv in
+    let rows = cleared .clear-rows .ensures in
     ⊎-elim
-    (λ w. rw (w .15) (groups-more done last (cleared .clear-rows .ensures) (w .1 .result) (w .1 .ensures)
-    (put-both (w .1 .result) (members-searchable (start-of (turn-of cleared) .pre .0 .0) (w .1 .result) (w .1 .ensures)) (w .9 .ensures) (w .14 .ensures))))
-    (λ w. rw (w .1) (groups-skip done last (cleared .clear-rows .ensures) (c .before .group-trips .ensures (omega (arith, w .0 .left)))))
+    (λ w. rw (w .4) (nexts-put g inside past trips done rows (w .3 .ensures)))
+    (λ w. rw (w .1) (nexts-skip g inside past trips done rows (c .before .group-trips .ensures (omega (arith, w .0 .left)))))
     (c .if1 .came)
 
 returns : tie.Need-returns Inv-loop μ-loop
-returns c = groups-all (c .before .loop .inv) (c .loop-test .left)
+returns c = let all = c .before .loop .inv in record { size = all .rows .size; row = groups-all all (c .loop-test .left) }
 
 pub next-table-spec : {M : Type 1} → statement M
 next-table-spec =
@@ -137,13 +90,7 @@ next-table-spec =
     group-end-requires
     clear-rows-requires
     group-trips-requires
-    group-of-requires
-    index-1-search
-    search-requires
-    index-1-put-group
-    put-group-requires
-    index-1-put-closed
-    put-closed-requires
+    put-next-requires
     add-first
     loop-less
     loop-again
