@@ -44,10 +44,17 @@
 //! # Ok::<(), ilstrovan::Refusal>(())
 //! ```
 //!
-//! A study has version 1, 2 or 3. From version 2 on nodes can be closed: a link
+//! A study has version 1, 2, 3 or 4. From version 2 on nodes can be closed: a link
 //! into a closed node carries flow to that node only, so no path leads through
-//! it. In version 3 each link has a power, 1 to 4, with which its time rises; in
-//! versions 1 and 2 it is 4.
+//! it. From version 3 on each link has a power, 1 to 4, with which its time rises;
+//! in versions 1 and 2 it is 4. In version 4 there are lorries beside the cars, with
+//! trips of their own, in car units, and links can be barred to them; times and
+//! all answers go by the flow of both.
+//!
+//! A flow table has destinations × links numbers, and a note 1 + destinations ×
+//! nodes. In version 4 each has as many for the cars and after them as many for
+//! the lorries: 2 × destinations × links numbers, and 1 + 2 × destinations ×
+//! nodes.
 //!
 //! A call needs at most 512 KiB of stack. It keeps nothing, so calls may run in
 //! any number of threads.
@@ -67,9 +74,9 @@ pub const LINE_BYTES: usize = 30;
 /// In a note, what a node without a next link has.
 pub const NO_LINK: u16 = 65_535;
 
-/// Numbers in the longest note, that of 32 destinations and 128 nodes: as many
-/// are enough for any study.
-pub const LONGEST_NOTE: usize = 1 + 32 * 128;
+/// Numbers in the longest note, that of cars and lorries, 32 destinations and 128
+/// nodes: as many are enough for any study.
+pub const LONGEST_NOTE: usize = 1 + 2 * 32 * 128;
 
 /// What a pass did.
 #[derive(Clone, Copy, Debug, PartialEq, Eq)]
@@ -135,7 +142,8 @@ pub struct Audit {
     pub over: u32,
 }
 
-/// Is the file an acceptable study? Refusals 1 to 8, then 19, then 9 to 11.
+/// Is the file an acceptable study? Refusals 1 to 8, then 19, then 23, then 9 to
+/// 11.
 pub fn check(file: &[u8]) -> Result<(), Refusal> {
     // SAFETY: the pointer and the length are those of one slice.
     let number = unsafe { sys::ilstrovan_check(file.as_ptr(), file.len()) };
@@ -167,8 +175,8 @@ pub fn start(file: &[u8], table: &mut [u32]) -> Result<(), Refusal> {
 /// `note`, for [`take_back`]. Refusals as [`start`], 12 of the note too, then 14
 /// to 16, then 20.
 ///
-/// A note holds 1 + destinations × nodes numbers, at most [`LONGEST_NOTE`]. First
-/// stands j; then, destination by destination, the next link of each node, or
+/// A note holds at most [`LONGEST_NOTE`] numbers. First stands j; then, class by
+/// class and destination by destination, the next link of each node, or
 /// [`NO_LINK`], as at the destination itself and at a node without a path. A
 /// doubling has j = 0 and [`NO_LINK`] throughout. Where there is no move the note
 /// is as it was.

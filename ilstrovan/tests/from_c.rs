@@ -45,6 +45,7 @@ fn town() {
         expected_of_taking_back(),
         expected_of_the_zone(),
         expected_of_powers(),
+        expected_of_lorries(),
     ];
     assert_eq!(String::from_utf8_lossy(&ran.stdout), expected.concat());
 }
@@ -267,4 +268,51 @@ fn expected_of_powers() -> String {
         line(table_words(&table));
     }
     lines + "pack 17\npack 0\nsame 1, after it 238\n"
+}
+
+/// What the program is to print of the town with lorries, by the definitions.
+fn expected_of_lorries() -> String {
+    let mut lines = vec!["check 0"];
+    lines.extend(["check 4"; 4]);
+    lines.extend([
+        "start 12",
+        "start 0",
+        "table 2 0 0 1 9",
+        "audit 0 10 2448 0",
+        // The lorry on the barred road.
+        "audit 20 0 0 0",
+        "pass 20 0 0 0 0 0",
+        "take back 20 0",
+        "page 20",
+        "page 20",
+        "table 2 0 1 0 9",
+        "note 6 5 4 3 2 1",
+        "blank 120",
+        // No lorry.
+        "audit 16 0 0 0",
+        "pass 16 0 0 0 0 0",
+        "take back 16 0",
+        "page 16",
+        "page 16",
+        "table 2 0 0 0 9",
+        "note 6 5 4 3 2 1",
+        "blank 120",
+        "run 0 1 5 9 0 21744 0",
+        "table 16 2 0 9 9",
+        // A note too short, a loading, and back.
+        "pass 12 0 0 0 0 0",
+        "pass 0 1 80 19584 9 0",
+        "table 16 2 0 9 9",
+        "note 1 1 65535 1 65535 1",
+        "take back 21 0",
+        "take back 0 8",
+        "table 16 0 0 8 9",
+        "check 23",
+        "check 9",
+        "pack 17",
+        "pack 0",
+        "same 1, after it 238 238",
+        "",
+    ]);
+    lines.join("\n")
 }

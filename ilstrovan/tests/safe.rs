@@ -1,11 +1,11 @@
 //! The safe functions on the town of two roads, document 01's cases and those of
-//! requests A.4 and A.6, and on towns with a zone, those of request A.2.
+//! requests A.4 to A.7, and on towns with a zone, those of request A.2.
 
 mod zone;
 
 use ilstrovan::{
-    Audit, Ending, LONGEST_NOTE, NO_LINK, Outcome, Pass, Run, audit, check, pack, pass, run, start,
-    take_back,
+    Audit, Ending, LINE_BYTES, LONGEST_NOTE, NO_LINK, Outcome, Pass, Run, audit, check, pack, page,
+    pass, run, start, take_back,
 };
 use second::draft::{Draft, Versioned};
 use zone::zone;
@@ -275,7 +275,7 @@ fn calls_that_a_zone_refuses() {
     let refused = audit(&file, &through, 1).expect_err("a refusal");
     assert_eq!(
         refused.to_string(),
-        "refused 20: the table has flow on a link into a closed node that is not flow to that node"
+        "refused 20: the table has flow on a link into a closed node that is not flow to that node, or lorries on a barred link"
     );
     let mut note = [7; 5];
     assert_eq!(refusal(pass(&file, &mut through, 1, &mut note)), 20);
@@ -347,11 +347,113 @@ fn powers_that_are_refused() {
         assert_eq!(refusal(check(&file[..length])), 4, "{length}");
     }
     // The same file in other versions.
-    for (version, number) in [(0, 2), (1, 5), (2, 5), (4, 2)] {
+    for (version, number) in [(0, 2), (1, 5), (2, 5), (4, 4), (5, 2)] {
         let mut other = file.clone();
         other[0] = version;
         assert_eq!(refusal(check(&other)), number, "version {version}");
     }
+}
+
+/// The town with two cars and a lorry, and road 0 barred to lorries.
+fn freight() -> Versioned {
+    let town = Draft::town().with_lorries(vec![vec![1, 0]]);
+    town.barring(&[0])
+}
+
+#[test]
+fn a_road_barred_to_lorries() {
+    let file = freight().file();
+    assert_eq!((check(&file), file.len()), (Ok(()), 94));
+    let mut output = [0xEE; 96];
+    assert_eq!(refusal(pack(&file, &mut output[..93])), 17);
+    assert_eq!(pack(&file, &mut output), Ok(()));
+    assert_eq!((&output[..94], &output[94..]), (&file[..], &[0xEE; 2][..]));
+
+    // The cars by road 0, the lorry by road 1.
+    let mut table = [7; 5];
+    assert_eq!(start(&file, &mut table), Ok(()));
+    assert_eq!(table, [2, 0, 0, 1, 7]);
+    let (gap, cost, over) = (10, 2_448, 0);
+    assert_eq!(audit(&file, &table, 1), Ok(Audit { gap, cost, over }));
+    let mut paper = [0; 2 * LINE_BYTES];
+    assert_eq!(page(&file, &table, 1, &mut paper), Ok(()));
+    let lines = [
+        "  0   0   1     2.00     0.20\n",
+        "  1   0   1     1.00     0.15\n",
+    ];
+    assert_eq!(paper, lines.concat().as_bytes());
+
+    let ended = run(&file, &mut table, 10, 0).expect("accepted");
+    assert_eq!((ended.ending, ended.judged), (Ending::Reached, 5));
+    assert_eq!((ended.share, ended.gap, ended.cost), (9, 0, 21_744));
+    assert_eq!(table, [16, 2, 0, 9, 7]);
+}
+
+/// A loading of the town with a lorry, and back.
+#[test]
+fn a_note_of_cars_and_lorries() {
+    let file = freight().file();
+    let (mut table, mut note) = ([16, 0, 0, 8, 7], [7; 6]);
+    let moved = pass(&file, &mut table, 8, &mut note).expect("accepted");
+    assert_eq!((moved.outcome, moved.share), (Outcome::Moved, 9));
+    assert_eq!(
+        (table, note),
+        ([16, 2, 0, 9, 7], [1, 1, NO_LINK, 1, NO_LINK, 7])
+    );
+    assert_eq!(refusal(take_back(&file, &mut table, 9, &note[..4])), 12);
+    // The lorry by road 0, which is barred to it, and by a link that there is not.
+    for link in [0, 2] {
+        note[3] = link;
+        assert_eq!(refusal(take_back(&file, &mut table, 9, &note)), 21);
+    }
+    note[3] = 1;
+    assert_eq!(take_back(&file, &mut table, 9, &note), Ok(8));
+    assert_eq!(table, [16, 0, 0, 8, 7]);
+    assert_eq!(take_back(&file, &mut table, 8, &[0; 5]), Ok(4));
+    assert_eq!(table, [8, 0, 0, 4, 7]);
+    // An odd number of lorries.
+    assert_eq!(refusal(take_back(&file, &mut [4, 0, 1, 1], 2, &[0; 5])), 20);
+    let unbarred = freight().barring(&[]).file();
+    assert_eq!(
+        refusal(take_back(&unbarred, &mut [4, 0, 1, 1], 2, &[0; 5])),
+        22
+    );
+}
+
+#[test]
+fn calls_that_lorries_refuse() {
+    let file = freight().file();
+    for length in 32..=56 {
+        assert_eq!(refusal(check(&file[..length])), 4, "{length}");
+    }
+    let mut table = [2, 0, 1, 0];
+    let mut note = [7; 5];
+    assert_eq!(refusal(audit(&file, &table, 1)), 20);
+    assert_eq!(refusal(pass(&file, &mut table, 1, &mut note)), 20);
+    assert_eq!(refusal(start(&file, &mut table[..3])), 12);
+    assert_eq!(refusal(pass(&file, &mut table, 1, &mut note[..4])), 12);
+    assert_eq!((table, note), ([2, 0, 1, 0], [7; 5]));
+    assert_eq!(refusal(audit(&file, &[2, 2, 0, 2], 1)), 15);
+    assert_eq!(refusal(audit(&file, &[2, 0, 0, 0], 1)), 16);
+
+    let study = freight().with_barred(vec![0, 2]);
+    let refused = check(&study.file()).expect_err("a refusal");
+    assert_eq!(
+        refused.to_string(),
+        "refused 23: a link's barred byte is neither 0 nor 1"
+    );
+    // Closed bytes are asked about before, trips to itself after.
+    assert_eq!(
+        refusal(check(&study.clone().with_closed(vec![0, 2]).file())),
+        19
+    );
+    let own = vec![vec![1, 1]];
+    assert_eq!(refusal(check(&study.with_lorries(own.clone()).file())), 23);
+    assert_eq!(refusal(check(&freight().with_lorries(own).file())), 9);
+    assert_eq!(refusal(check(&freight().with_barred(vec![0]).file())), 5);
+    let many = freight().with_lorries(vec![vec![65_534, 0]]);
+    assert_eq!(refusal(check(&many.file())), 10);
+    assert_eq!(refusal(check(&freight().barring(&[0, 1]).file())), 11);
 }
 
 /// Flow to a closed destination enters it, and flow to another does not, though

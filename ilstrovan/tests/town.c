@@ -1,5 +1,5 @@
-/* The town of two roads, the town with a zone and the town with powers, from C:
-   every call, accepted and refused. */
+/* The town of two roads, the town with a zone, the town with powers and the town
+   with lorries, from C: every call, accepted and refused. */
 #include "ilstrovan.h"
 
 #include <stdio.h>
@@ -39,6 +39,24 @@ static const uint8_t curved[72] = {
 
 /* Where its first power stands. */
 enum { CURVED_POWER = 50 };
+
+/* Version 4: the town of two roads with a lorry, and link 0 barred to lorries. */
+static const uint8_t freight[94] = {
+    4, 0, 2, 0, 2, 0, 1, 0,                                      /* version, n, m, p */
+    56, 0, 0, 0, 24, 0, 0, 0, 80, 0, 0, 0, 2, 0, 0, 0,
+    82, 0, 0, 0, 4, 0, 0, 0, 86, 0, 0, 0, 2, 0, 0, 0,
+    88, 0, 0, 0, 4, 0, 0, 0, 92, 0, 0, 0, 2, 0, 0, 0,
+    0, 0, 1, 0, 10, 0, 10, 0, 2, 0, 4, 0,                        /* links */
+    0, 0, 1, 0, 15, 0, 0, 0, 1, 0, 4, 0,
+    1, 0,                                                        /* destination */
+    2, 0, 0, 0,                                                  /* trips */
+    0, 0,                                                        /* closed */
+    1, 0, 0, 0,                                                  /* lorry trips */
+    1, 0                                                         /* barred */
+};
+
+/* Where the lorry trips from node 1, to itself, and its first barred byte stand. */
+enum { FREIGHT_OWN_TRIPS = 90, FREIGHT_BARRED = 92 };
 
 /* Where the zone's closed byte and the destination's own trips stand. */
 enum { ZONE_CLOSED = 91, ZONE_OWN_TRIPS = 86 };
@@ -92,29 +110,28 @@ static void show_page(const uint8_t *page)
 }
 
 /* Start, and an audit of its table. */
-static void start_and_audit(const uint8_t *file, uint32_t *table)
+static void start_and_audit(const uint8_t *file, size_t length, uint32_t *table)
 {
     uint64_t audited[3];
-    show("start", ilstrovan_start(file, sizeof zone, table, 5), NULL, 0);
+    show("start", ilstrovan_start(file, length, table, 5), NULL, 0);
     show_numbers(table, 5);
-    show("audit", ilstrovan_audit(file, sizeof zone, table, 4, 1, audited), audited, 3);
+    show("audit", ilstrovan_audit(file, length, table, 4, 1, audited), audited, 3);
 }
 
 /* A table that no call accepts, and what is left of it, of a page and of a
    note. */
-static void refuse(const uint8_t *file, uint32_t *table)
+static void refuse(const uint8_t *file, size_t length, uint32_t *table)
 {
     uint8_t page[120];
     uint16_t note[6] = {6, 5, 4, 3, 2, 1};
     uint64_t passed[5] = {1, 2, 3, 4, 5}, audited[3] = {6, 7, 8}, taken[1] = {9};
     unsigned blank = 0;
     memset(page, 0xEE, sizeof page);
-    show("audit", ilstrovan_audit(file, sizeof zone, table, 4, 1, audited), audited, 3);
-    show("pass", ilstrovan_pass(file, sizeof zone, table, 4, 1, note, 5, passed), passed, 5);
-    show("take back", ilstrovan_take_back(file, sizeof zone, table, 4, 1, note, 5, taken),
-         taken, 1);
-    show("page", ilstrovan_page(file, sizeof zone, table, 4, 1, page, sizeof page), NULL, 0);
-    show("page", ilstrovan_page(file, sizeof zone, table, 4, 1, page, 119), NULL, 0);
+    show("audit", ilstrovan_audit(file, length, table, 4, 1, audited), audited, 3);
+    show("pass", ilstrovan_pass(file, length, table, 4, 1, note, 5, passed), passed, 5);
+    show("take back", ilstrovan_take_back(file, length, table, 4, 1, note, 5, taken), taken, 1);
+    show("page", ilstrovan_page(file, length, table, 4, 1, page, sizeof page), NULL, 0);
+    show("page", ilstrovan_page(file, length, table, 4, 1, page, 29), NULL, 0);
     for (size_t i = 0; i < sizeof page; i++)
         blank += page[i] == 0xEE;
     show_numbers(table, 5);
@@ -133,12 +150,12 @@ static void town_with_a_zone(void)
     for (size_t length = 31; length <= 41; length++)
         show("check", ilstrovan_check(zone, length), NULL, 0);
 
-    start_and_audit(zone, table);
+    start_and_audit(zone, sizeof zone, table);
     memcpy(other, zone, sizeof zone);
     other[ZONE_CLOSED] = 0;
-    start_and_audit(other, table);
-    refuse(zone, through);
-    refuse(zone, lost);
+    start_and_audit(other, sizeof other, table);
+    refuse(zone, sizeof zone, through);
+    refuse(zone, sizeof zone, lost);
     show("run", ilstrovan_run(zone, sizeof zone, table, 5, 10, 0, ended), ended, 6);
     show_numbers(table, 5);
 
@@ -275,6 +292,60 @@ static void town_with_powers(void)
            (unsigned)output[72]);
 }
 
+/* One loading of two cars and a lorry, and back. */
+static void lorries_and_back(void)
+{
+    uint32_t table[5] = {16, 0, 0, 8, 9};
+    uint16_t note[6] = {6, 5, 4, 3, 2, 1};
+    uint64_t passed[5], taken[1];
+
+    show("pass", ilstrovan_pass(freight, sizeof freight, table, 5, 8, note, 4, passed), passed, 5);
+    show("pass", ilstrovan_pass(freight, sizeof freight, table, 4, 8, note, 5, passed), passed, 5);
+    show_numbers(table, 5);
+    show_note(note, 6);
+    /* The lorry by link 0, which is barred to it. */
+    note[3] = 0;
+    show("take back", ilstrovan_take_back(freight, sizeof freight, table, 4, 9, note, 5, taken),
+         taken, 1);
+    note[3] = 1;
+    show("take back", ilstrovan_take_back(freight, sizeof freight, table, 4, 9, note, 5, taken),
+         taken, 1);
+    show_numbers(table, 5);
+}
+
+/* Cars first, and the lorry after them. */
+static void town_with_lorries(void)
+{
+    uint8_t other[sizeof freight], output[96];
+    uint32_t table[5] = {9, 9, 9, 9, 9}, barred[5] = {2, 0, 1, 0, 9}, lost[5] = {2, 0, 0, 0, 9};
+    uint64_t ended[6];
+
+    show("check", ilstrovan_check(freight, sizeof freight), NULL, 0);
+    for (size_t length = 54; length <= 57; length++)
+        show("check", ilstrovan_check(freight, length), NULL, 0);
+    show("start", ilstrovan_start(freight, sizeof freight, table, 3), NULL, 0);
+    start_and_audit(freight, sizeof freight, table);
+    refuse(freight, sizeof freight, barred);
+    refuse(freight, sizeof freight, lost);
+    show("run", ilstrovan_run(freight, sizeof freight, table, 5, 10, 0, ended), ended, 6);
+    show_numbers(table, 5);
+    lorries_and_back();
+
+    /* A barred byte of 2, which is asked about before trips to itself. */
+    memcpy(other, freight, sizeof freight);
+    other[FREIGHT_BARRED] = 2;
+    other[FREIGHT_OWN_TRIPS] = 1;
+    show("check", ilstrovan_check(other, sizeof other), NULL, 0);
+    other[FREIGHT_BARRED] = 0;
+    show("check", ilstrovan_check(other, sizeof other), NULL, 0);
+
+    memset(output, 0xEE, sizeof output);
+    show("pack", ilstrovan_pack(freight, sizeof freight, output, 93), NULL, 0);
+    show("pack", ilstrovan_pack(freight, sizeof freight, output, sizeof output), NULL, 0);
+    printf("same %d, after it %u %u\n", memcmp(output, freight, sizeof freight) == 0,
+           (unsigned)output[94], (unsigned)output[95]);
+}
+
 int main(void)
 {
     uint8_t output[60], page[64];
@@ -323,5 +394,6 @@ int main(void)
     taking_back();
     town_with_a_zone();
     town_with_powers();
+    town_with_lorries();
     return 0;
 }

@@ -6,7 +6,8 @@
 //! come studies of version 1, then pairs of a study with closed nodes and the
 //! same one with all nodes open, then studies with powers of several kinds and
 //! the same ones with power 4 on all links, then studies in which nobody goes to
-//! most destinations.
+//! most destinations, then studies with lorries and the same ones with cars
+//! alone.
 
 use std::hint::black_box;
 use std::time::{Duration, Instant};
@@ -45,7 +46,7 @@ fn first_move(file: &[u8], length: usize, note: &mut [u16]) -> [(Vec<u32>, u32);
 fn show(name: &str, study: impl Into<Versioned>) {
     let study = study.into();
     let (draft, file) = (&study.draft, study.file());
-    let mut table = vec![0; draft.table_length()];
+    let mut table = vec![0; study.table_length()];
     let answer = run(&file, &mut table, 1_024, 0);
     assert_eq!(answer.refusal, 0);
 
@@ -53,7 +54,7 @@ fn show(name: &str, study: impl Into<Versioned>) {
     let copying = shortest(|| other.copy_from_slice(black_box(&table)));
     let checking = shortest(|| check(black_box(&file)));
     let starting = shortest(|| start(&file, &mut other));
-    let mut note = vec![0; 1 + draft.destinations.len() * usize::from(draft.nodes)];
+    let mut note = vec![0; study.note_length()];
     let passing = shortest(|| {
         other.copy_from_slice(&table);
         pass(&file, &mut other, answer.share, &mut note)
@@ -77,7 +78,7 @@ fn show(name: &str, study: impl Into<Versioned>) {
         draft.nodes,
         draft.links.len(),
         draft.destinations.len(),
-        draft.total(),
+        study.total(),
         passing - copying,
         moving - copying,
         taking_back - copying,
@@ -161,6 +162,31 @@ fn main() {
     for idle in [0, 8, 24, 31] {
         idle_destinations(&mut dice, idle);
     }
+    for destinations in [1, 8, 32] {
+        lorries(&mut dice, destinations);
+    }
+}
+
+/// A street grid 16 by 8 with as many lorries as cars: with one link in ten
+/// barred to lorries, with none barred, with cars alone, and with all trips made
+/// by cars.
+fn lorries(dice: &mut Dice, destinations: u64) {
+    let mut links = grid(dice, 16, 8, 512, 300, 800);
+    while links.len() < 512 {
+        links.push(dice.pick(&links));
+    }
+    let trips = (480 / destinations).min(90);
+    let draft = study(dice, 128, &links, destinations, trips);
+    let trips = draft.trips.clone();
+    let both = draft.clone().with_lorries(trips);
+    let mut together = draft.clone();
+    for count in together.trips.iter_mut().flatten() {
+        *count *= 2;
+    }
+    show("lorries, some barred", both.clone().barring_some(dice, 1));
+    show("  none barred", both);
+    show("  cars alone", draft.with_powers(vec![4; 512]));
+    show("  all by car", together.with_powers(vec![4; 512]));
 }
 
 /// A street grid 16 by 8 with 32 destinations, to so many of which nobody goes.

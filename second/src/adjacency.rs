@@ -1,7 +1,7 @@
 //! The lists of links at each node.
 
 use crate::format::{MOST_LINKS, MOST_NODES};
-use crate::network::{ByLink, ByNode, Study, at_node};
+use crate::network::{ByLink, ByNode, Class, Study, at_node};
 
 /// The links at each node, outgoing and incoming. Links into open nodes come
 /// first in each list, links into closed nodes after them, both in ascending
@@ -11,8 +11,18 @@ pub struct Adjacency {
     pub out: Lists,
     /// Links into each node, with their tails.
     pub into: Lists,
+    /// How many links there are.
+    pub links: usize,
     /// The closed nodes, a bit for each node.
     closed: u128,
+}
+
+/// The links at each node that each class may use.
+pub struct Adjacencies {
+    /// All links, which are those of cars.
+    pub cars: Adjacency,
+    /// Those that are not barred; none where lorries may use all links.
+    lorries: Option<Adjacency>,
 }
 
 /// For each node a list of links, one list after the other.
@@ -34,18 +44,24 @@ impl Lists {
         others: [0; MOST_LINKS],
     };
 
-    /// Fills empty lists with links by the node they belong to; links of one
-    /// node stay in order. They are all taken for links into open nodes.
+    /// Fills empty lists with permitted links by the node they belong to; links
+    /// of one node stay in order. They are all taken for links into open nodes.
     #[inline]
-    fn fill(&mut self, nodes: usize, owners: &[u8], others: &[u8]) {
-        let first = self.sort::<{ MOST_NODES + 1 }>(nodes, owners, others);
+    fn fill(
+        &mut self,
+        nodes: usize,
+        owners: &[u8],
+        others: &[u8],
+        permitted: impl Fn(usize) -> bool,
+    ) {
+        let first = self.sort::<{ MOST_NODES + 1 }>(nodes, owners, others, permitted);
         self.first = first;
         self.first_closed.copy_from_slice(&first[1..]);
     }
 
-    /// Fills empty lists with the links out of nodes, those into closed nodes
-    /// at the end of each list.
-    fn fill_by_kind(&mut self, study: &Study) {
+    /// Fills empty lists with the permitted links out of nodes, those into
+    /// closed nodes at the end of each list.
+    fn fill_by_kind(&mut self, study: &Study, permitted: impl Fn(usize) -> bool) {
         let mut closed: ByNode<u8> = [0; MOST_NODES];
         for node in study.closed_nodes() {
             closed[at_node(node)] = 1;
@@ -55,25 +71,34 @@ impl Lists {
         let keys: Vec<u8> = ends
             .map(|(&tail, &head)| 2 * tail + closed[at_node(head)])
             .collect();
-        let first = self.sort::<{ 2 * MOST_NODES + 1 }>(2 * study.nodes, &keys, heads);
+        let first = self.sort::<{ 2 * MOST_NODES + 1 }>(2 * study.nodes, &keys, heads, permitted);
         self.first = std::array::from_fn(|node| first[2 * node]);
         self.first_closed = std::array::from_fn(|node| first[2 * node + 1]);
     }
 
-    /// Puts links in the order of their keys, links of one key in ascending
-    /// order, and hands back where each key's links begin. There are so many
-    /// keys, and `N` is more.
+    /// Puts permitted links in the order of their keys, links of one key in
+    /// ascending order, and hands back where each key's links begin. There are
+    /// so many keys, and `N` is more.
     #[inline(always)]
-    fn sort<const N: usize>(&mut self, count: usize, keys: &[u8], others: &[u8]) -> [u16; N] {
+    fn sort<const N: usize>(
+        &mut self,
+        count: usize,
+        keys: &[u8],
+        others: &[u8],
+        permitted: impl Fn(usize) -> bool,
+    ) -> [u16; N] {
         let mut first = [0; N];
-        for &key in keys {
-            first[usize::from(key) + 1] += 1;
+        for (link, &key) in keys.iter().enumerate() {
+            first[usize::from(key) + 1] += u16::from(permitted(link));
         }
         for key in 0..count {
             first[key + 1] += first[key];
         }
         let mut next = first;
         for (link, (&key, &other)) in keys.iter().zip(others).enumerate() {
+            if !permitted(link) {
+                continue;
+            }
             let place = usize::from(next[usize::from(key)]);
             next[usize::from(key)] += 1;
             self.links[place] = link as u16;
@@ -130,22 +155,49 @@ impl Lists {
     }
 }
 
+impl Adjacencies {
+    /// Sorts the links that each class may use.
+    pub fn of(study: &Study) -> Self {
+        Adjacencies {
+            cars: Adjacency::of(study),
+            lorries: study
+                .has_barred_links()
+                .then(|| Adjacency::by(study, |link| !study.barred[link])),
+        }
+    }
+
+    /// The links that a class may use.
+    pub fn of_class(&self, class: Class) -> &Adjacency {
+        match class {
+            Class::Cars => &self.cars,
+            Class::Lorries => self.lorries.as_ref().unwrap_or(&self.cars),
+        }
+    }
+}
+
 impl Adjacency {
     /// Sorts a study's links by tail and by head.
     pub fn of(study: &Study) -> Self {
+        Adjacency::by(study, |_| true)
+    }
+
+    /// The same for permitted links only.
+    fn by(study: &Study, permitted: impl Fn(usize) -> bool + Copy) -> Self {
         let (tails, heads) = (&study.tails[..study.links], &study.heads[..study.links]);
         let mut adjacency = Adjacency {
             out: Lists::EMPTY,
             into: Lists::EMPTY,
+            links: 0,
             closed: study.closed,
         };
-        adjacency.into.fill(study.nodes, heads, tails);
+        adjacency.into.fill(study.nodes, heads, tails, permitted);
         if study.closed == 0 {
-            adjacency.out.fill(study.nodes, tails, heads);
+            adjacency.out.fill(study.nodes, tails, heads, permitted);
         } else {
-            adjacency.out.fill_by_kind(study);
+            adjacency.out.fill_by_kind(study, permitted);
             adjacency.into.mark_closed(study);
         }
+        adjacency.links = usize::from(adjacency.out.first[study.nodes]);
         adjacency
     }
 

@@ -3,7 +3,7 @@
 use crate::format::{MOST_LINKS, MOST_NODES};
 use crate::least_times::{LANES, NO_LINK, Times, Trees, nodes_before};
 use crate::loading::load;
-use crate::network::{Adjacency, ByLink, ByNode, Study, at_node};
+use crate::network::{Adjacencies, Adjacency, ByLink, ByNode, Class, Study, at_node};
 use crate::questions::LARGEST_SHARE;
 use crate::staircase::{Gauge, Part};
 
@@ -19,26 +19,35 @@ pub enum Move {
     Double,
 }
 
-/// Up to [`LANES`] destinations, their trees and what the loading sends along
-/// them.
+/// Up to [`LANES`] destinations of one class, their trees and what the loading
+/// sends along them.
 struct Group {
-    /// Position of each lane's destination.
-    positions: Vec<usize>,
+    /// The row of each lane's destination.
+    rows: Vec<usize>,
     trees: Trees,
     /// For each lane, the trips that leave each node by its next link.
     leaving: Vec<ByNode<u32>>,
 }
 
-/// A study with the flows of one table, as far as judging needs them.
-///
-/// Destinations without trips have no part in it: they add nothing to the
-/// loading, and what a table lets circulate for them is in the totals.
-pub struct Assignment<'a> {
-    study: &'a Study,
+/// The searches of one class: over the links that it may use, to the
+/// destinations to which it has trips.
+struct Searches<'a> {
+    class: Class,
     adjacency: &'a Adjacency,
-    gauges: Vec<Gauge>,
     link_times: Times,
     groups: Vec<Group>,
+}
+
+/// A study with the flows of one table, as far as judging needs them.
+///
+/// Rows without trips have no part in it: they add nothing to the loading, and
+/// what a table lets circulate for them is in the totals. The classes share the
+/// links' times, totals and loadings; only their searches are apart.
+pub struct Assignment<'a> {
+    study: &'a Study,
+    gauges: Vec<Gauge>,
+    /// For each class.
+    searches: Vec<Searches<'a>>,
 
     /// The table's share, W.
     share: u32,
@@ -61,17 +70,20 @@ struct Difference {
     difference: i64,
 }
 
-/// The destinations with trips, or those without any, after their positions.
-fn destinations(study: &Study, with_trips: bool) -> Vec<(usize, u8)> {
+/// The rows of a class with trips, or those without any, and their destinations.
+fn rows(study: &Study, class: Class, with_trips: bool) -> Vec<(usize, u8)> {
+    let all = study.rows_of(class);
     study
         .rows()
         .enumerate()
+        .skip(all.start)
+        .take(all.len())
         .filter(|(_, (_, trips))| trips.iter().any(|&count| count != 0) == with_trips)
-        .map(|(position, (destination, _))| (position, destination))
+        .map(|(row, (destination, _))| (row, destination))
         .collect()
 }
 
-/// Puts these destinations, after their positions, into groups of neighbours.
+/// Puts the destinations of these rows into groups of neighbours.
 fn groups(mut left: Vec<(usize, u8)>, adjacency: &Adjacency) -> Vec<Group> {
     let mut groups = Vec::with_capacity(left.len().div_ceil(LANES));
     while let Some(&(_, first)) = left.first() {
@@ -88,7 +100,7 @@ fn groups(mut left: Vec<(usize, u8)>, adjacency: &Adjacency) -> Vec<Group> {
             .map(|&(_, destination)| destination)
             .collect();
         groups.push(Group {
-            positions: members.iter().map(|&(position, _)| position).collect(),
+            rows: members.iter().map(|&(row, _)| row).collect(),
             trees: Trees::new(destinations, adjacency),
             leaving: vec![[0; MOST_NODES]; members.len()],
         });
@@ -97,12 +109,64 @@ fn groups(mut left: Vec<(usize, u8)>, adjacency: &Adjacency) -> Vec<Group> {
 }
 
 impl Group {
-    /// Copies the next links into the rows of a note, one of `nodes` numbers
-    /// for each position.
-    fn copy_next_links(&self, nodes: usize, rows: &mut [u16]) {
-        for (lane, &position) in self.positions.iter().enumerate() {
+    /// Copies the next links into the rows of a note, of `nodes` numbers each.
+    fn copy_next_links(&self, nodes: usize, noted: &mut [u16]) {
+        for (lane, &row) in self.rows.iter().enumerate() {
             let next_links = self.trees.tree(lane).next_links();
-            rows[position * nodes..][..nodes].copy_from_slice(&next_links[..nodes]);
+            noted[row * nodes..][..nodes].copy_from_slice(&next_links[..nodes]);
+        }
+    }
+}
+
+impl<'a> Searches<'a> {
+    /// For a class; the times are yet to be set.
+    fn new(study: &Study, adjacencies: &'a Adjacencies, class: Class) -> Self {
+        let adjacency = adjacencies.of_class(class);
+        Searches {
+            class,
+            adjacency,
+            link_times: Times::new(adjacency),
+            groups: groups(rows(study, class, true), adjacency),
+        }
+    }
+
+    /// Takes over new times, by link, and finds the distances at them.
+    fn find_distances(&mut self, times: &[u32]) {
+        self.link_times.set(self.adjacency, times);
+        for group in &mut self.groups {
+            group.trees.find_distances(&self.link_times, self.adjacency);
+        }
+    }
+
+    /// Makes the class's loading along the next links at these times, and adds
+    /// it to the total on each link.
+    fn find_loading(&mut self, study: &Study, loading: &mut ByLink<u32>) {
+        for group in &mut self.groups {
+            group
+                .trees
+                .find_next_links(&self.link_times, self.adjacency);
+            for (lane, (&row, leaving)) in group.rows.iter().zip(&mut group.leaving).enumerate() {
+                let tree = group.trees.tree(lane);
+                let trips = study.trips_of(row);
+                load(&study.heads, tree, trips, leaving, |link, flow| {
+                    loading[link] += flow;
+                });
+            }
+        }
+    }
+
+    /// Writes every node's next link at these times into the class's rows of a
+    /// note. Rows without trips are searched only here.
+    fn write_next_links(&self, study: &Study, noted: &mut [u16]) {
+        for group in &self.groups {
+            group.copy_next_links(study.nodes, noted);
+        }
+        for mut group in groups(rows(study, self.class, false), self.adjacency) {
+            group.trees.find_distances(&self.link_times, self.adjacency);
+            group
+                .trees
+                .find_next_links(&self.link_times, self.adjacency);
+            group.copy_next_links(study.nodes, noted);
         }
     }
 }
@@ -111,17 +175,18 @@ impl<'a> Assignment<'a> {
     /// A study with a table of this share and these totals by link.
     pub fn new(
         study: &'a Study,
-        adjacency: &'a Adjacency,
+        adjacencies: &'a Adjacencies,
         share: u32,
         totals: ByLink<u32>,
     ) -> Self {
         let roads = &study.roads[..study.links];
+        let searches = study.classes();
         Assignment {
             study,
-            adjacency,
             gauges: roads.iter().copied().map(Gauge::of).collect(),
-            link_times: Times::new(adjacency),
-            groups: groups(destinations(study, true), adjacency),
+            searches: searches
+                .map(|class| Searches::new(study, adjacencies, class))
+                .collect(),
             share,
             totals,
             times: [0; MOST_LINKS],
@@ -141,30 +206,22 @@ impl<'a> Assignment<'a> {
         for ((time, gauge), &total) in times.iter_mut().zip(&self.gauges).zip(&self.totals) {
             *time = gauge.time(total, part);
         }
-        self.link_times.set(self.adjacency, times);
-        for group in &mut self.groups {
-            group.trees.find_distances(&self.link_times, self.adjacency);
+        for searches in &mut self.searches {
+            searches.find_distances(times);
         }
     }
 
     /// Makes the loading along the next links at these times.
     pub fn find_loading(&mut self) {
-        let nodes = self.study.nodes;
         self.loading = [0; MOST_LINKS];
-        for group in &mut self.groups {
-            group
-                .trees
-                .find_next_links(&self.link_times, self.adjacency);
-            for (lane, (&position, leaving)) in
-                group.positions.iter().zip(&mut group.leaving).enumerate()
-            {
-                let trips = &self.study.trips[position * nodes..][..nodes];
-                let tree = group.trees.tree(lane);
-                load(&self.study.heads, tree, trips, leaving, |link, flow| {
-                    self.loading[link] += flow;
-                });
-            }
+        for searches in &mut self.searches {
+            searches.find_loading(self.study, &mut self.loading);
         }
+    }
+
+    /// The groups of all classes.
+    fn groups(&self) -> impl Iterator<Item = &Group> {
+        self.searches.iter().flat_map(|searches| &searches.groups)
     }
 
     /// The table's gap, by its definition: the distances are enough.
@@ -174,11 +231,10 @@ impl<'a> Assignment<'a> {
             .zip(&self.totals)
             .map(|(&time, &total)| u64::from(time) * u64::from(total))
             .sum();
-        let nodes = self.study.nodes;
         let mut least = 0;
-        for group in &self.groups {
-            for (lane, &position) in group.positions.iter().enumerate() {
-                let trips = &self.study.trips[position * nodes..][..nodes];
+        for group in self.groups() {
+            for (lane, &row) in group.rows.iter().enumerate() {
+                let trips = self.study.trips_of(row);
                 for &node in group.trees.nodes() {
                     // By question 11 there are no trips where there is no path.
                     if let Some(distance) = group.trees.distance(lane, node) {
@@ -276,7 +332,8 @@ impl<'a> Assignment<'a> {
         }
     }
 
-    /// Makes a move, here and in the table of p·m numbers.
+    /// Makes a move, here and in the table, which has a row of m numbers for
+    /// each row of trips.
     pub fn make_move(&mut self, chosen: Move, table: &mut [u32]) {
         match chosen {
             Move::Add(step) => {
@@ -299,51 +356,37 @@ impl<'a> Assignment<'a> {
         self.totals = self.loading;
     }
 
-    /// Adds the loading `count` times to a table of p·m numbers.
+    /// Adds the loading `count` times to such a table.
     pub fn add_loading(&self, count: u32, table: &mut [u32]) {
         let links = self.study.links;
-        for group in &self.groups {
-            for (lane, &position) in group.positions.iter().enumerate() {
-                let row = &mut table[position * links..][..links];
+        for group in self.groups() {
+            for (lane, &row) in group.rows.iter().enumerate() {
+                let flows = &mut table[row * links..][..links];
                 let tree = group.trees.tree(lane);
                 let leaving = &group.leaving[lane];
                 for &node in tree.nodes() {
                     if let Some(link) = tree.next_link(node) {
-                        row[link] += count * leaving[at_node(node)];
+                        flows[link] += count * leaving[at_node(node)];
                     }
                 }
             }
         }
     }
 
-    /// Writes a move from this table, once the loading is found, into a note of
-    /// 1 + p·n numbers.
+    /// Writes a move from this table, once the loading is found, into a note
+    /// that has a row of n numbers for each row of trips behind its first.
     pub fn write_note(&self, chosen: Move, note: &mut [u16]) {
         match chosen {
             Move::Add(step) => {
                 note[0] = step as u16;
-                self.write_next_links(&mut note[1..]);
+                for searches in &self.searches {
+                    searches.write_next_links(self.study, &mut note[1..]);
+                }
             }
             Move::Double => {
                 note[0] = 0;
                 note[1..].fill(NO_LINK);
             }
-        }
-    }
-
-    /// Writes every node's next link at these times into the rows of a note,
-    /// for every destination. Those without trips are searched only here.
-    fn write_next_links(&self, rows: &mut [u16]) {
-        let nodes = self.study.nodes;
-        for group in &self.groups {
-            group.copy_next_links(nodes, rows);
-        }
-        for mut group in groups(destinations(self.study, false), self.adjacency) {
-            group.trees.find_distances(&self.link_times, self.adjacency);
-            group
-                .trees
-                .find_next_links(&self.link_times, self.adjacency);
-            group.copy_next_links(nodes, rows);
         }
     }
 }

@@ -1,13 +1,13 @@
 //! The eight public calls.
 //!
-//! Where questions 1 to 11 are put, question 19 comes after 8; where questions
-//! 14 to 16 are put, question 20 comes after 16. Question 12 is put to the note
-//! too where one is lent.
+//! Where questions 1 to 11 are put, questions 19 and 23 come after 8; where
+//! questions 14 to 16 are put, question 20 comes after 16. Question 12 is put to
+//! the note too where one is lent.
 
 use crate::assignment::{Assignment, Move};
 use crate::columns::{LINE_BYTES, Line};
 use crate::format::{MOST_LINKS, Sections};
-use crate::network::{Adjacency, ByLink, Study};
+use crate::network::{Adjacencies, Adjacency, ByLink, Study};
 use crate::note::{ask_paths, halve, take_out};
 use crate::questions::{LARGEST_BUDGET, LARGEST_SHARE, Question};
 use crate::staircase::{Gauge, Part};
@@ -114,19 +114,19 @@ pub fn start(file: &[u8], table: &mut [u32]) -> u8 {
 fn try_start(file: &[u8], table: &mut [u32]) -> Result<(), Question> {
     let study = Study::read(file)?;
     let used = ask_length(&study, table.len())?;
-    let adjacency = Adjacency::of(&study);
-    start_table(&study, &adjacency, &mut table[..used]);
+    let adjacencies = Adjacencies::of(&study);
+    start_table(&study, &adjacencies, &mut table[..used]);
     Ok(())
 }
 
-/// Fills a table of p·m numbers with the loading at empty roads, and hands
-/// back the assignment it was made with, which still has empty roads.
+/// Fills a table as long as it is used with the loading at empty roads, and
+/// hands back the assignment it was made with, which still has empty roads.
 fn start_table<'a>(
     study: &'a Study,
-    adjacency: &'a Adjacency,
+    adjacencies: &'a Adjacencies,
     table: &mut [u32],
 ) -> Assignment<'a> {
-    let mut empty = Assignment::new(study, adjacency, 1, [0; MOST_LINKS]);
+    let mut empty = Assignment::new(study, adjacencies, 1, [0; MOST_LINKS]);
     empty.find_times();
     empty.find_loading();
     table.fill(0);
@@ -135,8 +135,9 @@ fn start_table<'a>(
 }
 
 /// Judges a table and moves it. The note of a move has the number of loadings
-/// that were added, j, or 0 for a doubling; then for each destination every
-/// node's next link, 65,535 where it has none and throughout for a doubling.
+/// that were added, j, or 0 for a doubling; then for each class and destination
+/// every node's next link, 65,535 where it has none and throughout for a
+/// doubling.
 /// Questions 1 to 12, then 14 to 16 and 20.
 pub fn pass(file: &[u8], table: &mut [u32], share: u32, note: &mut [u16]) -> PassAnswer {
     try_pass(file, table, share, note).unwrap_or_else(|question| PassAnswer {
@@ -155,10 +156,10 @@ fn try_pass(
     let used = ask_length(&study, table.len())?;
     let noted = ask_note_length(&study, note.len())?;
     let table = &mut table[..used];
-    let adjacency = Adjacency::of(&study);
-    let totals = accept(&study, &adjacency, table, share)?;
+    let adjacencies = Adjacencies::of(&study);
+    let totals = accept(&study, &adjacencies.cars, table, share)?;
 
-    let mut assignment = Assignment::new(&study, &adjacency, share, totals);
+    let mut assignment = Assignment::new(&study, &adjacencies, share, totals);
     assignment.find_times();
     assignment.find_loading();
     let gap = assignment.gap_from_loading();
@@ -178,8 +179,8 @@ fn try_pass(
     })
 }
 
-/// Puts questions 14 to 16 and 20 to a lent table of p·m numbers. Hands back
-/// each link's total.
+/// Puts questions 14 to 16 and 20 to a lent table as long as it is used. Hands
+/// back each link's total. The lists are of all links.
 fn accept(
     study: &Study,
     adjacency: &Adjacency,
@@ -248,9 +249,9 @@ fn try_run(
     let used = ask_length(&study, table.len())?;
     Question::Budget.ask((1..=LARGEST_BUDGET).contains(&budget))?;
     let table = &mut table[..used];
-    let adjacency = Adjacency::of(&study);
+    let adjacencies = Adjacencies::of(&study);
 
-    let mut assignment = start_table(&study, &adjacency, table);
+    let mut assignment = start_table(&study, &adjacencies, table);
     assignment.take_loading();
     assignment.find_times();
     assignment.find_loading();
@@ -301,10 +302,10 @@ pub fn audit(file: &[u8], table: &[u32], share: u32) -> AuditAnswer {
 fn try_audit(file: &[u8], table: &[u32], share: u32) -> Result<AuditAnswer, Question> {
     let study = Study::read(file)?;
     let used = ask_length(&study, table.len())?;
-    let adjacency = Adjacency::of(&study);
-    let totals = accept(&study, &adjacency, &table[..used], share)?;
+    let adjacencies = Adjacencies::of(&study);
+    let totals = accept(&study, &adjacencies.cars, &table[..used], share)?;
 
-    let mut assignment = Assignment::new(&study, &adjacency, share, totals);
+    let mut assignment = Assignment::new(&study, &adjacencies, share, totals);
     assignment.find_times();
     let (cost, over) = assignment.cost_and_over();
     Ok(AuditAnswer {

@@ -5,8 +5,8 @@
 //! (made by passes, wandering, with cycles, damaged), and studies at every
 //! limit; after all these, pages of the same kinds of tables; after these,
 //! studies of version 2 with closed nodes; after these, links past the curve;
-//! after these, studies of version 3 with powers; and after these, notes and
-//! taking back.
+//! after these, studies of version 3 with powers; after these, notes and taking
+//! back; and after these, studies of version 4 with lorries.
 //!
 //! New calls go to the end of the list, so that a recording made before is the
 //! beginning of the next one.
@@ -16,6 +16,9 @@ use crate::draft::{Dice, Draft, DraftLink, Plan, grid};
 use crate::stream::{Call, Kind, Lent, Player, Reply, Second};
 
 mod headers;
+mod lorries;
+mod lorry_files;
+mod lorry_networks;
 mod past_the_curve;
 mod power_files;
 mod power_networks;
@@ -119,6 +122,32 @@ pub fn all() -> Vec<Call> {
     taking_back_networks::single_limits(&mut list);
     taking_back_networks::most_links(&mut list);
     taking_back_networks::full_limits(&mut list);
+
+    lorries::town(&mut list);
+    lorries::tables_of_the_town(&mut list);
+    lorries::equal_totals(&mut list);
+    lorries::next_links(&mut list);
+    lorries::paths(&mut list);
+    lorries::trips(&mut list);
+    lorries::numbers_of_a_note(&mut list);
+    lorries::halves(&mut list);
+    lorries::forbidden_flow(&mut list);
+    lorries::order_of_table_questions(&mut list);
+    lorries::runs(&mut list);
+    lorry_files::short_files(&mut list);
+    lorry_files::versions(&mut list);
+    lorry_files::offsets_and_lengths(&mut list);
+    lorry_files::orders_of_sections(&mut list);
+    lorry_files::gaps(&mut list);
+    lorry_files::barred_bytes(&mut list);
+    lorry_files::order_of_questions(&mut list);
+    lorry_files::packing(&mut list);
+    lorry_networks::random_studies(&mut list);
+    lorry_networks::notes(&mut list);
+    lorry_networks::long_runs(&mut list);
+    lorry_networks::idle_destinations(&mut list);
+    lorry_networks::single_limits(&mut list);
+    lorry_networks::full_limits(&mut list);
     list.calls
 }
 
@@ -171,7 +200,7 @@ impl List {
     }
 
     /// A pass with the note that was left last; the first pass of all is lent
-    /// one that is long enough for every study.
+    /// one that is long enough for every study without lorries.
     fn pass(&mut self, file: &[u8], table: Vec<u32>, share: u32) -> Reply {
         self.call(Kind::Pass, file, self.noted(Some(table)), share, 0, 0)
     }
@@ -1013,7 +1042,28 @@ fn full_limits(list: &mut List) {
     }
 }
 
-/// Numbers of a note that is longer than any study needs.
+/// A study with 128 nodes, 512 links and 32 destinations: streets 16 by 8, and
+/// links to the last node.
+fn largest(dice: &mut Dice, capacity: u64) -> Draft {
+    let plan = Plan {
+        nodes: (128, 128),
+        links: (512, 512),
+        destinations: 32,
+        time: 300,
+        capacity,
+        trips: 30,
+        tenths: 9,
+    };
+    let mut links = grid(dice, 16, 8, 512, 300, capacity);
+    links.resize_with(512, || [dice.below(64) as u16, 127, 900, 9, 9]);
+    let mut draft = plan.with_links(dice, 128, links);
+    while draft.destinations.len() < 32 {
+        draft = plan.with_links(dice, 128, draft.links);
+    }
+    draft
+}
+
+/// Numbers of a note that is longer than any study without lorries needs.
 const LONG_NOTE: usize = 4_100;
 
 /// A note before the call, with as many different numbers as it can have.

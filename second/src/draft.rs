@@ -1,10 +1,11 @@
 //! Studies, tables and notes in the making, for tests and recordings.
 //!
-//! A [`Draft`] is a study of version 1; with closed nodes or powers it becomes a
-//! [`Versioned`] one.
+//! A [`Draft`] is a study of version 1; with closed nodes, powers or lorries it
+//! becomes a [`Versioned`] one.
 
 use crate::format::{LINK_BYTES, Layout, VERSION};
 
+mod lorries;
 mod noted;
 mod versioned;
 
@@ -75,6 +76,21 @@ fn bytes<'a>(numbers: impl IntoIterator<Item = &'a u16>) -> Vec<u8> {
         .collect()
 }
 
+/// The sum of trips by destination and node.
+fn sum(trips: &[Vec<u16>]) -> u64 {
+    trips.iter().flatten().map(|&count| u64::from(count)).sum()
+}
+
+/// Takes away the trips to one destination from where there are no hops, or none
+/// to go.
+fn drop_trips_without(trips: &mut [u16], hops: &[Option<usize>]) {
+    for (count, hops) in trips.iter_mut().zip(hops) {
+        if matches!(hops, None | Some(0)) {
+            *count = 0;
+        }
+    }
+}
+
 /// A link: tail, head, free time a, rise b, capacity c.
 pub type DraftLink = [u16; 5];
 
@@ -109,11 +125,7 @@ impl Draft {
 
     /// The total of trips, T.
     pub fn total(&self) -> u64 {
-        self.trips
-            .iter()
-            .flatten()
-            .map(|&count| u64::from(count))
-            .sum()
+        sum(&self.trips)
     }
 
     /// Bytes of the file without gaps.
@@ -194,17 +206,7 @@ impl Draft {
     pub fn drop_pathless_trips(&mut self) {
         for position in 0..self.destinations.len() {
             let hops = self.hops(self.destinations[position]);
-            self.drop_trips_without(position, &hops);
-        }
-    }
-
-    /// Takes away the trips to one destination from where there are no hops,
-    /// or none to go.
-    fn drop_trips_without(&mut self, position: usize, hops: &[Option<usize>]) {
-        for (count, hops) in self.trips[position].iter_mut().zip(hops) {
-            if matches!(hops, None | Some(0)) {
-                *count = 0;
-            }
+            drop_trips_without(&mut self.trips[position], &hops);
         }
     }
 

@@ -15,12 +15,14 @@ pub const VERSION: u16 = 1;
 pub const CLOSED_VERSION: u16 = 2;
 /// The version with a power for each link.
 pub const POWER_VERSION: u16 = 3;
+/// The version with lorries.
+pub const LORRY_VERSION: u16 = 4;
 /// Bytes of one link in versions 1 and 2.
 pub const LINK_BYTES: usize = 10;
-/// Bytes of one link in version 3.
+/// Bytes of one link in versions 3 and 4.
 pub const POWER_LINK_BYTES: usize = 12;
 /// Sections of the version that has the most.
-pub const MOST_SECTIONS: usize = 4;
+pub const MOST_SECTIONS: usize = 6;
 
 /// The largest number of nodes.
 pub const MOST_NODES: usize = 128;
@@ -28,6 +30,8 @@ pub const MOST_NODES: usize = 128;
 pub const MOST_LINKS: usize = 512;
 /// The largest number of destinations.
 pub const MOST_DESTINATIONS: usize = 32;
+/// The largest number of classes: cars and lorries.
+pub const MOST_CLASSES: usize = 2;
 
 /// What differs between the versions of a study file.
 #[derive(Clone, Copy, Debug, PartialEq, Eq)]
@@ -39,16 +43,20 @@ pub struct Layout {
     /// Bytes of one link.
     pub link_bytes: usize,
     /// Number of sections. They are, in this order: links, destinations,
-    /// trips, closed.
+    /// trips, closed, lorry trips, barred.
     pub sections: usize,
+    /// Number of classes, each with trips of its own: cars, and lorries after
+    /// them.
+    pub classes: usize,
 }
 
 /// All versions there are.
 #[rustfmt::skip]
-pub static LAYOUTS: [Layout; 3] = [
-    Layout { version: VERSION,        header: HEADER, link_bytes: LINK_BYTES,       sections: 3 },
-    Layout { version: CLOSED_VERSION, header: 40,     link_bytes: LINK_BYTES,       sections: 4 },
-    Layout { version: POWER_VERSION,  header: 40,     link_bytes: POWER_LINK_BYTES, sections: 4 },
+pub static LAYOUTS: [Layout; 4] = [
+    Layout { version: VERSION,        header: HEADER, link_bytes: LINK_BYTES,       sections: 3, classes: 1 },
+    Layout { version: CLOSED_VERSION, header: 40,     link_bytes: LINK_BYTES,       sections: 4, classes: 1 },
+    Layout { version: POWER_VERSION,  header: 40,     link_bytes: POWER_LINK_BYTES, sections: 4, classes: 1 },
+    Layout { version: LORRY_VERSION,  header: 56,     link_bytes: POWER_LINK_BYTES, sections: 6, classes: 2 },
 ];
 
 impl Layout {
@@ -71,6 +79,8 @@ impl Layout {
             2 * destinations,
             2 * destinations * nodes,
             nodes,
+            2 * destinations * nodes,
+            links,
         ]
     }
 
@@ -101,6 +111,10 @@ pub struct Sections<'a> {
     pub trip_part: &'a [u8],
     /// The closed bytes, one for each node; none in version 1.
     pub closed_part: &'a [u8],
+    /// The lorry trips, laid out as the trips; none before version 4.
+    pub lorry_part: &'a [u8],
+    /// The barred bytes, one for each link; none before version 4.
+    pub barred_part: &'a [u8],
 }
 
 /// Reads the two bytes at `place`.
@@ -145,17 +159,18 @@ impl<'a> Sections<'a> {
         )?;
 
         let lengths = layout.lengths(nodes, links, destinations);
-        let [link_part, destination_part, trip_part, closed_part] =
-            find_parts(file, layout, &lengths)?;
+        let parts = find_parts(file, layout, &lengths)?;
         Ok(Sections {
             layout,
             nodes,
             links,
             destinations,
-            link_part,
-            destination_part,
-            trip_part,
-            closed_part,
+            link_part: parts[0],
+            destination_part: parts[1],
+            trip_part: parts[2],
+            closed_part: parts[3],
+            lorry_part: parts[4],
+            barred_part: parts[5],
         })
     }
 
@@ -186,6 +201,8 @@ impl<'a> Sections<'a> {
             self.destination_part,
             self.trip_part,
             self.closed_part,
+            self.lorry_part,
+            self.barred_part,
         ];
         for (section, part) in parts.into_iter().take(self.layout.sections).enumerate() {
             let pair = &mut header[8 + 8 * section..16 + 8 * section];

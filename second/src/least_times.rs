@@ -11,9 +11,12 @@
 //! A link into a closed node carries only flow to that node. So a search sets
 //! out with all links into its own destination and goes on with links into
 //! open nodes only.
+//!
+//! Searches side by side are of one class, and know only the links that it may
+//! use.
 
-use crate::format::{MOST_LINKS, MOST_NODES};
-use crate::network::{Adjacency, ByLink, ByNode, at_link, at_node};
+use crate::format::MOST_NODES;
+use crate::network::{Adjacency, ByNode, at_link, at_node};
 
 /// How many destinations are searched side by side.
 pub const LANES: usize = 8;
@@ -69,20 +72,21 @@ impl Label {
     }
 }
 
-/// The times of all links, ready for the searches.
+/// The times of the links that a class may use, ready for the searches.
 pub struct Times {
     /// In the order of the lists of links out of nodes.
-    out: ByLink<Leg>,
+    out: Vec<Leg>,
     /// In the order of the lists of links into nodes: time and tail.
-    into: ByLink<Label>,
+    into: Vec<Label>,
 }
 
 impl Times {
     /// For a network; the times are yet to be set.
     pub fn new(adjacency: &Adjacency) -> Self {
+        let heads = &adjacency.out.others[..adjacency.links];
         Times {
-            out: adjacency.out.others.map(|head| Leg { time: 0, head }),
-            into: [Label(0); MOST_LINKS],
+            out: heads.iter().map(|&head| Leg { time: 0, head }).collect(),
+            into: vec![Label(0); adjacency.links],
         }
     }
 
@@ -90,11 +94,11 @@ impl Times {
     #[inline]
     pub fn set(&mut self, adjacency: &Adjacency, times: &[u32]) {
         let lists = &adjacency.out;
-        for (leg, &link) in self.out[..times.len()].iter_mut().zip(&lists.links) {
+        for (leg, &link) in self.out.iter_mut().zip(&lists.links) {
             leg.time = times[usize::from(link)] as i32;
         }
         let lists = &adjacency.into;
-        let into = self.into[..times.len()].iter_mut();
+        let into = self.into.iter_mut();
         for ((label, &link), &tail) in into.zip(&lists.links).zip(&lists.others) {
             *label = Label::new(times[usize::from(link)], tail);
         }

@@ -1,20 +1,20 @@
 //! Equilibrium assignment of trips to a road network.
 //!
 //! The second implementation of document 01, the scope, and of requests A.1,
-//! A.2 and A.4 to A.6 of document 02, the page, the closed nodes, the links past
-//! the curve, the powers and the note with taking back. Its answers are compared
-//! with the first implementation's, call by call, and its speed is the yardstick
-//! for the first one's.
+//! A.2 and A.4 to A.7 of document 02, the page, the closed nodes, the links past
+//! the curve, the powers, the note with taking back, and lorries. Its answers
+//! are compared with the first implementation's, call by call, and its speed is
+//! the yardstick for the first one's.
 //!
 //! The layers, from the bottom up:
 //!
 //! | module          | what it knows                                           |
 //! |-----------------|---------------------------------------------------------|
-//! | [`questions`]   | the 22 questions and their numbers                      |
+//! | [`questions`]   | the 23 questions and their numbers                      |
 //! | [`mod@format`]  | the bytes of a study file (questions 1 to 5), versions  |
-//! | [`network`]     | the decoded study (questions 6 to 11 and 19)            |
+//! | [`network`]     | the decoded study (questions 6 to 11, 19 and 23)        |
 //! | `reach`         | who has a path (question 11)                            |
-//! | `adjacency`     | the links at each node                                  |
+//! | `adjacency`     | the links at each node, for each class                  |
 //! | [`staircase`]   | a link's time and area, and whether it is over          |
 //! | [`tables`]      | lent flow tables (questions 12, 15, 16 and 20)          |
 //! | [`least_times`] | distances and next links to one destination             |

@@ -4,7 +4,7 @@ use std::fmt::Write;
 
 use crate::calls::{REACHED, RUN_FINEST, RunAnswer, page, run};
 use crate::columns::LINE_BYTES;
-use crate::format::{MOST_DESTINATIONS, MOST_LINKS, u16_at};
+use crate::format::{MOST_CLASSES, MOST_DESTINATIONS, MOST_LINKS, u16_at};
 use crate::network::Study;
 use crate::questions::Question;
 
@@ -33,7 +33,7 @@ fn run_input(input: &[u8]) -> Result<(&[u8], Vec<u32>, RunAnswer), u8> {
     let (budget, excess) = (u16_at(input, 0), u16_at(input, 2));
     let file = &input[4..];
 
-    let mut table = vec![0; MOST_DESTINATIONS * MOST_LINKS];
+    let mut table = vec![0; MOST_CLASSES * MOST_DESTINATIONS * MOST_LINKS];
     let answer = run(file, &mut table, u32::from(budget), excess);
     if answer.refusal != 0 {
         return Err(answer.refusal);

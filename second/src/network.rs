@@ -1,14 +1,15 @@
-//! The decoded study: links, destinations, closed nodes and trips, questions 6
-//! to 11 with 19 among them.
+//! The decoded study: links, destinations, closed nodes, barred links and trips,
+//! questions 6 to 11 with 19 and 23 among them.
 
 use crate::format::{
-    LINK_BYTES, MOST_DESTINATIONS, MOST_LINKS, MOST_NODES, POWER_LINK_BYTES, Sections, numbers,
+    LINK_BYTES, MOST_CLASSES, MOST_DESTINATIONS, MOST_LINKS, MOST_NODES, POWER_LINK_BYTES,
+    Sections, numbers,
 };
 use crate::questions::{LARGEST_TOTAL, Question};
 use crate::reach::paths_exist;
 use crate::staircase::{LARGEST_POWER, Road};
 
-pub use crate::adjacency::{Adjacency, Lists};
+pub use crate::adjacency::{Adjacencies, Adjacency, Lists};
 
 /// One value for every node a study can have.
 pub type ByNode<T> = [T; MOST_NODES];
@@ -27,7 +28,24 @@ pub fn at_link(link: u16) -> usize {
     usize::from(link) & (MOST_LINKS - 1)
 }
 
+/// Who makes a trip.
+#[derive(Clone, Copy, Debug, PartialEq, Eq)]
+pub enum Class {
+    /// Cars, which may use every link.
+    Cars,
+    /// Lorries, which keep off barred links. Only version 4 has them.
+    Lorries,
+}
+
+impl Class {
+    /// Both classes, in the order of their rows.
+    pub const ALL: [Class; MOST_CLASSES] = [Class::Cars, Class::Lorries];
+}
+
 /// An accepted study, decoded once per call.
+///
+/// Trips, flow tables and notes go by rows: one for each destination with the
+/// trips of cars, and in version 4 as many with those of lorries after them.
 pub struct Study {
     /// Number of nodes, n.
     pub nodes: usize,
@@ -43,22 +61,27 @@ pub struct Study {
     pub destinations: [u8; MOST_DESTINATIONS],
     /// Number of destinations, p.
     pub destination_count: usize,
+    /// Number of classes, 2 where there are lorries.
+    pub class_count: usize,
     /// The closed nodes, a bit for each node. Version 1 has every node open.
     pub closed: u128,
-    /// Trips, n for each destination in turn.
+    /// For each link whether it is barred to lorries; none where there are no
+    /// lorries.
+    pub barred: Vec<bool>,
+    /// Trips, n for each row in turn.
     pub trips: Vec<u16>,
     /// All trips together, T.
     pub total: u32,
 }
 
 impl Study {
-    /// Puts questions 1 to 11, with 19 after 8, and decodes the file.
+    /// Puts questions 1 to 11, with 19 and 23 after 8, and decodes the file.
     pub fn read(file: &[u8]) -> Result<Self, Question> {
         Study::decode(&Sections::find(file)?)
     }
 
-    /// Puts questions 6 to 11, with 19 after 8, to the sections found and
-    /// decodes them.
+    /// Puts questions 6 to 11, with 19 and 23 after 8, to the sections found
+    /// and decodes them.
     pub fn decode(sections: &Sections<'_>) -> Result<Self, Question> {
         let mut study = Study {
             nodes: sections.nodes,
@@ -68,14 +91,17 @@ impl Study {
             roads: vec![Road::default(); sections.links],
             destinations: [0; MOST_DESTINATIONS],
             destination_count: sections.destinations,
+            class_count: sections.layout.classes,
             closed: 0,
+            barred: Vec::new(),
             trips: Vec::new(),
             total: 0,
         };
         study.decode_links(sections)?;
         study.decode_destinations(sections.destination_part)?;
         study.decode_closed(sections.closed_part)?;
-        study.decode_trips(sections.trip_part)?;
+        study.decode_barred(sections.barred_part)?;
+        study.decode_trips([sections.trip_part, sections.lorry_part])?;
         Question::Paths.ask(paths_exist(&study))?;
         Ok(study)
     }
@@ -152,16 +178,28 @@ impl Study {
         Question::ClosedBytes.ask(all <= 1)
     }
 
-    /// Decodes the trips, with questions 9 and 10.
+    /// Decodes the barred bytes, with question 23. Only version 4 has any.
     #[inline]
-    fn decode_trips(&mut self, part: &[u8]) -> Result<(), Question> {
-        self.trips = numbers(part).collect();
+    fn decode_barred(&mut self, part: &[u8]) -> Result<(), Question> {
+        let all = part.iter().fold(0, |all, &byte| all | byte);
+        Question::BarredBytes.ask(all <= 1)?;
+        self.barred = part.iter().map(|&byte| byte == 1).collect();
+        Ok(())
+    }
+
+    /// Decodes the trips of each class, with questions 9 and 10.
+    #[inline]
+    fn decode_trips(&mut self, parts: [&[u8]; MOST_CLASSES]) -> Result<(), Question> {
+        self.trips = Vec::with_capacity(self.row_count() * self.nodes);
+        for part in parts {
+            self.trips.extend(numbers(part));
+        }
         let own_trips = self
             .rows()
             .any(|(destination, trips)| trips[usize::from(destination)] != 0);
         Question::OwnTrips.ask(!own_trips)?;
 
-        // At most 32 · 128 · 65,535, well within 32 bits.
+        // At most 2 · 32 · 128 · 65,535, well within 32 bits.
         self.total = self.trips.iter().map(|&trips| u32::from(trips)).sum();
         Question::Total.ask(self.total <= LARGEST_TOTAL)
     }
@@ -178,21 +216,59 @@ impl Study {
         })
     }
 
-    /// Each destination with its trips by node.
+    /// The classes there are.
+    pub fn classes(&self) -> impl Iterator<Item = Class> {
+        Class::ALL.into_iter().take(self.class_count)
+    }
+
+    /// Number of rows: p, or 2p where there are lorries.
+    #[inline]
+    pub fn row_count(&self) -> usize {
+        self.class_count * self.destination_count
+    }
+
+    /// The rows of a class.
+    #[inline]
+    pub fn rows_of(&self, class: Class) -> std::ops::Range<usize> {
+        let first = class as usize * self.destination_count;
+        first..first + self.destination_count
+    }
+
+    /// Tail and head of each link.
+    #[inline]
+    pub fn ends(&self) -> impl Iterator<Item = (u8, u8)> {
+        let heads = self.heads.iter().copied();
+        self.tails.iter().copied().zip(heads).take(self.links)
+    }
+
+    /// Each row's destination with its trips by node.
+    #[inline]
     pub fn rows(&self) -> impl Iterator<Item = (u8, &[u16])> {
-        self.destinations
+        self.destinations[..self.destination_count]
             .iter()
             .copied()
+            .cycle()
             .zip(self.trips.chunks_exact(self.nodes))
     }
 
-    /// Numbers a flow table must hold, p·m.
-    pub fn table_length(&self) -> usize {
-        self.destination_count * self.links
+    /// Trips by node of one row.
+    #[inline]
+    pub fn trips_of(&self, row: usize) -> &[u16] {
+        &self.trips[row * self.nodes..][..self.nodes]
     }
 
-    /// Numbers a note must hold, 1 + p·n.
+    /// Whether there are barred links.
+    pub fn has_barred_links(&self) -> bool {
+        self.barred.contains(&true)
+    }
+
+    /// Numbers a flow table must hold, p·m, or 2·p·m where there are lorries.
+    pub fn table_length(&self) -> usize {
+        self.row_count() * self.links
+    }
+
+    /// Numbers a note must hold, 1 + p·n, or 1 + 2·p·n where there are lorries.
     pub fn note_length(&self) -> usize {
-        1 + self.destination_count * self.nodes
+        1 + self.row_count() * self.nodes
     }
 }

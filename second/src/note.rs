@@ -4,13 +4,13 @@
 use crate::format::MOST_NODES;
 use crate::least_times::{NO_LINK, Tree};
 use crate::loading::load;
-use crate::network::{ByNode, Study, at_link, at_node};
+use crate::network::{ByNode, Class, Study, at_link, at_node};
 use crate::questions::Question;
 
-/// The loading of a note: places in a table of p·m numbers, and the trips there.
+/// The loading of a note: places in a table, and the trips there.
 pub type NotedLoading = Vec<(u32, u32)>;
 
-/// Question 21, put to the next links of a note, n for each destination. Hands
+/// Question 21, put to the next links of a note, n for each row of trips. Hands
 /// back the note's loading.
 ///
 /// The trips to a destination are sent along those numbers that can be next
@@ -21,15 +21,18 @@ pub fn ask_paths(study: &Study, next_links: &[u16]) -> Result<NotedLoading, Ques
     let nodes: Vec<u8> = (0..study.nodes as u8).collect();
     let mut leaving = [0; MOST_NODES];
     let mut loading = Vec::with_capacity(next_links.len());
-    let rows = next_links.chunks_exact(study.nodes);
-    for (position, ((destination, trips), row)) in study.rows().zip(rows).enumerate() {
+    let noted = next_links.chunks_exact(study.nodes);
+    for (row, ((destination, trips), noted)) in study.rows().zip(noted).enumerate() {
         let all: u32 = trips.iter().map(|&count| u32::from(count)).sum();
         if all == 0 {
             continue;
         }
-        let links = links_that_fit(study, destination, row);
+        let mut links = links_that_fit(study, destination, noted);
+        if study.rows_of(Class::Lorries).contains(&row) {
+            drop_barred(study, &mut links);
+        }
         let tree = Tree::new(&nodes, &links);
-        let first = position * study.links;
+        let first = row * study.links;
         load(&study.heads, tree, trips, &mut leaving, |link, flow| {
             loading.push(((first + link) as u32, flow));
         });
@@ -57,8 +60,17 @@ fn links_that_fit(study: &Study, destination: u8, row: &[u16]) -> ByNode<u16> {
     links
 }
 
+/// Takes the barred links away.
+fn drop_barred(study: &Study, links: &mut ByNode<u16>) {
+    for link in &mut links[..study.nodes] {
+        if *link != NO_LINK && study.barred[usize::from(*link)] {
+            *link = NO_LINK;
+        }
+    }
+}
+
 /// Question 22 for a loading that a move added `step` times. Takes it out of
-/// the table of p·m numbers and hands back the share that is left.
+/// the table and hands back the share that is left.
 pub fn take_out(
     loading: &NotedLoading,
     step: u32,
@@ -75,8 +87,8 @@ pub fn take_out(
     Ok(share - step)
 }
 
-/// Question 22 for a doubling. Halves the table of p·m numbers and hands back
-/// half the share.
+/// Question 22 for a doubling. Halves the table, all of which is used, and hands
+/// back half the share.
 pub fn halve(table: &mut [u32], share: u32) -> Result<u32, Question> {
     let all = table.iter().fold(share, |all, &flow| all | flow);
     Question::NotedFlow.ask(all % 2 == 0)?;

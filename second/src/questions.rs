@@ -12,8 +12,8 @@ pub const LARGEST_TOTAL: u32 = 65_535;
 
 /// A question; used as an error it is the first question answered "no".
 ///
-/// They are put in the order of their numbers, but for 19, which comes after
-/// 8, and 20, which comes after 16 and before 18 and 21.
+/// They are put in the order of their numbers, but for 19 and 23, which come
+/// after 8 in this order, and 20, which comes after 16 and before 18 and 21.
 #[derive(Clone, Copy, Debug, PartialEq, Eq)]
 #[repr(u8)]
 pub enum Question {
@@ -36,7 +36,7 @@ pub enum Question {
     Destinations = 8,
     /// 9: does no destination have trips to itself?
     OwnTrips = 9,
-    /// 10: is the total of trips at most 65,535?
+    /// 10: is the total of trips, of both classes, at most 65,535?
     Total = 10,
     /// 11: does every node with trips have a path?
     Paths = 11,
@@ -62,6 +62,8 @@ pub enum Question {
     NotedPaths = 21,
     /// 22: can what the note says be taken out of the table and its share?
     NotedFlow = 22,
+    /// 23: is each barred byte 0 or 1?
+    BarredBytes = 23,
 }
 
 impl Question {

@@ -50,11 +50,11 @@
 //! 256, and 0 in a refusal. The digest is the 64-bit FNV-1a digest of all that
 //! was lent, as the call leaves it, in 16 hexadecimal digits: the output's
 //! bytes of a pack; the table's numbers as little-endian bytes of a start, run
-//! or audit (all of them, also those after the first p·m); the same of a pass
-//! or take back, and after them the note's numbers as little-endian bytes (all
-//! of them, also those after the first 1 + p·n); the page slice's bytes of a
-//! page (all of them, also those after the first 30m, but not its table, which
-//! it cannot change); no bytes at all of a check.
+//! or audit (all of them, also those that the study does not use); the same of a
+//! pass or take back, and after them the note's numbers as little-endian bytes
+//! (all of them, also those that the study does not use); the page slice's bytes
+//! of a page (all of them, also those after the first 30m, but not its table,
+//! which it cannot change); no bytes at all of a check.
 
 use crate::calls::{self, AuditAnswer, PassAnswer, RunAnswer, TakeBackAnswer};
 

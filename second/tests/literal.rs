@@ -16,7 +16,7 @@ struct Pair {
     slow: Player,
     made: usize,
     /// How many calls were answered with each number.
-    numbers: [usize; 23],
+    numbers: [usize; 24],
     /// Pages not refused.
     pages: usize,
     /// Answers that count links on step 256.
@@ -27,7 +27,7 @@ struct Pair {
 
 /// A note of numbers without any sense, mostly long enough.
 fn garbage_note(dice: &mut Dice, study: &Versioned) -> Vec<u16> {
-    let length = study.draft.note_length() + dice.pick(&[0, 0, 1, 7]);
+    let length = study.note_length() + dice.pick(&[0, 0, 1, 7]);
     let length = length - usize::from(dice.once_in(15));
     (0..length).map(|_| dice.any_u32() as u16).collect()
 }
@@ -211,7 +211,7 @@ impl Pair {
         let other = study.some_note(dice, step);
         self.noted(Kind::TakeBack, file, Some(&table), grown, Some(other));
         let doubled: Vec<u32> = made.iter().map(|flow| 2 * flow).collect();
-        let note = vec![0; study.draft.note_length()];
+        let note = vec![0; study.note_length()];
         self.noted(Kind::TakeBack, file, Some(&doubled), 2 * share, Some(note));
         self.noted(Kind::TakeBack, file, None, share, None);
     }
@@ -219,14 +219,14 @@ impl Pair {
     /// At least so many times the note was at fault, or what it says; and more
     /// often something was taken back.
     fn has_takings_back(&self, least: usize) {
-        let refused = &self.numbers[21..];
+        let refused = &self.numbers[21..=22];
         assert!(refused.iter().all(|&count| count > least), "{refused:?}");
         assert!(self.taken_back > 3 * least, "{}", self.taken_back);
     }
 
     /// All calls there are, with tables of all kinds, for one study.
     fn study(&mut self, dice: &mut Dice, study: &Versioned, file: &[u8]) {
-        let length = study.draft.table_length();
+        let length = study.table_length();
         let table = |table: &Vec<u32>| Lent::Table(table.clone());
         self.call(Kind::Check, file, Lent::Nothing, 0, 0, 0);
         let room = study.packed_length() + dice.index(3) - dice.index(2);
@@ -263,7 +263,7 @@ impl Pair {
     }
 
     /// Tables that nobody's passes have made: wandering, with cycles, damaged,
-    /// and, where there are closed nodes, without regard to them.
+    /// and, where there are closed nodes or lorries, by any links.
     fn made_tables(&mut self, dice: &mut Dice, study: &Versioned, file: &[u8]) {
         let table = |table: &Vec<u32>| Lent::Table(table.clone());
         let share = if dice.once_in(2) {
@@ -278,19 +278,21 @@ impl Pair {
         self.call(Kind::Audit, file, table(&made), share, 0, 0);
         self.page(dice, study, file, Some(&made), share);
         self.made_notes(dice, study, file, &made, share);
-        let most = share * study.draft.total() as u32;
+        let most = share * study.total() as u32;
         let amount = dice.pick(&[1, 2, share, most / 2, most]);
         if study.add_cycle(dice, &mut made, amount) {
             self.pass(dice, study, file, Some(&made), share);
             self.call(Kind::Audit, file, Lent::Same, share, 0, 0);
             self.page(dice, study, file, Some(&made), share);
         }
-        if study.closed.is_some() {
-            let mut through = study.draft.wandering_table(dice, share);
+        if study.version() == 4 || study.closed.is_some() {
+            let mut through = study.table_by_any_links(dice, share);
             self.pass(dice, study, file, Some(&through), share);
             self.page(dice, study, file, Some(&through), share);
             through.clone_from(&made);
-            study.draft.add_cycle(dice, &mut through, 1);
+            // A cycle of the last class there is.
+            let row = through.len() - study.draft.table_length();
+            study.draft.add_cycle(dice, &mut through[row..], 1);
             self.call(Kind::Audit, file, table(&through), share, 0, 0);
             self.page(dice, study, file, Some(&through), share);
         }
@@ -422,6 +424,127 @@ fn small_powers_study(dice: &mut Dice) -> Versioned {
         tenths: 9,
     };
     plan.with_links(dice, nodes, links).with_some_powers(dice)
+}
+
+/// A small study of version 4: of any kind otherwise, with lorry trips on some
+/// or no relations and some or no links barred.
+fn small_lorry_study(dice: &mut Dice, turn: usize) -> Versioned {
+    let study = match turn % 4 {
+        0 => Plan::small(dice).draft(dice).into(),
+        1 => small_closed_study(dice).with_some_powers(dice),
+        2 => small_closed_study(dice),
+        _ => small_powers_study(dice),
+    };
+    let (some, barred) = (dice.pick(&[0, 2, 5, 9]), dice.pick(&[0, 1, 2, 5]));
+    let mut study = study.with_some_lorries(dice, some);
+    if dice.once_in(8) {
+        // Lorries only.
+        study.draft.trips.iter_mut().for_each(|trips| trips.fill(0));
+    }
+    study.barring_some(dice, barred)
+}
+
+/// Thousands of small studies with lorries, all eight calls.
+#[test]
+fn small_studies_with_lorries() {
+    let mut dice = Dice::new(2_034);
+    let mut pair = Pair::default();
+    for turn in 0..9_000 {
+        let study = small_lorry_study(&mut dice, turn);
+        let file = study.file();
+        pair.study(&mut dice, &study, &file);
+    }
+    assert!(pair.numbers[0] > 90_000, "{:?}", pair.numbers);
+    assert!(pair.numbers[20] > 8_000, "{:?}", pair.numbers);
+    assert!(pair.pages > 20_000, "{}", pair.pages);
+    assert!(pair.over > 20_000, "{}", pair.over);
+    pair.has_takings_back(8_000);
+}
+
+/// Barred bytes, lorry trips and other parts of a study at fault, one or more of
+/// them.
+#[test]
+fn faults_with_lorries() {
+    let mut dice = Dice::new(2_035);
+    let mut pair = Pair::default();
+    for turn in 0..8_000 {
+        let mut study = small_lorry_study(&mut dice, turn);
+        let position = dice.index(study.draft.destinations.len());
+        let own = usize::from(study.draft.destinations[position]);
+        let nodes = usize::from(study.draft.nodes);
+        for _ in 0..dice.between(1, 2) {
+            let row = &mut study.lorries.as_mut().expect("there are lorries")[position];
+            let barred = study.barred.as_mut().expect("there are barred bytes");
+            match dice.below(8) {
+                0 => barred[0] = dice.pick(&[2, 3, 128, 255]),
+                1 => barred.push(dice.pick(&[0, 1, 2])),
+                2 => barred.fill(dice.pick(&[1, 1, 2])),
+                3 => row[own] = 1,
+                4 => row[dice.index(nodes)] = 65_535,
+                5 => row.push(0),
+                6 => row.fill(1),
+                _ => study.closed = Some(vec![dice.pick(&[0, 1, 2]); nodes]),
+            }
+        }
+        let file = study.file();
+        pair.call(Kind::Check, &file, Lent::Nothing, 0, 0, 0);
+        let table = Lent::Table(vec![7; study.table_length()]);
+        pair.call(Kind::Start, &file, table, 0, 0, 0);
+    }
+    for number in [0, 5, 9, 10, 11, 19, 23] {
+        assert!(pair.numbers[number] > 100, "{:?}", pair.numbers);
+    }
+}
+
+/// Makes a call with the cars' part of a table and note, and no lorries' flow.
+fn call_with_cars(
+    study: &Versioned,
+    kind: Kind,
+    (table, share): (&[u32], u32),
+    note: &[u16],
+) -> (Reply, Player) {
+    let (mut table, mut note) = (table.to_vec(), note.to_vec());
+    table.resize(study.table_length(), 0);
+    note.resize(study.note_length(), 7);
+    let call = Call {
+        kind,
+        file: Some(study.file()),
+        lent: match kind {
+            Kind::Page => Lent::Page(Some(table), vec![1; 30 * 60]),
+            Kind::Pass => Lent::Noted(Some(table), Some(note)),
+            _ => Lent::Table(table),
+        },
+        share,
+        budget: 30,
+        excess: 0,
+    };
+    let mut player = Player::default();
+    let reply = player.play(&Second, &call);
+    (reply, player)
+}
+
+/// A study of version 4 without lorry trips is that of version 3, be links
+/// barred or not: the same answers, the same cars' part of table and note.
+#[test]
+fn no_lorries_is_version_3() {
+    let mut dice = Dice::new(2_036);
+    for turn in 0..600 {
+        let study = small_closed_study(&mut dice).with_some_powers(&mut dice);
+        let barred = [0, 0, 3][turn % 3];
+        let twin = study.clone().barring_some(&mut dice, barred);
+        let share = dice.pick(&[1, 9, 512, 1_024]);
+        let table = study.wandering_table(&mut dice, share);
+        let step = dice.pick(&[0, 1, 8]);
+        let note = study.some_note(&mut dice, step);
+        for kind in [Kind::Start, Kind::Pass, Kind::Run, Kind::Audit, Kind::Page] {
+            let call = |study| call_with_cars(study, kind, (&table, share), &note);
+            let ((reply, old), (other, new)) = (call(&study), call(&twin));
+            assert_eq!((reply, &old.page), (other, &new.page));
+            let (cars, lorries) = new.table.split_at(old.table.len());
+            assert!(old.table == cars && lorries.iter().all(|&flow| flow == 0));
+            assert!(new.note.starts_with(&old.note));
+        }
+    }
 }
 
 /// Powers that are none, and other faults with them.
@@ -604,8 +727,9 @@ fn all_powers_4_is_version_2() {
     }
 }
 
-/// A crowded street grid of one of five kinds: in version 1, with zones, with
-/// zones and powers, with powers, with closed nodes.
+/// A crowded street grid of one of seven kinds: in version 1, with zones, with
+/// zones and powers, with powers, with closed nodes, with lorries, and with
+/// lorries and all the rest.
 fn crowded_study(dice: &mut Dice, kind: usize) -> Versioned {
     let (wide, high) = (dice.between(2, 4) as u16, dice.between(1, 3) as u16);
     let (time, capacity) = (dice.pick(&[5, 40, 900]), dice.pick(&[4, 25, 300]));
@@ -627,22 +751,31 @@ fn crowded_study(dice: &mut Dice, kind: usize) -> Versioned {
             .with_zones(dice, nodes, 5, links)
             .with_some_powers(dice),
         3 => plan.with_links(dice, nodes, links).with_some_powers(dice),
-        _ => plan.with_links(dice, nodes, links).closing_some(dice, 2),
+        4 => plan.with_links(dice, nodes, links).closing_some(dice, 2),
+        5 => plan
+            .with_links(dice, nodes, links)
+            .with_some_lorries(dice, 5)
+            .barring_some(dice, 2),
+        _ => plan
+            .with_zones(dice, nodes, 5, links)
+            .with_some_powers(dice)
+            .with_some_lorries(dice, 7)
+            .barring_some(dice, 1),
     }
 }
 
 /// Runs to their end, on crowded networks where they take long, in version 1,
-/// with closed nodes and with powers.
+/// with closed nodes, with powers and with lorries.
 #[test]
 fn long_runs() {
     let mut dice = Dice::new(77);
     let mut pair = Pair::default();
     let (mut judged, mut endings) = (0, [0; 4]);
-    for turn in 0..600 {
-        let study = crowded_study(&mut dice, turn % 5);
+    for turn in 0..840 {
+        let study = crowded_study(&mut dice, turn % 7);
         let excess = dice.pick(&[0, 0, 0, 1, 3]);
         let budget = if turn % 4 == 0 { 60 } else { 1_024 };
-        let table = Lent::Table(vec![0; study.draft.table_length()]);
+        let table = Lent::Table(vec![0; study.table_length()]);
         let reply = pair.call(Kind::Run, &study.file(), table, 0, budget, excess);
         if let Reply::Run(answer) = reply {
             judged += answer.judged;
@@ -681,14 +814,15 @@ fn damaged(dice: &mut Dice, file: &[u8], header: usize) -> Vec<u8> {
 fn damaged_files() {
     let mut dice = Dice::new(505);
     let mut pair = Pair::default();
-    for turn in 0..7_500 {
+    for turn in 0..10_000 {
         let draft = Plan::small(&mut dice).draft(&mut dice);
-        let gaps: [Vec<u8>; 5] = [(); 5].map(|()| vec![dice.roll() as u8; dice.index(6)]);
+        let gaps: [Vec<u8>; 7] = [(); 7].map(|()| vec![dice.roll() as u8; dice.index(6)]);
         let gaps = gaps.each_ref().map(Vec::as_slice);
-        let (study, header) = match turn % 3 {
+        let (study, header) = match turn % 4 {
             0 => (Versioned::from(draft), 32),
             1 => (draft.closing_some(&mut dice, 3), 40),
-            _ => (some_powers_and_zones(&mut dice, draft), 40),
+            2 => (some_powers_and_zones(&mut dice, draft), 40),
+            _ => (small_lorry_study(&mut dice, turn / 4), 56),
         };
         let file = study.file_with_gaps(&gaps[..header / 8]);
         for _ in 0..8 {
@@ -708,7 +842,7 @@ fn damaged_files() {
             pair.call(kind, &other, lent, number, number, 0);
         }
     }
-    for number in (0..=12).chain([13, 14, 15, 16, 17, 19]) {
+    for number in (0..=12).chain([13, 14, 15, 16, 17, 19, 23]) {
         assert!(pair.numbers[number] > 0, "{number}: {:?}", pair.numbers);
     }
 }
@@ -719,10 +853,11 @@ fn sensible_header(version: u16, n: u16, m: u16, p: u16) -> Vec<u8> {
         .into_iter()
         .flat_map(u16::to_le_bytes)
         .collect();
-    let sections = usize::from(version.min(2)) + 2;
-    let link_bytes = if version == 3 { 12 } else { 10 };
+    let sections = [3, 4, 4, 6, 6][usize::from(version) - 1];
+    let link_bytes = if version >= 3 { 12 } else { 10 };
     let mut offset = 8 + 8 * sections as u32;
-    for length in &[link_bytes * m, 2 * p, 2 * p * n, n][..sections] {
+    let lengths = [link_bytes * m, 2 * p, 2 * p * n, n, 2 * p * n, m];
+    for length in &lengths[..sections] {
         header.extend(offset.to_le_bytes());
         header.extend(u32::from(*length).to_le_bytes());
         offset += u32::from(*length);
@@ -735,13 +870,13 @@ fn sensible_header(version: u16, n: u16, m: u16, p: u16) -> Vec<u8> {
 fn senseless_files() {
     let mut dice = Dice::new(606);
     let mut pair = Pair::default();
-    for _ in 0..8_000 {
-        let length = dice.pick(&[0, 31, 32, 36, 39, 40, 41, 60, 70, 90, 200]);
+    for _ in 0..12_000 {
+        let length = dice.pick(&[0, 31, 32, 36, 39, 40, 41, 55, 56, 60, 70, 90, 200]);
         let mut file: Vec<u8> = (0..length)
             .map(|_| dice.roll() as u8 >> dice.below(8))
             .collect();
         let (n, m, p) = (dice.between(1, 3), dice.between(1, 3), dice.between(1, 2));
-        let version = dice.pick(&[1, 1, 2, 2, 3, 3, 4]);
+        let version = dice.pick(&[1, 1, 2, 2, 3, 3, 4, 4, 5]);
         let header = sensible_header(version, n as u16, m as u16, p as u16);
         if dice.once_in(2) {
             for (byte, number) in file.iter_mut().zip(header) {
@@ -778,16 +913,16 @@ fn recorded_calls() {
 }
 
 /// Networks of a larger size, with many destinations, in version 1, with closed
-/// nodes and with powers.
+/// nodes, with powers and with lorries.
 #[test]
 fn larger_studies() {
     let mut dice = Dice::new(909);
     let mut pair = Pair::default();
-    for turn in 0..180 {
+    for turn in 0..240 {
         let plan = Plan {
             nodes: (20, 70),
             links: (40, 260),
-            destinations: 32.min(4 + turn / 3),
+            destinations: 32.min(4 + turn / 4),
             time: dice.pick(&[2, 30, 1_000, 16_383]),
             capacity: dice.pick(&[2, 30, 1_000, 65_535]),
             trips: dice.pick(&[1, 5, 60]),
@@ -799,15 +934,18 @@ fn larger_studies() {
         } else {
             plan.draft(&mut dice)
         };
-        let study = match turn % 6 {
+        let study = match turn % 8 {
             0 | 1 => Versioned::from(draft),
             2 => draft.with_some_powers(&mut dice),
             3 => some_powers_and_zones(&mut dice, draft),
             4 => draft.closing_some(&mut dice, 2),
-            _ => {
+            5 => {
                 let links = grid(&mut dice, 8, 6, 160, plan.time, plan.capacity);
-                plan.with_zones(&mut dice, 48, 5 + turn as u16 / 6, links)
+                plan.with_zones(&mut dice, 48, 5 + turn as u16 / 8, links)
             }
+            _ => some_powers_and_zones(&mut dice, draft)
+                .with_some_lorries(&mut dice, 4)
+                .barring_some(&mut dice, 1),
         };
         let file = study.file();
         pair.study(&mut dice, &study, &file);

@@ -10,11 +10,11 @@ use second::{
 /// A pass that is taken back where it moves the table, and made again.
 #[track_caller]
 fn pass(file: &[u8], table: &mut [u32], share: u32) -> PassAnswer {
-    let mut note = vec![7; 4_100];
+    let mut note = vec![7; 8_200];
     let before = table.to_vec();
     let answer = second::pass(file, table, share, &mut note);
     if answer.outcome != MOVED {
-        assert_eq!(note, vec![7; 4_100]);
+        assert_eq!(note, vec![7; 8_200]);
         return answer;
     }
     let (after, noted) = (table.to_vec(), note.clone());
@@ -635,7 +635,7 @@ fn pack_and_run(study: &Versioned) {
     assert_eq!(output[..file.len()], file);
     assert_eq!(output[file.len()], 1);
 
-    let length = study.draft.table_length();
+    let length = study.table_length();
     let mut table = vec![7; length + 1];
     assert_eq!(start(&file, &mut table[..length - 1]), 12);
     let answer = run(&file, &mut table, 40, 0);
@@ -671,29 +671,32 @@ fn closed_nodes_at_the_limits() {
 #[test]
 fn a_run_is_a_start_and_passes() {
     let mut dice = Dice::new(4);
-    for turn in 0..800 {
+    for turn in 0..1_000 {
         let draft = Plan::small(&mut dice).draft(&mut dice);
-        let study = match turn % 4 {
+        let study = match turn % 5 {
             0 => draft.closing_some(&mut dice, 2),
             1 => draft.with_some_powers(&mut dice),
+            2 => draft
+                .with_some_lorries(&mut dice, 5)
+                .barring_some(&mut dice, 2),
             _ => Versioned::from(draft),
         };
-        let (draft, file) = (&study.draft, study.file());
+        let (length, total, file) = (study.table_length(), study.total(), study.file());
         let budget = dice.pick(&[1, 2, 5, 20, 1_024]);
         let excess = dice.pick(&[0, 0, 2, 90]);
-        let mut table = vec![6; draft.table_length() + 1];
+        let mut table = vec![6; length + 1];
         let answer = run(&file, &mut table, budget, excess);
         assert_eq!(answer.refusal, 0);
         assert!((1..=budget).contains(&answer.judged));
         assert!(budget < 1_024 || answer.ending != SPENT);
 
-        let mut other = vec![6; draft.table_length() + 1];
+        let mut other = vec![6; length + 1];
         assert_eq!(start(&file, &mut other), 0);
         let mut share = 1;
         for _ in 1..answer.judged {
             let step = pass(&file, &mut other, share);
             assert_eq!((step.refusal, step.outcome), (0, MOVED));
-            assert!(step.gap > u64::from(excess) * u64::from(share) * draft.total());
+            assert!(step.gap > u64::from(excess) * u64::from(share) * total);
             assert!(step.share > share);
             share = step.share;
         }
@@ -703,7 +706,7 @@ fn a_run_is_a_start_and_passes() {
             (last.gap, last.cost, last.over),
             (answer.gap, answer.cost, answer.over)
         );
-        let reached = last.gap <= u64::from(excess) * u64::from(share) * draft.total();
+        let reached = last.gap <= u64::from(excess) * u64::from(share) * total;
         assert_eq!(reached, answer.ending == REACHED);
         if !reached {
             assert_eq!(last.outcome == MOVED, answer.ending == SPENT);
@@ -823,9 +826,9 @@ fn powers_at_the_limits() {
 /// The note of the first move by loadings from a start.
 fn first_note(study: &Versioned) -> Vec<u16> {
     let file = study.file();
-    let mut table = vec![0; study.draft.table_length()];
+    let mut table = vec![0; study.table_length()];
     assert_eq!(start(&file, &mut table), 0);
-    let mut note = vec![9; study.draft.note_length()];
+    let mut note = vec![9; study.note_length()];
     let mut share = 1;
     loop {
         let answer = second::pass(&file, &mut table, share, &mut note);
@@ -922,8 +925,8 @@ fn what_is_left_is_not_questioned() {
     assert_eq!(audit(&file, &table, 5).refusal, 0);
 }
 
-/// A study of one of several kinds: of version 1, with closed nodes, with zones
-/// or with powers.
+/// A study of one of several kinds: of version 1, with closed nodes, with zones,
+/// with powers or with lorries.
 fn some_study(dice: &mut Dice, kind: usize) -> Versioned {
     let plan = Plan::small(dice);
     let (wide, high) = (dice.between(2, 5) as u16, dice.between(1, 3) as u16);
@@ -946,10 +949,19 @@ fn some_study(dice: &mut Dice, kind: usize) -> Versioned {
         5 => crowd
             .with_zones(dice, nodes, 4, links)
             .with_some_powers(dice),
-        _ => crowd
+        6 => crowd
             .with_links(dice, nodes, links)
             .closing_some(dice, 2)
             .with_some_powers(dice),
+        7 => crowd
+            .with_links(dice, nodes, links)
+            .with_some_lorries(dice, 5)
+            .barring_some(dice, 1),
+        _ => crowd
+            .with_zones(dice, nodes, 4, links)
+            .with_some_powers(dice)
+            .with_some_lorries(dice, 8)
+            .barring_some(dice, 1),
     }
 }
 
@@ -959,16 +971,16 @@ fn some_study(dice: &mut Dice, kind: usize) -> Versioned {
 fn every_move_is_taken_back() {
     let mut dice = Dice::new(11);
     let (mut loadings, mut doublings) = (0, 0);
-    for turn in 0..700 {
-        let study = some_study(&mut dice, turn % 7);
+    for turn in 0..900 {
+        let study = some_study(&mut dice, turn % 9);
         let file = study.file();
-        let mut table = vec![5; study.draft.table_length() + 2];
+        let mut table = vec![5; study.table_length() + 2];
         assert_eq!(start(&file, &mut table), 0);
         let mut share = 1;
         let mut moves = Vec::new();
         for _ in 0..30 {
             let before = (table.clone(), share);
-            let mut note = vec![6; study.draft.note_length() + 2];
+            let mut note = vec![6; study.note_length() + 2];
             let answer = second::pass(&file, &mut table, share, &mut note);
             assert_eq!(
                 (&note[note.len() - 2..], &table[table.len() - 2..]),
@@ -1013,8 +1025,8 @@ fn every_move_is_taken_back() {
 fn moves_of_made_tables() {
     let mut dice = Dice::new(12);
     let mut moved = 0;
-    for turn in 0..700 {
-        let study = some_study(&mut dice, turn % 7);
+    for turn in 0..900 {
+        let study = some_study(&mut dice, turn % 9);
         let share = dice.between(1, 1_024) as u32;
         let mut table = study.wandering_table(&mut dice, share);
         study.add_cycle(&mut dice, &mut table, share);
@@ -1028,8 +1040,8 @@ fn moves_of_made_tables() {
 fn made_notes() {
     let mut dice = Dice::new(13);
     let mut made = 0;
-    for turn in 0..700 {
-        let study = some_study(&mut dice, turn % 7);
+    for turn in 0..900 {
+        let study = some_study(&mut dice, turn % 9);
         let file = study.file();
         let share = dice.pick(&[1, 1, 2, 10, 100, 512]);
         let step = dice.pick(&[1, 2, 64, 65, 512]).min(1_024 - share as u16);
@@ -1065,18 +1077,22 @@ fn taking_back_at_the_limits() {
         for study in [
             Versioned::from(draft.clone()),
             draft.clone().closing_some(&mut dice, 2),
-            draft.with_some_powers(&mut dice),
+            draft.clone().with_some_powers(&mut dice),
+            draft
+                .with_some_lorries(&mut dice, 6)
+                .barring_some(&mut dice, 1),
         ] {
             let file = study.file();
-            let mut table = vec![0; study.draft.table_length()];
+            let mut table = vec![0; study.table_length()];
             assert_eq!(start(&file, &mut table), 0);
             let mut share = 1;
             for _ in 0..12 {
                 share = pass(&file, &mut table, share).share;
             }
             // One number of the note is missing.
-            let length = study.draft.note_length();
-            assert_eq!(length as u64, 1 + nodes * destinations);
+            let length = study.note_length();
+            let classes = study.classes().count() as u64;
+            assert_eq!(length as u64, 1 + classes * nodes * destinations);
             let mut note = vec![0; length - 1];
             assert_eq!(
                 second::pass(&file, &mut table, share, &mut note).refusal,
@@ -1123,4 +1139,169 @@ fn the_largest_step() {
     let mut table = vec![65_535 * 1_024; 127];
     assert_eq!(take_back(&file, &mut table, 1_024, &note), left(512));
     assert_eq!(table, vec![65_535 * 512; 127]);
+}
+
+/// Two ways from 0 to 3, the shorter one by 1; lorries go by 2 where a link by 1
+/// is barred to them.
+#[test]
+fn lorries_go_round_a_barred_link() {
+    let links = [
+        [0, 1, 3, 1, 9],
+        [1, 3, 3, 1, 9],
+        [0, 2, 4, 1, 9],
+        [2, 3, 4, 1, 9],
+    ];
+    let study = draft(4, &links, &[3], &[&[2, 1, 0, 0]]).with_lorries(vec![vec![5, 0, 1, 0]]);
+    for (barred, lorries, distance) in [
+        ([].as_slice(), [5, 5, 0, 1], 6),
+        (&[0], [0, 0, 5, 6], 8),
+        (&[1], [0, 0, 5, 6], 8),
+        (&[2], [5, 5, 0, 1], 6),
+    ] {
+        let study = study.clone().barring(barred);
+        let mut table = vec![8; 8];
+        assert_eq!(start(&study.file(), &mut table), 0);
+        assert_eq!(table, [&[2, 3, 0, 0][..], &lorries].concat());
+        // With flow and capacity as they are all times are free times.
+        let answer = audit(&study.file(), &table, 1);
+        let spent = 2 * 6 + 3 + 5 * distance + 4;
+        assert_eq!((answer.gap, answer.cost), (0, 64 * spent));
+    }
+    // Neither way is left.
+    for barred in [[0, 2], [0, 3], [1, 3]] {
+        assert_eq!(check(&study.clone().barring(&barred).file()), 11);
+    }
+}
+
+/// A barred link with the lowest number that would fit by its time.
+#[test]
+fn a_barred_link_that_would_fit() {
+    let links = [[0, 1, 9, 4, 7]; 4];
+    let study = draft(2, &links, &[1], &[&[6, 0]]).with_lorries(vec![vec![4, 0]]);
+    for (barred, first) in [
+        ([].as_slice(), 0),
+        (&[0], 1),
+        (&[0, 1], 2),
+        (&[1, 2], 0),
+        (&[0, 1, 2], 3),
+    ] {
+        let mut table = vec![8; 8];
+        assert_eq!(start(&study.clone().barring(barred).file(), &mut table), 0);
+        let mut expected = [6, 0, 0, 0, 0, 0, 0, 0];
+        expected[4 + first] = 4;
+        assert_eq!(table, expected);
+    }
+}
+
+/// Two tables of one study with different lorry flows but equal totals and share:
+/// the same gap, cost and move, and the same next links.
+#[test]
+fn lorry_flows_with_equal_totals() {
+    let mut dice = Dice::new(15);
+    let mut moved = 0;
+    for _ in 0..200 {
+        let links: Vec<DraftLink> = (0..dice.between(2, 5))
+            .map(|_| [0, 1, dice.between(5, 9) as u16, dice.below(40) as u16, 3])
+            .collect();
+        let count = links.len();
+        let study = draft(2, &links, &[1], &[&[6, 0]]).with_lorries(vec![vec![6, 0]]);
+        let share = dice.pick(&[1, 5, 64, 1_000]);
+        let table = study.wandering_table(&mut dice, share);
+        let exchanged = [&table[count..], &table[..count]].concat();
+        let file = study.file();
+        let (mut first, mut second) = (table.clone(), exchanged.clone());
+        let (mut note, mut other) = (vec![0; 5], vec![0; 5]);
+        let answer = second::pass(&file, &mut first, share, &mut note);
+        assert_eq!(second::pass(&file, &mut second, share, &mut other), answer);
+        assert_eq!((answer.refusal, &note), (0, &other));
+        if answer.outcome == MOVED {
+            let added = |after: &[u32], before: &[u32]| -> Vec<u32> {
+                let pairs = after.iter().zip(before);
+                pairs.map(|(after, before)| after - before).collect()
+            };
+            if note[0] > 0 {
+                assert_eq!(added(&first, &table), added(&second, &exchanged));
+            }
+            moved += 1;
+        }
+        let pages = [&table, &exchanged].map(|table| {
+            let mut bytes = vec![0; 30 * count];
+            assert_eq!(page(&file, table, share, &mut bytes), 0);
+            bytes
+        });
+        assert_eq!(pages[0], pages[1]);
+    }
+    assert!(moved > 100, "{moved}");
+}
+
+/// The note has next links of both classes, for rows without trips too.
+#[test]
+fn the_note_of_both_classes() {
+    let links = [
+        [0, 1, 4, 0, 1],
+        [1, 2, 4, 0, 1],
+        [0, 2, 9, 0, 1],
+        [2, 0, 5, 0, 1],
+    ];
+    let study = draft(3, &links, &[0, 2], &[&[0; 3], &[2, 1, 0]]);
+    let none = 65_535;
+    let cars = [none, 1, 3, 0, 1, none];
+    for (barred, lorries) in [
+        ([].as_slice(), cars),
+        (&[0], [none, 1, 3, 2, 1, none]),
+        (&[1], [none, none, 3, 2, none, none]),
+        (&[3], [none, none, none, 0, 1, none]),
+    ] {
+        let study = study
+            .clone()
+            .with_lorries(vec![vec![0; 3]; 2])
+            .barring(barred);
+        let note = first_note(&study);
+        assert_eq!(note[1..], [cars, lorries].concat());
+    }
+}
+
+/// Studies of version 4 with each count at its limit, the largest study first:
+/// 23,288 bytes, 32,768 numbers in a table and 8,193 in a note.
+#[test]
+fn lorries_at_the_limits() {
+    let mut dice = Dice::new(16);
+    for (nodes, links, destinations, barred) in [
+        (128, 512, 32, 1),
+        (128, 512, 32, 0),
+        (128, 512, 1, 2),
+        (65, 400, 32, 3),
+        (2, 512, 2, 5),
+        (2, 1, 1, 10),
+    ] {
+        let draft = draft_of(&mut dice, nodes, links, destinations);
+        let study = draft.with_some_powers(&mut dice);
+        let study = study.with_some_lorries(&mut dice, 5);
+        let study = study.barring_some(&mut dice, barred);
+        pack_and_run(&study);
+        if (nodes, links, destinations) == (128, 512, 32) {
+            assert_eq!(study.packed_length(), 23_288);
+            assert_eq!((study.table_length(), study.note_length()), (32_768, 8_193));
+        }
+    }
+}
+
+/// The most trips at the largest share, half of them lorries, all on one link:
+/// as much as question 15 allows of both together.
+#[test]
+fn the_fullest_table_with_lorries() {
+    let links = [[0, 1, 16_383, 16_383, 1], [1, 0, 16_383, 16_383, 1]];
+    let study = draft(2, &links, &[1], &[&[32_768, 0]]).with_lorries(vec![vec![32_767, 0]]);
+    let file = study.file();
+    let (cars, lorries) = (32_768 * 1_024, 32_767 * 1_024);
+    // One part of a trip more goes round.
+    for table in [[cars + 1, 1, lorries, 0], [cars, 0, lorries + 1, 1]] {
+        assert_eq!(audit(&file, &table, 1_024).refusal, 15);
+    }
+    let table = [cars, 0, lorries, 0];
+    let answer = audit(&file, &table, 1_024);
+    assert_eq!((answer.refusal, answer.over), (0, 1));
+    assert_eq!(answer.gap, 0);
+    let mut after = table;
+    assert_eq!(pass(&file, &mut after, 1_024).outcome, FINEST);
 }

@@ -1,8 +1,9 @@
 //! The recorded calls: their number and variety, their stream, their answers.
 
 use std::collections::HashSet;
+use std::ops::RangeInclusive;
 
-use second::format::u16_at;
+use second::format::{Sections, u16_at, u32_at};
 use second::network::Study;
 use second::staircase::LAST_STEP;
 use second::stream::{
@@ -14,7 +15,7 @@ use second::{AuditAnswer, FINEST, MOVED, PassAnswer, RunAnswer, TakeBackAnswer, 
 fn the_list_is_long_and_the_stream_short() {
     let calls = cases::all();
     assert!(calls.len() >= 2_400);
-    assert!(write_calls(&calls).len() < 4_000_000);
+    assert!(write_calls(&calls).len() < 5_000_000);
 }
 
 /// Calls before the first ones that were made for pages.
@@ -32,8 +33,11 @@ const WITHOUT_POWERS: usize = 5_253;
 /// Calls before the first ones that were made for taking back.
 const WITHOUT_TAKING_BACK: usize = 5_750;
 
+/// Calls before the first ones that were made for lorries.
+const WITHOUT_LORRIES: usize = 6_447;
+
 /// All calls.
-const ALL: usize = 6_447;
+const ALL: usize = 7_889;
 
 /// The stream of calls as it was before there were notes: those of passes are
 /// left out.
@@ -71,6 +75,39 @@ fn answers_without_notes(calls: &[Call]) -> String {
     lines
 }
 
+/// The places of the calls with a file that calls itself one of these versions,
+/// and the numbers that answer them.
+fn calling_themselves(calls: &[Call], versions: RangeInclusive<u16>) -> Vec<(usize, u8)> {
+    let mut player = Player::default();
+    let mut found = Vec::new();
+    for (place, call) in calls.iter().enumerate() {
+        let reply = player.play(&Second, call);
+        if player.file.len() >= 32 && versions.contains(&u16_at(&player.file, 0)) {
+            found.push((place, reply.refusal()));
+        }
+    }
+    found
+}
+
+/// The lines of answers as they were when these, which have other numbers now,
+/// were refused 2.
+fn refused_2(lines: &str, changed: &[(usize, u8)]) -> String {
+    let mut before = String::new();
+    for (place, line) in lines.lines().enumerate() {
+        before += &match changed.iter().find(|(changed, _)| *changed == place) {
+            Some((_, refusal)) => line.replacen(&format!(" {refusal} "), " 2 ", 1),
+            None => line.to_string(),
+        };
+        before.push('\n');
+    }
+    before
+}
+
+/// The lines of answers as they were before there was a version 4.
+fn before_version_4(calls: &[Call], lines: &str) -> String {
+    refused_2(lines, &calling_themselves(calls, 4..=4))
+}
+
 /// A player with a note for calls that take over a long one.
 fn player_with_note() -> Player {
     Player {
@@ -96,8 +133,9 @@ fn without_over(lines: &str) -> String {
 
 /// The list is the same every time and everywhere, and begins with what it was
 /// before there were pages, before there were closed nodes, before links past
-/// the curve were counted, before there were powers and before there were notes.
-/// Nothing but the count has come to the answers, and the note to the digests.
+/// the curve were counted, before there were powers, before there were notes and
+/// before there were lorries. Nothing but the count has come to the answers, and
+/// the note to the digests, and version 4 is no longer refused 2.
 #[test]
 fn the_list_stays_the_same() {
     let calls = cases::all();
@@ -113,7 +151,8 @@ fn the_list_stays_the_same() {
         (WITHOUT_OVER, 0x4CF5_E60D_F0D2_0DCD, 0x9D89_72D6_A7CC_F0E1),
     ] {
         let calls = &calls[..count];
-        let answered = without_over(&answers_without_notes(calls));
+        let answered = before_version_4(calls, &answers_without_notes(calls));
+        let answered = without_over(&answered);
         assert_eq!(digest(stream_without_notes(calls)), stream, "{count}");
         assert_eq!(digest(answered.into_bytes()), lines, "{count}");
     }
@@ -126,7 +165,7 @@ fn the_list_stays_the_same() {
         ),
     ] {
         let calls = &calls[..count];
-        let answered = answers_without_notes(calls);
+        let answered = before_version_4(calls, &answers_without_notes(calls));
         assert_eq!(digest(stream_without_notes(calls)), stream, "{count}");
         assert_eq!(digest(answered.into_bytes()), lines, "{count}");
     }
@@ -136,14 +175,21 @@ fn the_list_stays_the_same() {
             0x5735_3BFC_03A0_CBB9,
             0x68FA_2E35_F99F_5FC6,
         ),
-        (ALL, 0x5F9A_28CB_D850_E0E3, 0xB9D8_82D2_94D1_B5B9),
+        (
+            WITHOUT_LORRIES,
+            0x5F9A_28CB_D850_E0E3,
+            0xB9D8_82D2_94D1_B5B9,
+        ),
     ] {
         let calls = &calls[..count];
-        let answered = answers(&Second, calls);
+        let answered = before_version_4(calls, &answers(&Second, calls));
         assert_eq!(digest(write_calls(calls)), stream, "{count}");
         assert_eq!(digest(answered.into_bytes()), lines, "{count}");
     }
     assert_eq!(calls.len(), ALL);
+    assert_eq!(digest(write_calls(&calls)), 0x08F6_1498_8C4E_FCE8);
+    let answered = answers(&Second, &calls);
+    assert_eq!(digest(answered.into_bytes()), 0x1DA6_52D8_B4E8_4A0D);
 }
 
 /// The first pass of all is lent a long note, and all others that were there
@@ -170,27 +216,11 @@ fn notes_of_passes_before_taking_back() {
 #[test]
 fn answers_that_changed_with_version_2() {
     let calls = &cases::all()[..WITHOUT_CLOSED_NODES];
-    let mut player = Player::default();
-    let mut changed = Vec::new();
-    for (place, call) in calls.iter().enumerate() {
-        let reply = player.play(&Second, call);
-        if player.file.starts_with(&[2, 0]) && player.file.len() >= 32 {
-            assert_eq!(reply.refusal(), 4);
-            changed.push(place);
-        }
-    }
-    assert_eq!(changed, [264, 265, 266, 267, 268, 269, 4_111]);
-
-    let mut before = String::new();
-    let lines = without_over(&answers_without_notes(calls));
-    for (place, line) in lines.lines().enumerate() {
-        before += &match changed.contains(&place) {
-            true => line.replacen(" 4 ", " 2 ", 1),
-            false => line.to_string(),
-        };
-        before.push('\n');
-    }
-    assert_eq!(digest(before.into_bytes()), 0x68C3_3E75_690D_4835);
+    let changed = calling_themselves(calls, 2..=2);
+    let places = [264, 265, 266, 267, 268, 269, 4_111];
+    assert_eq!(changed, places.map(|place| (place, 4)));
+    let before = refused_2(&answers_without_notes(calls), &changed);
+    assert_eq!(digest(without_over(&before).bytes()), 0x68C3_3E75_690D_4835);
 }
 
 /// A file that calls itself version 3 was refused 2 before there was a version
@@ -200,35 +230,27 @@ fn answers_that_changed_with_version_2() {
 #[test]
 fn answers_that_changed_with_version_3() {
     let calls = &cases::all()[..WITHOUT_POWERS];
-    let mut player = Player::default();
-    let mut changed = Vec::new();
-    for (place, call) in calls.iter().enumerate() {
-        let reply = player.play(&Second, call);
-        if player.file.starts_with(&[3, 0]) && player.file.len() >= 32 {
-            changed.push((place, reply.refusal()));
-        }
-    }
+    let changed = calling_themselves(calls, 3..=3);
     let places = [4_534, 4_535, 4_549, 4_550, 4_551, 4_571];
-    assert_eq!(
-        changed,
-        places
-            .into_iter()
-            .zip([4, 4, 5, 5, 4, 4])
-            .collect::<Vec<_>>()
-    );
-
-    let mut before = String::new();
-    for (place, line) in answers_without_notes(calls).lines().enumerate() {
-        before += &match changed.iter().find(|(changed, _)| *changed == place) {
-            Some((_, refusal)) => line.replacen(&format!(" {refusal} "), " 2 ", 1),
-            None => line.to_string(),
-        };
-        before.push('\n');
-    }
+    let numbers = [4, 4, 5, 5, 4, 4];
+    assert!(changed.iter().copied().eq(places.into_iter().zip(numbers)));
+    let later = calling_themselves(calls, 3..=4);
+    let before = refused_2(&answers_without_notes(calls), &later);
     assert_eq!(digest(before.bytes()), 0x2A2C_235E_E9EB_6722);
     let first: String = before.split_inclusive('\n').take(WITHOUT_OVER).collect();
     let first = without_over(&first);
     assert_eq!(digest(first.into_bytes()), 0xFD51_74B0_5329_7677);
+}
+
+/// A file that calls itself version 4 was refused 2 before there was a version
+/// 4. Since then those with the header of an older version are refused 4. That
+/// is all that has changed in the answers.
+#[test]
+fn answers_that_changed_with_version_4() {
+    let calls = &cases::all()[..WITHOUT_LORRIES];
+    let changed = calling_themselves(calls, 4..=4);
+    let places = [4_536, 4_537, 4_552, 4_553, 5_479, 5_511];
+    assert_eq!(changed, places.map(|place| (place, 4)));
 }
 
 #[test]
@@ -512,7 +534,7 @@ fn the_list_has_everything() {
         (Kind::Page, &[12, 14, 15, 16, 20, 18]),
         (Kind::TakeBack, &[12, 14, 15, 16, 20, 21, 22]),
     ] {
-        for number in (0..=11).chain([19]).chain(more.iter().copied()) {
+        for number in (0..=11).chain([19, 23]).chain(more.iter().copied()) {
             assert!(
                 refusals.contains(&(kind.word(), number)),
                 "{kind:?} {number}"
@@ -790,7 +812,7 @@ struct Noted {
 fn made_for_taking_back() -> Vec<Noted> {
     let mut player = Player::default();
     let mut made = Vec::new();
-    for call in cases::all().drain(WITHOUT_TAKING_BACK..) {
+    for call in cases::all().drain(WITHOUT_TAKING_BACK..WITHOUT_LORRIES) {
         let mut before = player.clone();
         let reply = player.play(&Second, &call);
         before.file.clone_from(&player.file);
@@ -813,16 +835,19 @@ fn made_for_taking_back() -> Vec<Noted> {
     made
 }
 
+/// The first of these calls is lent a file, a table and a note of its own.
+fn starts_afresh(calls: &[Call]) -> bool {
+    calls[0].file.is_some() && matches!(calls[0].lent, Lent::Noted(Some(_), Some(_)))
+}
+
 /// Those calls are answered alike with the calls before them and without, and
 /// are few enough.
 #[test]
 fn calls_for_taking_back_stand_alone() {
-    let calls = cases::all();
-    let first = &calls[WITHOUT_TAKING_BACK];
-    assert!(first.file.is_some());
-    assert!(matches!(first.lent, Lent::Noted(Some(_), Some(_))));
+    let calls = &cases::all()[..WITHOUT_LORRIES];
     let new = &calls[WITHOUT_TAKING_BACK..];
-    assert!(answers(&Second, &calls).ends_with(&answers(&Second, new)));
+    assert!(starts_afresh(new));
+    assert!(answers(&Second, calls).ends_with(&answers(&Second, new)));
     assert!((400..=700).contains(&new.len()));
     assert!(write_calls(new).len() < 600_000);
 }
@@ -957,4 +982,139 @@ fn the_list_has_notes_that_are_refused() {
         }
     }
     assert!(forbidden >= 5, "{forbidden}");
+}
+
+/// Calls made for lorries are answered alike with the calls before them and
+/// without, and are few enough.
+#[test]
+fn calls_for_lorries_stand_alone() {
+    let calls = cases::all();
+    let new = &calls[WITHOUT_LORRIES..];
+    assert!(starts_afresh(new));
+    assert!(answers(&Second, &calls).ends_with(&answers(&Second, new)));
+    assert!((400..=1_500).contains(&new.len()));
+    assert!(write_calls(new).len() < 800_000);
+}
+
+/// Every call on studies with lorries, with every refusal, every outcome and
+/// every ending, with closed nodes, powers and links past the curve; and the
+/// longest table and note that a study needs.
+#[test]
+fn the_list_has_lorries() {
+    let mut player = Player::default();
+    let mut accepted: HashSet<(&str, bool)> = HashSet::new();
+    let mut refusals: HashSet<u8> = HashSet::new();
+    let (mut outcomes, mut endings, mut over) = ([0; 3], [0; 4], 0);
+    let (mut table, mut note) = (0, 0);
+    for call in &cases::all()[WITHOUT_LORRIES..] {
+        let reply = player.play(&Second, call);
+        if !player.file.starts_with(&[4, 0]) {
+            continue;
+        }
+        refusals.insert(reply.refusal());
+        over += usize::from(reply.over() > 0);
+        if reply.refusal() == 0
+            && let Ok(study) = Study::read(&player.file)
+        {
+            accepted.insert((call.kind.word(), study.has_barred_links()));
+            table = table.max(study.table_length());
+            note = note.max(study.note_length());
+        }
+        match reply {
+            Reply::Pass(answer) => outcomes[usize::from(answer.outcome)] += 1,
+            Reply::Run(answer) => endings[usize::from(answer.ending)] += 1,
+            _ => {}
+        }
+    }
+    assert_eq!(accepted.len(), 2 * Kind::ALL.len());
+    // Version 4 is never refused 2.
+    let all: HashSet<u8> = (0..=23).filter(|&number| number != 2).collect();
+    assert_eq!(refusals, all);
+    assert!(outcomes.iter().all(|&count| count >= 3), "{outcomes:?}");
+    assert!(endings.iter().all(|&count| count >= 10), "{endings:?}");
+    assert!(over >= 100, "{over}");
+    assert_eq!((table, note), (32_768, 8_193));
+}
+
+/// A file of version 4 with no link barred, and with the trips of the classes
+/// exchanged.
+fn with_other_classes(file: &[u8], sections: &Sections<'_>) -> [Vec<u8>; 2] {
+    let offset = |section: usize| u32_at(file, 8 + 8 * section) as usize;
+    let (mut unbarred, mut exchanged) = (file.to_vec(), file.to_vec());
+    unbarred[offset(5)..][..sections.links].fill(0);
+    for (section, part) in [(2, sections.lorry_part), (4, sections.trip_part)] {
+        exchanged[offset(section)..][..part.len()].copy_from_slice(part);
+    }
+    [unbarred, exchanged]
+}
+
+/// For many of these calls it matters which links are barred and who makes which
+/// trips: with the other files the same call answers or leaves something else.
+#[test]
+fn the_list_tells_classes_apart() {
+    let mut player = Player::default();
+    let mut apart = [[0; 8]; 2];
+    for call in &cases::all()[WITHOUT_LORRIES..] {
+        let before = player.clone();
+        let reply = player.play(&Second, call);
+        let Ok(sections) = Sections::find(&player.file) else {
+            continue;
+        };
+        if sections.layout.classes < 2 || call.kind == Kind::Pack {
+            continue;
+        }
+        let files = with_other_classes(&player.file, &sections);
+        for (apart, file) in apart.iter_mut().zip(files) {
+            let mut other = before.clone();
+            let file = Some(file);
+            let call = Call {
+                file,
+                ..call.clone()
+            };
+            let other_reply = other.play(&Second, &call);
+            other.file.clone_from(&player.file);
+            apart[call.kind as usize - 1] += usize::from(other_reply != reply || other != player);
+        }
+    }
+    // Kinds in their order: check, pack, start, pass, run, audit, page, take
+    // back.
+    for (apart, least) in apart.iter().zip([
+        [20, 0, 10, 50, 50, 20, 15, 20],
+        [1, 0, 10, 100, 40, 80, 30, 60],
+    ]) {
+        let mut counts = apart.iter().zip(least);
+        assert!(counts.all(|(count, least)| *count >= least), "{apart:?}");
+    }
+}
+
+/// Moves of both classes by loadings and doublings, that are taken back by the
+/// next call.
+#[test]
+fn the_list_has_moves_of_lorries_taken_back() {
+    let mut player = Player::default();
+    let mut last: Option<(Player, u32)> = None;
+    let (mut restored, mut both) = ([0; 2], 0);
+    for call in &cases::all()[WITHOUT_LORRIES..] {
+        let mut before = player.clone();
+        let reply = player.play(&Second, call);
+        if let Lent::Noted(Some(table), _) = &call.lent {
+            before.table.clone_from(table);
+        }
+        match reply {
+            Reply::Pass(answer) if answer.outcome == MOVED => last = Some((before, call.share)),
+            Reply::TakeBack(answer) if answer.refusal == 0 && call.file.is_none() => {
+                if let Some((judged, share)) = last.take()
+                    && matches!(call.lent, Lent::Noted(None, None))
+                {
+                    assert!(judged.table == player.table && answer.share == share);
+                    restored[usize::from(player.note[0] > 0)] += 1;
+                    let study = Study::read(&player.file);
+                    both += usize::from(study.is_ok_and(|study| study.class_count == 2));
+                }
+            }
+            _ => last = None,
+        }
+    }
+    assert!(restored.iter().all(|&count| count >= 10), "{restored:?}");
+    assert!(both >= 30, "{both}");
 }

@@ -10,9 +10,9 @@ use second::{
 /// refused.
 #[track_caller]
 fn pass(file: &[u8], table: &mut [u32], share: u32) -> PassAnswer {
-    let mut note = vec![0x5A5A; 4_097];
+    let mut note = vec![0x5A5A; 8_193];
     let answer = second::pass(file, table, share, &mut note);
-    assert!(answer.refusal == 0 || note == vec![0x5A5A; 4_097]);
+    assert!(answer.refusal == 0 || note == vec![0x5A5A; 8_193]);
     answer
 }
 
@@ -73,7 +73,7 @@ fn closed_sample_with(change: impl FnOnce(&mut Versioned)) -> Vec<u8> {
 #[track_caller]
 fn refused(file: &[u8], number: u8) {
     assert_eq!(check(file), number);
-    for length in [0, 16_384] {
+    for length in [0, 32_768] {
         let mut output = vec![0x5A; length];
         assert_eq!(pack(file, &mut output), number);
         assert_eq!(output, vec![0x5A; length]);
@@ -97,7 +97,7 @@ fn refused(file: &[u8], number: u8) {
             };
             assert_eq!(audit(file, &table, argument), expected);
             page_refused(file, &table, argument, number);
-            for length in [0, 4_097] {
+            for length in [0, 8_193] {
                 take_back_refused(file, &table, argument, &vec![1; length], number);
             }
         }
@@ -122,12 +122,12 @@ fn accepted(file: &[u8]) {
     assert_eq!(check(file), 0);
     let mut output = vec![0; 65_536];
     assert_eq!(pack(file, &mut output), 0);
-    let mut table = vec![9; 16_384];
+    let mut table = vec![9; 32_768];
     assert_eq!(start(file, &mut table), 0);
     assert_eq!(audit(file, &table, 1).refusal, 0);
     assert_eq!(page(file, &table, 1, &mut [0; 30 * 512]), 0);
     let before = table.clone();
-    let mut note = vec![9; 4_097];
+    let mut note = vec![9; 8_193];
     let answer = second::pass(file, &mut table, 1, &mut note);
     assert_eq!((answer.refusal, answer.outcome), (0, MOVED));
     taken_back(file, &table, answer.share, &note, (&before, 1));
@@ -179,17 +179,17 @@ fn question_1_length_of_the_file() {
 fn question_2_version() {
     let file = sample().file();
     let closed = closed_sample().file();
-    for version in [0, 4, 5, 255, 256, 257, 258, 259, 512, 513, 768, 65_535] {
+    for version in [0, 5, 6, 255, 256, 257, 258, 259, 260, 512, 1_024, 65_535] {
         refused(&with_u16(&file, 0, version), 2);
         refused(&with_u16(&closed, 0, version), 2);
     }
     // Even where nothing else is right.
-    for version in [0, 4, 65_535] {
+    for version in [0, 5, 65_535] {
         refused(&with_u16(&[0xFF; 32], 0, version), 2);
     }
-    refused(&with_u16(&[0xFF; 32], 0, 1), 3);
-    refused(&with_u16(&[0xFF; 32], 0, 2), 3);
-    refused(&with_u16(&[0xFF; 32], 0, 3), 3);
+    for version in 1..=4 {
+        refused(&with_u16(&[0xFF; 32], 0, version), 3);
+    }
     // The sections of version 1 begin too early for version 2; those of
     // version 2 are right for version 1, which does not read the fourth.
     refused(&with_u16(&file, 0, 2), 4);
@@ -712,7 +712,6 @@ fn short_files_of_version_2() {
         refused(&with_u16(&file, 2, 1)[..length], 3);
         refused(&with_u16(&file, 4, 0)[..length], 3);
         refused(&with_u16(&file, 6, 4)[..length], 3);
-        refused(&with_u16(&file, 0, 4)[..length], 2);
         refused(&with_u16(&file, 0, 5)[..length], 2);
     }
     // A file of 39 bytes whose pairs, as far as there are any, are right.
@@ -1084,7 +1083,7 @@ fn versions_taken_for_one_another() {
     refused(&with_u16(&file, 0, 2), 5);
     refused(&with_u16(&closed_sample().file(), 0, 3), 5);
     refused(&with_u16(&sample().file(), 0, 3), 4);
-    for version in [0, 4, 5, 256, 259, 768, 65_535] {
+    for version in [0, 5, 256, 259, 768, 65_535] {
         refused(&with_u16(&file, 0, version), 2);
     }
     // 60 bytes are five links of version 3 or six of version 2.
@@ -1113,7 +1112,7 @@ fn short_files_of_version_3() {
         refused(&with_u16(&file, 2, 1)[..length], 3);
         refused(&with_u16(&file, 4, 0)[..length], 3);
         refused(&with_u16(&file, 6, 4)[..length], 3);
-        refused(&with_u16(&file, 0, 4)[..length], 2);
+        refused(&with_u16(&file, 0, 5)[..length], 2);
     }
     let header = with_pairs(&file[..40], [(40, 0); 4]);
     refused(&header, 5);
@@ -1548,4 +1547,412 @@ fn the_first_question_counts_in_taking_back() {
             take_back_refused(&file, table, share, note, number);
         }
     }
+}
+
+/// The sample study in version 4. Cars and lorries go along the ring; the lorries
+/// from 0 to 2 have a link of their own beside it, and the ring's link from 1 to
+/// 2 is barred to them.
+fn lorry_sample() -> Versioned {
+    let mut draft = sample();
+    draft.links.push([1, 2, 50, 9, 4]);
+    let study = draft.closing(&[2]).with_powers(vec![1, 4, 2, 3]);
+    let study = study.with_lorries(vec![vec![1, 0, 1], vec![2, 1, 0]]);
+    study.barring(&[1])
+}
+
+fn lorry_sample_with(change: impl FnOnce(&mut Versioned)) -> Vec<u8> {
+    let mut study = lorry_sample();
+    change(&mut study);
+    study.file()
+}
+
+/// The lorry trips of a study.
+fn lorries(study: &mut Versioned) -> &mut Vec<Vec<u16>> {
+    study.lorries.as_mut().unwrap()
+}
+
+#[test]
+fn version_4_and_the_others() {
+    let file = lorry_sample().file();
+    assert_eq!(file.len(), 139);
+    accepted(&file);
+    for version in [0, 5, 260, 1_024, 65_535] {
+        refused(&with_u16(&file, 0, version), 2);
+    }
+    // Its sections are right for version 3, which does not read the last two.
+    accepted(&with_u16(&file, 0, 3));
+    refused(&with_u16(&file, 0, 2), 5);
+    refused(&with_u16(&file, 0, 1), 5);
+    for older in [
+        sample().file(),
+        closed_sample().file(),
+        power_sample().file(),
+    ] {
+        refused(&with_u16(&older, 0, 4), 4);
+    }
+}
+
+#[test]
+fn short_files_of_version_4() {
+    let file = lorry_sample().file();
+    for length in [0, 31] {
+        refused(&file[..length], 1);
+    }
+    for length in [32, 39, 40, 41, 54, 55, 56, 57, 134, 135, 138] {
+        refused(&file[..length], 4);
+    }
+    // Question 3 comes before 4, and question 2 before both.
+    for length in [32, 48, 55, 56] {
+        refused(&with_u16(&file, 2, 1)[..length], 3);
+        refused(&with_u16(&file, 4, 0)[..length], 3);
+        refused(&with_u16(&file, 6, 4)[..length], 3);
+        refused(&with_u16(&file, 0, 5)[..length], 2);
+    }
+    let header = with_pairs(&file[..56], [(56, 0); 6]);
+    refused(&header, 5);
+    refused(&header[..55], 4);
+    refused(&with_u32(&header, 8, 55), 4);
+    refused(&with_u32(&header, 48, 57), 4);
+}
+
+#[test]
+fn questions_4_and_5_in_version_4() {
+    let study = lorry_sample();
+    let file = study.file();
+    let close = [(56, 48), (104, 4), (108, 12), (120, 3), (123, 12), (135, 4)];
+    assert_eq!(file, with_pairs(&file, close));
+    for offset in [55, 40, 32, 0] {
+        refused(&with_u32(&file, 8, offset), 4);
+    }
+    for first in 0..6 {
+        for second in 0..first {
+            let mut pairs = close;
+            pairs.swap(first, second);
+            refused(&with_pairs(&file, pairs), 4);
+        }
+    }
+    let gap: &[u8] = &[2; 8];
+    let roomy = study.file_with_gaps(&[gap; 7]);
+    accepted(&roomy);
+    for (section, (_, here)) in close.into_iter().enumerate() {
+        let place = 12 + 8 * section;
+        for length in [here - 1, here + 1, 0, here + 8] {
+            refused(&with_u32(&roomy, place, length), 5);
+        }
+        refused(&with_u32(&roomy, place, here + 9), 4);
+        accepted(&study.file_with_gap(section, 5));
+    }
+    for bytes in [0, 3, 5] {
+        refused(
+            &lorry_sample_with(|study| study.barred = Some(vec![0; bytes])),
+            5,
+        );
+    }
+    refused(&lorry_sample_with(|study| lorries(study)[1].push(0)), 5);
+    // With the longest file the barred bytes end where it ends.
+    let full = study.file_with_gap(5, 65_536 - 139);
+    assert_eq!(full.len(), 65_536);
+    accepted(&full);
+    refused(&full[..65_535], 4);
+}
+
+#[test]
+fn question_23_barred_bytes() {
+    for link in 0..4 {
+        for byte in [2, 3, 128, 129, 255] {
+            let barred = |study: &mut Versioned| {
+                study.barred.as_mut().unwrap()[link] = byte;
+            };
+            refused(&lorry_sample_with(barred), 23);
+        }
+    }
+    for barred in [[0; 4], [0, 0, 0, 1], [0, 1, 0, 0]] {
+        accepted(&lorry_sample_with(|study| {
+            study.barred = Some(barred.to_vec());
+        }));
+    }
+    // The last of all links.
+    let mut full = lorry_sample();
+    full.draft.links.resize(512, [0, 1, 900, 0, 1]);
+    full.barred = Some(vec![0; 512]);
+    accepted(&full.file());
+    for link in [0, 255, 256, 511] {
+        let mut other = full.clone();
+        other.barred.as_mut().unwrap()[link] = 2;
+        refused(&other.file(), 23);
+    }
+}
+
+#[test]
+fn questions_9_and_10_of_lorries() {
+    for (position, node) in [(0, 1), (1, 2)] {
+        for count in [1, 256, 65_535] {
+            refused(
+                &lorry_sample_with(|study| lorries(study)[position][node] = count),
+                9,
+            );
+            refused(
+                &lorry_sample_with(|study| study.draft.trips[position][node] = count),
+                9,
+            );
+        }
+    }
+    // 14 cars and 5 lorries, one of them from 1.
+    let with = |cars: u16, count: u16| {
+        lorry_sample_with(|study| {
+            study.draft.trips[0][0] += cars;
+            lorries(study)[1][1] = count;
+        })
+    };
+    accepted(&with(0, 65_517));
+    refused(&with(0, 65_518), 10);
+    refused(&with(1, 65_517), 10);
+    accepted(&with(65_516, 1));
+    refused(&with(65_517, 1), 10);
+    refused(&with(65_517, 65_535), 10);
+    accepted(&with(65_517, 0));
+    // The largest trips everywhere.
+    refused(
+        &lorry_sample_with(|study| {
+            study.draft.trips = vec![vec![65_535, 0, 65_535], vec![65_535, 65_535, 0]];
+            study.lorries = Some(study.draft.trips.clone());
+        }),
+        10,
+    );
+}
+
+#[test]
+fn question_11_of_lorries() {
+    // From 1 to 2 by 1 or by 3, from 2 to 1 by 2 and 0.
+    let barring = |links: &[usize]| lorry_sample().barring(links).file();
+    for links in [[].as_slice(), &[1], &[3]] {
+        accepted(&barring(links));
+    }
+    for links in [[0].as_slice(), &[2], &[1, 3], &[0, 1, 2, 3]] {
+        refused(&barring(links), 11);
+        // Cars may still use them.
+        let without = |study: Versioned| study.with_lorries(vec![vec![0; 3]; 2]);
+        accepted(&without(lorry_sample()).barring(links).file());
+    }
+    // Lorries obey closed nodes as cars do, and cars have no trips here.
+    let alone = |closed: &[u16]| {
+        let mut study = lorry_sample().closing(closed);
+        study.draft.trips = vec![vec![0; 3]; 2];
+        study.file()
+    };
+    accepted(&alone(&[2]));
+    refused(&alone(&[0]), 11);
+    refused(&alone(&[1]), 11);
+}
+
+/// With faults for several questions at once, the first one counts; 23 comes
+/// after 19 and before 9.
+#[test]
+fn the_first_question_counts_in_version_4() {
+    let faults: [Fault; 7] = [
+        (3, |study| study.draft.nodes = 200),
+        (5, |study| study.barred.as_mut().unwrap().push(2)),
+        (6, |study| study.draft.links[0] = [0, 0, 1, 1, 1]),
+        (7, |study| study.powers = Some(vec![1, 5, 2, 3])),
+        (8, |study| study.draft.destinations.reverse()),
+        (19, |study| study.closed.as_mut().unwrap()[1] = 2),
+        (23, |study| study.barred.as_mut().unwrap()[3] = 2),
+    ];
+    let of_lorries: [Fault; 3] = [
+        (9, |study| {
+            lorries(study)[0][1] = 1;
+            lorries(study)[0][2] = 1;
+            lorries(study)[1][1] = 1;
+        }),
+        (10, |study| lorries(study)[0][0] = 65_535),
+        (11, |study| {
+            let barred = study.barred.as_mut().unwrap();
+            barred[0] |= 1;
+            barred[3] |= 1;
+        }),
+    ];
+    the_first_counts(&lorry_sample(), &[&faults[..], &TRIP_FAULTS].concat());
+    the_first_counts(&lorry_sample(), &[&faults[..], &of_lorries].concat());
+}
+
+#[test]
+fn question_17_output_of_version_4() {
+    let study = lorry_sample();
+    for gaps in [[0; 7], [1, 2, 3, 4, 5, 6, 7], [0, 0, 0, 0, 0, 0, 500]] {
+        let bytes = gaps.map(|length| vec![6; length]);
+        let file = study.file_with_gaps(&bytes.each_ref().map(Vec::as_slice));
+        for length in [0, 123, 135, 138] {
+            let mut output = vec![0xCC; length];
+            assert_eq!(pack(&file, &mut output), 17);
+            assert_eq!(output, vec![0xCC; length]);
+        }
+        for length in [139, 140, 5_000] {
+            let mut output = vec![0xCC; length];
+            assert_eq!(pack(&file, &mut output), 0);
+            assert_eq!(output[..139], study.file());
+            assert!(output[139..].iter().all(|&byte| byte == 0xCC));
+        }
+    }
+}
+
+/// All trips of the sample study with lorries: cars to 1 and to 2, then lorries.
+fn flows_with_lorries(share: u32) -> [u32; 16] {
+    [5, 0, 2, 0, 4, 9, 0, 0, 2, 0, 1, 0, 2, 0, 0, 3].map(|flow| flow * share)
+}
+
+/// A note of one loading that these flows are of. Nobody comes to where it has
+/// 9.
+const LORRY_NOTE: [u16; 13] = [1, 0, 9, 2, 0, 1, 9, 0, 9, 2, 0, 3, 9];
+
+/// Tables of 2·p·m numbers and notes of 1 + 2·p·n, cars first.
+#[test]
+fn question_12_in_version_4() {
+    let file = lorry_sample().file();
+    let table = flows_with_lorries(2);
+    for length in [0, 8, 9, 15] {
+        let short = &table[..length];
+        assert_eq!(start(&file, &mut short.to_vec()), 12);
+        assert_eq!(run(&file, &mut short.to_vec(), 0, 0).refusal, 12);
+        assert_eq!(pass(&file, &mut short.to_vec(), 2).refusal, 12);
+        assert_eq!(audit(&file, short, 0).refusal, 12);
+        page_refused(&file, short, 2, 12);
+        take_back_refused(&file, short, 2, &LORRY_NOTE, 12);
+    }
+    for length in [0, 1, 7, 12] {
+        let (mut after, mut note) = (table, vec![3; length]);
+        let answer = second::pass(&file, &mut after, 0, &mut note);
+        assert_eq!((answer.refusal, after, note), (12, table, vec![3; length]));
+        take_back_refused(&file, &table, 0, &LORRY_NOTE[..length], 12);
+    }
+    // Later numbers of both are untouched.
+    let longer = [&table[..], &[1, 2, 3]].concat();
+    let note = [&LORRY_NOTE[..], &[4, 5]].concat();
+    let left = [&flows_with_lorries(1)[..], &[1, 2, 3]].concat();
+    taken_back(&file, &longer, 2, &note, (&left, 1));
+    let (mut after, mut noted) = (longer.clone(), note.clone());
+    assert_eq!(
+        second::pass(&file, &mut after, 2, &mut noted).outcome,
+        MOVED
+    );
+    assert_eq!((&after[16..], &noted[13..]), (&[1, 2, 3][..], &[4, 5][..]));
+}
+
+/// Totals and conservation are asked of both classes.
+#[test]
+fn questions_15_and_16_of_lorries() {
+    let file = lorry_sample().file();
+    let straight = flows_with_lorries(1);
+    assert_eq!(audit(&file, &straight, 1).refusal, 0);
+    let with = |place: usize, amount: u32| {
+        let mut table = straight;
+        table[place] += amount;
+        table
+    };
+    // T is 19, and 13 are on link 0 already.
+    for place in [0, 4, 8, 12] {
+        for (amount, number) in [(1, 16), (6, 16), (7, 15), (u32::MAX - 9, 15)] {
+            let table = with(place, amount);
+            assert_eq!(audit(&file, &table, 1).refusal, number);
+            assert_eq!(pass(&file, &mut table.clone(), 1).refusal, number);
+            page_refused(&file, &table, 1, number);
+            take_back_refused(&file, &table, 1, &LORRY_NOTE, number);
+        }
+    }
+    for share in [0, 1_025] {
+        assert_eq!(audit(&file, &straight, share).refusal, 14);
+    }
+    assert_eq!(audit(&file, &straight, 2).refusal, 16);
+    assert_eq!(audit(&file, &[0; 16], 1).refusal, 16);
+}
+
+/// Flow of lorries on a barred link, and round through a closed node.
+#[test]
+fn question_20_of_lorries() {
+    let study = lorry_sample();
+    let file = study.file();
+    let open = study.clone().barring(&[]).file();
+    let mut table = flows_with_lorries(1);
+    // One of the three lorries from 1 to 2 by the barred link.
+    table[13] += 1;
+    table[15] -= 1;
+    assert_eq!(audit(&open, &table, 1).refusal, 0);
+    assert_eq!(audit(&file, &table, 1).refusal, 20);
+    assert_eq!(pass(&file, &mut table.clone(), 1).refusal, 20);
+    page_refused(&file, &table, 1, 20);
+    take_back_refused(&file, &table, 1, &LORRY_NOTE, 20);
+    // A car there is permitted, and lorries round by all other links to 2; to 1
+    // nobody may pass the closed node.
+    for (row, links, number) in [
+        (1, [0, 1, 2], 0),
+        (3, [0, 3, 2], 0),
+        (3, [0, 1, 2], 20),
+        (2, [0, 3, 2], 20),
+        (0, [0, 1, 2], 20),
+    ] {
+        let mut table = flows_with_lorries(1);
+        for link in links {
+            table[4 * row + link] += 1;
+        }
+        assert_eq!(audit(&file, &table, 1).refusal, number);
+        // Question 16 comes first.
+        table[4 * row + links[1]] += 1;
+        assert_eq!(audit(&file, &table, 1).refusal, 16);
+    }
+    // Start and run do not put the question.
+    assert_eq!(start(&file, &mut table.clone()), 0);
+    assert_eq!(run(&file, &mut table.clone(), 4, 0).refusal, 0);
+}
+
+/// Notes that mislead lorries.
+#[test]
+fn question_21_of_lorries() {
+    let file = lorry_sample().file();
+    let table = flows_with_lorries(3);
+    taken_back(&file, &table, 3, &LORRY_NOTE, (&flows_with_lorries(2), 2));
+    for (place, links) in [
+        (7, [1, 2, 3, 4, 65_535].as_slice()),
+        (9, &[0, 1, 3, 512, 65_535]),
+        (10, &[1, 2, 3, 65_535]),
+        (11, &[0, 1, 2, 4, 65_535]),
+    ] {
+        for &link in links {
+            let mut note = LORRY_NOTE;
+            note[place] = link;
+            take_back_refused(&file, &table, 3, &note, 21);
+            note[0] = 3;
+            take_back_refused(&file, &table, 3, &note, 21);
+        }
+    }
+    // The same by the barred link: cars may go there, and lorries where it is
+    // not barred, but there is no flow of theirs to be taken back.
+    let mut note = LORRY_NOTE;
+    note[11] = 1;
+    take_back_refused(&file, &table, 3, &note, 21);
+    take_back_refused(&lorry_sample().barring(&[]).file(), &table, 3, &note, 22);
+    // Nobody comes to where these are.
+    for (place, link) in [(8, 1), (12, 0), (2, 1), (6, 7)] {
+        let mut note = LORRY_NOTE;
+        note[place] = link;
+        taken_back(&file, &table, 3, &note, (&flows_with_lorries(2), 2));
+    }
+}
+
+/// Too much to be taken back, and odd entries of lorries.
+#[test]
+fn question_22_of_lorries() {
+    let file = lorry_sample().file();
+    for step in [3, 4, 65_535] {
+        let mut note = LORRY_NOTE;
+        note[0] = step;
+        take_back_refused(&file, &flows_with_lorries(3), 3, &note, 22);
+    }
+    let halving = [0; 13];
+    let even = flows_with_lorries(2);
+    taken_back(&file, &even, 2, &halving, (&flows_with_lorries(1), 1));
+    let open = lorry_sample().barring(&[]).file();
+    let mut odd = even;
+    odd[13] += 1;
+    odd[15] -= 1;
+    take_back_refused(&open, &odd, 2, &halving, 22);
+    take_back_refused(&file, &odd, 2, &halving, 20);
 }

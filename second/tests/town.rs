@@ -1215,3 +1215,184 @@ fn back_with_each_power() {
         assert_eq!(table, [16, 0]);
     }
 }
+
+/// The town in version 4 with two cars and so many lorries.
+fn town_with_lorries(lorries: u16, barred: &[usize]) -> Versioned {
+    let town = Draft::town().with_lorries(vec![vec![lorries, 0]]);
+    town.barring(barred)
+}
+
+#[test]
+fn the_file_of_version_4() {
+    let study = town_with_lorries(1, &[0]).with_powers(vec![3, 4]);
+    let file = study.file();
+    assert_eq!(file.len(), 94);
+    #[rustfmt::skip]
+    let header = [
+        4, 0, 2, 0, 2, 0, 1, 0,
+        56, 0, 0, 0, 24, 0, 0, 0,
+        80, 0, 0, 0, 2, 0, 0, 0,
+        82, 0, 0, 0, 4, 0, 0, 0,
+        86, 0, 0, 0, 2, 0, 0, 0,
+        88, 0, 0, 0, 4, 0, 0, 0,
+        92, 0, 0, 0, 2, 0, 0, 0,
+    ];
+    assert_eq!(file[..56], header);
+    #[rustfmt::skip]
+    let rest = [
+        0, 0, 1, 0, 10, 0, 10, 0, 2, 0, 3, 0,
+        0, 0, 1, 0, 15, 0, 0, 0, 1, 0, 4, 0,
+        1, 0,
+        2, 0, 0, 0,
+        0, 0,
+        1, 0, 0, 0,
+        1, 0,
+    ];
+    assert_eq!(file[56..], rest);
+    assert_eq!(check(&file), 0);
+    assert_eq!(study.packed_length(), 94);
+    assert_eq!((study.table_length(), study.note_length()), (4, 5));
+    assert_eq!((study.version(), study.total()), (4, 3));
+}
+
+/// Cars take link 0; lorries too, unless it is barred to them.
+#[test]
+fn where_cars_and_lorries_part() {
+    for (barred, expected) in [
+        ([].as_slice(), [2, 0, 1, 0]),
+        (&[0], [2, 0, 0, 1]),
+        (&[1], [2, 0, 1, 0]),
+    ] {
+        let mut table = [9; 5];
+        let file = town_with_lorries(1, barred).file();
+        assert_eq!(start(&file, &mut table), 0);
+        assert_eq!((table[..4].to_vec(), table[4]), (expected.to_vec(), 9));
+    }
+    // Both barred: lorries have no path, and without lorries nothing is refused.
+    assert_eq!(check(&town_with_lorries(1, &[0, 1]).file()), 11);
+    assert_eq!(check(&town_with_lorries(0, &[0, 1]).file()), 0);
+}
+
+/// Three units on link 0 take 10 + floor(10·96⁴ / 64⁴) = 60; the cars would be
+/// better off by link 1, at 15, and the lorry by its own distance.
+#[test]
+fn gap_and_cost_with_lorries() {
+    // With link 1 barred the lorry's distance is 60, with none barred 15.
+    for (barred, distance) in [([1].as_slice(), 60), (&[], 15)] {
+        let file = town_with_lorries(1, barred).file();
+        let answer = audit(&file, &[2, 0, 1, 0], 1);
+        assert_eq!(answer.refusal, 0);
+        assert_eq!(answer.gap, 3 * 60 - 2 * 15 - distance);
+        assert_eq!(answer.cost, LINK_0.area(3, 1).0);
+    }
+    // The lorry on link 1, to which it has to keep: the cars' link takes 20.
+    let file = town_with_lorries(1, &[0]).file();
+    let answer = audit(&file, &[2, 0, 0, 1], 1);
+    assert_eq!((answer.refusal, answer.gap), (0, 2 * 20 - 2 * 15));
+    assert_eq!(audit(&file, &[2, 0, 1, 0], 1).refusal, 20);
+    assert_eq!(audit(&file, &[0, 2, 1, 0], 1).refusal, 20);
+    // One car on each road.
+    assert_eq!(audit(&file, &[1, 1, 0, 1], 1).gap, 15 - 10);
+}
+
+/// P7 with lorries that keep to link 1: they change neither what the cars' pass
+/// is nor what comes of it.
+#[test]
+fn the_pass_of_the_town_with_lorries() {
+    let file = town_with_lorries(5, &[0]).file();
+    let mut table = [16, 0, 0, 40, 7];
+    let mut note = [9; 6];
+    let answer = second::pass(&file, &mut table, 8, &mut note);
+    assert_eq!(
+        (answer.refusal, answer.outcome, answer.share),
+        (0, MOVED, 9)
+    );
+    assert_eq!(table, [16, 2, 0, 45, 7]);
+    assert_eq!(note, [1, 1, 65_535, 1, 65_535, 9]);
+    assert_eq!(take_back(&file, &mut table, 9, &note), left(8));
+    assert_eq!(table, [16, 0, 0, 40, 7]);
+    // A note that leads the lorries by the barred link.
+    let wrong = [1, 1, 65_535, 0, 65_535];
+    not_taken_back(&file, &[16, 2, 0, 45], 9, &wrong, 21);
+    not_taken_back(&file, &[16, 2, 0, 45], 9, &note[..4], 12);
+    // A doubling.
+    let mut table = [2, 0, 0, 5, 7];
+    let answer = second::pass(&file, &mut table, 1, &mut note);
+    assert_eq!((answer.outcome, answer.share), (MOVED, 2));
+    assert_eq!(
+        (table, note),
+        ([4, 0, 0, 10, 7], [0, 65_535, 65_535, 65_535, 65_535, 9])
+    );
+    assert_eq!(take_back(&file, &mut table, 2, &note), left(1));
+    assert_eq!(table, [2, 0, 0, 5, 7]);
+}
+
+/// Without lorry trips all numbers are those of version 3, whether links are
+/// barred or not.
+#[test]
+fn the_town_without_lorries() {
+    let expected = listed(&input(10, 0, &town()));
+    for barred in [[].as_slice(), &[0], &[0, 1]] {
+        let file = town_with_lorries(0, barred).file();
+        assert_eq!(listed(&input(10, 0, &file)), expected);
+        assert_eq!(page_listed(&input(10, 0, &file)), PAGE);
+        let mut table = [3; 5];
+        let answer = run(&file, &mut table, 10, 0);
+        let mut other = [3; 2];
+        assert_eq!(run(&town(), &mut other, 10, 0), answer);
+        assert_eq!(table, [16, 2, 0, 0, 3]);
+        let audited = audit(&file, &table, 9);
+        assert_eq!(audited, audit(&town(), &other, 9));
+    }
+}
+
+/// The listing and the page show both classes together.
+#[test]
+fn the_listing_of_version_4() {
+    let file = town_with_lorries(3, &[0]).file();
+    let expected = "reached\njudged 5\nshare 9\ngap 0\ncost 39024\nover 0\n\
+        link 0 16 15\nlink 1 29 15\n";
+    assert_eq!(listed(&input(10, 0, &file)), expected);
+    let expected = "  0   0   1     1.77     0.15\n  1   0   1     3.22     0.15\n";
+    assert_eq!(page_listed(&input(10, 0, &file)), expected);
+    let both = town_with_lorries(3, &[0, 1]).file();
+    assert_eq!(listed(&input(10, 0, &both)), "refused 11\n");
+    let wrong = town_with_lorries(3, &[]).with_barred(vec![0, 2]).file();
+    assert_eq!(listed(&input(10, 0, &wrong)), "refused 23\n");
+    assert_eq!(page_listed(&input(10, 0, &wrong)), "refused 23\n");
+    assert_eq!(listed(&input(10, 0, &file[..55])), "refused 4\n");
+}
+
+/// Trips of both classes: to where they are, and at most 65,535 together.
+#[test]
+fn trips_of_both_classes() {
+    let with = |cars: u16, lorries: [u16; 2]| {
+        let mut town = Draft::town();
+        town.trips[0][0] = cars;
+        check(&town.with_lorries(vec![lorries.to_vec()]).file())
+    };
+    assert_eq!(with(2, [1, 1]), 9);
+    assert_eq!(with(2, [65_533, 0]), 0);
+    assert_eq!(with(2, [65_534, 0]), 10);
+    assert_eq!(with(65_535, [0, 0]), 0);
+    assert_eq!(with(65_535, [1, 0]), 10);
+    assert_eq!(with(0, [65_535, 0]), 0);
+}
+
+#[test]
+fn packing_version_4() {
+    let study = middle().closing(&[1]).with_powers(vec![1, 2, 3]);
+    let study = study.with_lorries(vec![vec![4, 0, 0]]).barring(&[0]);
+    let file = study.file_with_gaps(&[&[1], &[2; 9], &[3; 4], &[4; 2], &[5; 3], &[6], &[7; 2]]);
+    assert_eq!(file.len(), 112 + 22);
+    let mut output = [0xAB; 114];
+    assert_eq!(pack(&file, &mut output), 0);
+    assert_eq!(output[..112], study.file());
+    assert_eq!(output[112..], [0xAB; 2]);
+    let mut again = [0; 112];
+    assert_eq!(pack(&output[..112], &mut again), 0);
+    assert_eq!(again[..], study.file());
+    for (length, number) in [(103, 17), (111, 17), (112, 0)] {
+        assert_eq!(pack(&file, &mut vec![0; length]), number);
+    }
+}

@@ -9,9 +9,9 @@
 //! | [`source`]     | text files, and problems with their file and line        |
 //! | [`words`]      | the refusal numbers in plain words, numbers for people   |
 //! | [`mod@format`] | the bytes of a study file, questions 1 to 5              |
-//! | [`culprit`]    | what makes check refuse a study, questions 6 to 11, 19   |
+//! | [`culprit`]    | what makes check refuse a study: 6 to 11, 19 and 23      |
 //! | [`text`]       | a study as text, both ways                               |
-//! | [`tntp`]       | a study from a net file and a trips file                 |
+//! | [`tntp`]       | a study from a net file and trips files                  |
 //!
 //! Whether a study is accepted is not decided here: [`second::check`] does.
 

@@ -14,12 +14,12 @@ use std::process::ExitCode;
 
 use args::Args;
 use study_tool::culprit::culprit;
-use study_tool::exact::Figure;
-use study_tool::format::Study;
+use study_tool::exact::{Figure, Fraction};
+use study_tool::format::{Class, Study};
 use study_tool::source::{self, Problem, Source};
-use study_tool::tntp::{self, Options, TimeUnit};
-use study_tool::words::{self, count};
-use study_tool::{text, words::answer};
+use study_tool::text;
+use study_tool::tntp::{self, Lorries, Options, TimeUnit};
+use study_tool::words::{self, answer, count, trips};
 
 /// Why a command came to nothing.
 enum Failure {
@@ -53,7 +53,14 @@ const COMMANDS: [Command; 4] = [
     Command {
         name: "from-tntp",
         help: help::FROM_TNTP,
-        options: &["--out", "--vehicles-per-trip", "--time-unit"],
+        options: &[
+            "--out",
+            "--vehicles-per-trip",
+            "--time-unit",
+            "--lorry-trips",
+            "--car-units-per-lorry",
+            "--barred-links",
+        ],
         run: from_tntp,
     },
     Command {
@@ -120,36 +127,83 @@ fn perform(
 fn from_tntp(args: &Args) -> Result<ExitCode, Failure> {
     let [net, trips] = args.operands(["NET", "TRIPS"])?;
     let out = args.out()?;
-    let mut options = Options::default();
-    if let Some(value) = args.option("--vehicles-per-trip") {
-        options.vehicles_per_trip = value
-            .to_str()
-            .and_then(|text| Figure::parse(text).ok())
-            .map(|figure| figure.value)
-            .filter(|value| !value.is_zero())
-            .ok_or_else(|| {
-                let value = value.display();
-                format!("--vehicles-per-trip `{value}`, must be a figure above 0")
-            })?;
-    }
-    if let Some(value) = args.option("--time-unit") {
-        options.time_unit = TimeUnit::ALL
-            .into_iter()
-            .find(|unit| value == unit.name())
-            .ok_or_else(|| {
-                let units = TimeUnit::ALL.map(TimeUnit::name).join(", ");
-                format!("--time-unit `{}`, must be one of {units}", value.display())
-            })?;
-    }
+    let vehicles_per_trip = above_0(args, "--vehicles-per-trip")?;
+    let time_unit = time_unit(args)?;
+    let car_units = above_0(args, "--car-units-per-lorry")?;
+    lorries_belong(args)?;
 
     let (net, trips) = (Source::open(&net)?, Source::open(&trips)?);
+    let options = Options {
+        vehicles_per_trip,
+        time_unit,
+        lorries: lorries(args, car_units)?,
+    };
     let conversion = tntp::convert(&net, &trips, &options)?;
     let file = conversion.study.packed();
-    write(&out, &file, &[net.path(), trips.path()])?;
+    let mut inputs = vec![net.path(), trips.path()];
+    if let Some(lorries) = &options.lorries {
+        inputs.push(lorries.trips.path());
+        inputs.extend(lorries.barred.as_ref().map(Source::path));
+    }
+    write(&out, &file, &inputs)?;
     for line in conversion.report {
         eprintln!("{line}");
     }
     Ok(print(&summary(&out, &conversion.study, &file)))
+}
+
+/// The figure that an option gives, which must be above 0; 1 without it.
+fn above_0(args: &Args, name: &str) -> Result<Fraction, String> {
+    let Some(value) = args.option(name) else {
+        return Ok(Fraction::ONE);
+    };
+    value
+        .to_str()
+        .and_then(|text| Figure::parse(text).ok())
+        .map(|figure| figure.value)
+        .filter(|value| !value.is_zero())
+        .ok_or_else(|| format!("{name} `{}`, must be a figure above 0", value.display()))
+}
+
+/// The unit that `--time-unit` names; minutes without it.
+fn time_unit(args: &Args) -> Result<TimeUnit, String> {
+    let Some(value) = args.option("--time-unit") else {
+        return Ok(TimeUnit::Minutes);
+    };
+    TimeUnit::ALL
+        .into_iter()
+        .find(|unit| value == unit.name())
+        .ok_or_else(|| {
+            let units = TimeUnit::ALL.map(TimeUnit::name).join(", ");
+            format!("--time-unit `{}`, must be one of {units}", value.display())
+        })
+}
+
+/// Without lorry trips the other options for lorries make no sense.
+fn lorries_belong(args: &Args) -> Result<(), String> {
+    let stray = ["--car-units-per-lorry", "--barred-links"]
+        .into_iter()
+        .find(|name| args.option(name).is_some());
+    match (args.option("--lorry-trips"), stray) {
+        (None, Some(name)) => Err(format!(
+            "{name} is for lorries, but --lorry-trips is missing"
+        )),
+        _ => Ok(()),
+    }
+}
+
+/// What the options tell of lorries, and the files that they name.
+fn lorries(args: &Args, car_units: Fraction) -> Result<Option<Lorries>, Problem> {
+    let open = |name| {
+        let path = args.option(name).map(Path::new);
+        path.map(Source::open).transpose()
+    };
+    let (trips, barred) = (open("--lorry-trips")?, open("--barred-links")?);
+    Ok(trips.map(|trips| Lorries {
+        trips,
+        car_units,
+        barred,
+    }))
 }
 
 /// `study from-text`.
@@ -190,18 +244,20 @@ fn refusals(args: &Args) -> Result<ExitCode, Failure> {
 /// What a command says of the study it has written.
 fn summary(out: &Path, study: &Study, file: &[u8]) -> String {
     let refusal = second::check(file);
-    let closed = match study.closed_nodes() {
+    let some = |number: u64, what: &str| match number {
         0 => String::new(),
-        closed => format!(" ({closed} closed)"),
+        number => format!(" ({number} {what})"),
     };
+    let closed = some(study.closed_nodes(), "closed");
+    let barred = some(study.barred_links(), "barred to lorries");
     let mut summary = format!(
-        "{}: {}, {}{closed}, {}, {}, {}\ncheck: {}\n",
+        "{}: {}, {}{closed}, {}{barred}, {}, {}\ncheck: {}\n",
         out.display(),
         count(file.len() as u64, "byte"),
         count(study.nodes, "node"),
         count(study.links.len() as u64, "link"),
         count(study.destinations.len() as u64, "destination"),
-        count(study.total(), "trip"),
+        trips(study.total(), study.total_of(Class::Lorries)),
         answer(refusal),
     );
     if let Some(culprit) = culprit(study, refusal) {

@@ -4,8 +4,8 @@
 mod common;
 
 use common::Dice;
-use study_tool::culprit::{culprit, stranded};
-use study_tool::format::{DEFAULT_POWER, Destination, Link, Study, Version};
+use study_tool::culprit::{Obstacle, Stranded, culprit, stranded};
+use study_tool::format::{Class, DEFAULT_POWER, Destination, Link, Study, Version};
 use study_tool::source::Source;
 use study_tool::text;
 
@@ -15,32 +15,49 @@ fn study(dice: &mut Dice) -> Study {
     let version = Version::numbered(number).expect("a version");
     let nodes = dice.number(2, 6);
     let faults = dice.number(0, 2) == 0;
-    let fault = |dice: &mut Dice, sound: u16, wrong: u16| {
-        if faults && dice.once_in(25) {
-            wrong
-        } else {
-            sound
-        }
-    };
-    let links = (0..dice.number(1, 12))
-        .map(|_| {
-            let tail = dice.number(0, nodes - 1);
-            let head = (tail + dice.number(1, nodes - 1)) % nodes;
-            let (free, rise) = (dice.number(1, 16_383), dice.number(0, 16_383));
-            let capacity = dice.number(1, u16::MAX);
-            let too_large = dice.number(16_384, u16::MAX);
-            let no_node = dice.number(nodes, u16::MAX);
-            Link {
-                tail: fault(dice, tail, no_node),
-                head: fault(dice, head, tail),
-                free: fault(dice, free, 0),
-                rise: fault(dice, rise, too_large),
-                capacity: fault(dice, capacity, 0),
-                power: power(dice, version, faults),
-            }
-        })
+    let links: Vec<Link> = (0..dice.number(1, 12))
+        .map(|_| link(dice, version, nodes, faults))
         .collect();
+    let closed = marks(dice, version.has_closed(), nodes.into(), faults);
+    let barred = marks(dice, version.has_lorries(), links.len(), faults);
+    Study {
+        version,
+        nodes,
+        links,
+        destinations: destinations(dice, version, nodes, faults),
+        closed,
+        barred,
+    }
+}
 
+/// A sound number, or once in a while a wrong one.
+fn fault(dice: &mut Dice, faults: bool, sound: u16, wrong: u16) -> u16 {
+    if faults && dice.once_in(25) {
+        wrong
+    } else {
+        sound
+    }
+}
+
+fn link(dice: &mut Dice, version: Version, nodes: u16, faults: bool) -> Link {
+    let tail = dice.number(0, nodes - 1);
+    let head = (tail + dice.number(1, nodes - 1)) % nodes;
+    let (free, rise) = (dice.number(1, 16_383), dice.number(0, 16_383));
+    let capacity = dice.number(1, u16::MAX);
+    let too_large = dice.number(16_384, u16::MAX);
+    let no_node = dice.number(nodes, u16::MAX);
+    Link {
+        tail: fault(dice, faults, tail, no_node),
+        head: fault(dice, faults, head, tail),
+        free: fault(dice, faults, free, 0),
+        rise: fault(dice, faults, rise, too_large),
+        capacity: fault(dice, faults, capacity, 0),
+        power: power(dice, version, faults),
+    }
+}
+
+/// Some of the nodes, with trips to them.
+fn destinations(dice: &mut Dice, version: Version, nodes: u16, faults: bool) -> Vec<Destination> {
     let most = if dice.once_in(4) { 20_000 } else { 40 };
     let mut destinations = Vec::new();
     for node in 0..nodes {
@@ -49,30 +66,28 @@ fn study(dice: &mut Dice) -> Study {
             continue;
         }
         let no_destination = dice.number(0, nodes);
-        let own = dice.number(1, 3);
-        let trips = (0..nodes)
-            .map(|from| match dice.number(0, most) {
-                _ if from == node => fault(dice, 0, own),
-                _ if dice.once_in(2) => 0,
-                trips => trips,
-            })
-            .collect();
+        let mut trips = || -> Vec<u16> {
+            let own = dice.number(1, 3);
+            (0..nodes)
+                .map(|from| match dice.number(0, most) {
+                    _ if from == node => fault(dice, faults, 0, own),
+                    _ if dice.once_in(2) => 0,
+                    trips => trips,
+                })
+                .collect()
+        };
+        let cars = trips();
+        let lorry_trips = match version.has_lorries() {
+            true => trips(),
+            false => vec![0; nodes.into()],
+        };
         destinations.push(Destination {
-            node: fault(dice, node, no_destination),
-            trips,
+            node: fault(dice, faults, node, no_destination),
+            trips: cars,
+            lorry_trips,
         });
     }
-    let closed = match version.has_closed() {
-        true => closed(dice, nodes, faults),
-        false => vec![0; usize::from(nodes)],
-    };
-    Study {
-        version,
-        nodes,
-        links,
-        destinations,
-        closed,
-    }
+    destinations
 }
 
 /// A power that links of this version may have, or a fault.
@@ -88,18 +103,22 @@ fn power(dice: &mut Dice, version: Version, faults: bool) -> u16 {
     }
 }
 
-/// Closed bytes: shares from none to all, with faults or without.
-fn closed(dice: &mut Dice, nodes: u16, faults: bool) -> Vec<u8> {
+/// Closed or barred bytes, if the version has them: shares from none to all,
+/// with faults or without.
+fn marks(dice: &mut Dice, has_them: bool, number: usize, faults: bool) -> Vec<u8> {
+    if !has_them {
+        return vec![0; number];
+    }
     let tenths = dice.number(0, 10);
     let byte = |dice: &mut Dice| match dice.number(1, 10) {
         _ if faults && dice.once_in(25) => dice.number(2, 255) as u8,
         number => u8::from(number <= tenths),
     };
-    (0..nodes).map(|_| byte(dice)).collect()
+    (0..number).map(|_| byte(dice)).collect()
 }
 
 /// The questions that look into the sections, in their order.
-const INNER: [u8; 7] = [6, 7, 8, 19, 9, 10, 11];
+const INNER: [u8; 8] = [6, 7, 8, 19, 23, 9, 10, 11];
 
 /// The first of these questions that has a culprit; 0 if none has.
 fn first_with_culprit(study: &Study) -> u8 {
@@ -110,12 +129,14 @@ fn first_with_culprit(study: &Study) -> u8 {
 #[test]
 fn refusals_are_explained() {
     let mut dice = Dice(1);
-    let mut seen = [0; 21];
-    // Studies whose first trips without a path have one but for closed nodes.
-    let mut shut = 0;
-    // Studies with a power that no link can have.
-    let mut wrong_powers = 0;
-    for _ in 0..10_000 {
+    let mut seen = [0; 24];
+    // Studies whose first trips without a path have this in place of one, cars
+    // and lorries.
+    let mut obstacles = [[0; 4]; 2];
+    // Studies whose culprit names this.
+    let names = [": power ", " lorry trip", "(", " barred byte "];
+    let mut named = [0; 4];
+    for _ in 0..20_000 {
         let study = study(&mut dice);
         let file = study.packed();
         let answer = second::check(&file);
@@ -124,24 +145,15 @@ fn refusals_are_explained() {
         // Questions before the one answered "no" have no culprit; after it
         // they may have.
         assert_eq!(first_with_culprit(&study), answer, "{study:?}");
-        let names_power =
-            culprit(&study, answer).is_some_and(|culprit| culprit.contains(": power "));
-        wrong_powers += u32::from(names_power);
-
-        // With all nodes open, a path is there exactly when they are at fault.
+        let culprit = culprit(&study, answer).unwrap_or_default();
+        for (named, name) in named.iter_mut().zip(names) {
+            *named += u32::from(culprit.contains(name));
+        }
         if answer == 11 {
             let stranded = stranded(&study).expect("it has a culprit");
-            let mut open = study.clone();
-            open.closed.fill(0);
-            open.destinations.iter_mut().for_each(|destination| {
-                let to = destination.node == stranded.to;
-                for (from, trips) in (0..).zip(&mut destination.trips) {
-                    *trips *= u16::from(to && from == stranded.from);
-                }
-            });
-            let there = second::check(&open.packed()) == 0;
-            assert_eq!(stranded.shut, there, "{study:?}");
-            shut += u32::from(there);
+            let obstacle = obstacle(&study, stranded);
+            assert_eq!(stranded.obstacle, obstacle, "{study:?}");
+            obstacles[stranded.class as usize][obstacle as usize] += 1;
         }
 
         assert_eq!(Study::read(&file).as_ref(), Ok(&study));
@@ -156,11 +168,48 @@ fn refusals_are_explained() {
         assert_eq!(reading.study, study);
         assert_eq!(reading.stale(answer), []);
     }
-    for number in [0, 6, 7, 8, 9, 10, 11, 19] {
+    for number in [0, 6, 7, 8, 9, 10, 11, 19, 23] {
         assert!(seen[number] > 10, "{number} is rare: {seen:?}");
     }
-    assert!(shut > 100, "{shut}");
-    assert!(wrong_powers > 50, "{wrong_powers}");
+    let [cars, lorries] = obstacles;
+    assert!(cars[..2].iter().all(|&seen| seen > 100), "{cars:?}");
+    assert_eq!(cars[2..], [0, 0], "cars may use barred links");
+    assert!(lorries.iter().all(|&seen| seen > 20), "{lorries:?}");
+    assert!(named.iter().all(|&named| named > 20), "{named:?}");
+}
+
+/// What there is in place of a path for these trips, by what check answers to
+/// the study without closed nodes, without barred links and without either.
+fn obstacle(study: &Study, stranded: Stranded) -> Obstacle {
+    let mut alone = study.clone();
+    for destination in &mut alone.destinations {
+        let to = destination.node == stranded.to;
+        let tables = [&mut destination.trips, &mut destination.lorry_trips];
+        for (class, table) in Class::ALL.into_iter().zip(tables) {
+            for (from, trips) in (0..).zip(table) {
+                *trips *= u16::from((class, from, to) == (stranded.class, stranded.from, true));
+            }
+        }
+    }
+    let accepted = |open: bool, lifted: bool| {
+        let mut study = alone.clone();
+        study
+            .closed
+            .iter_mut()
+            .for_each(|byte| *byte *= u8::from(!open));
+        study
+            .barred
+            .iter_mut()
+            .for_each(|byte| *byte *= u8::from(!lifted));
+        second::check(&study.packed()) == 0
+    };
+    assert!(!accepted(false, false), "{study:?}");
+    match (accepted(true, false), accepted(false, true)) {
+        (true, false) => Obstacle::ClosedNodes,
+        (false, true) => Obstacle::BarredLinks,
+        (false, false) if !accepted(true, true) => Obstacle::NoLinks,
+        _ => Obstacle::ClosedOrBarred,
+    }
 }
 
 /// Files of all versions, damaged in the header or, once in three times,
@@ -169,11 +218,12 @@ fn refusals_are_explained() {
 fn damaged_files_are_judged_alike() {
     let mut dice = Dice(2);
     // By version before the damage.
-    let mut seen = [[0; 21]; 3];
-    for _ in 0..30_000 {
+    let mut seen = [[0; 24]; 4];
+    for _ in 0..40_000 {
         let study = study(&mut dice);
         let mut file = study.packed();
-        let end = if dice.once_in(3) { file.len() } else { 40 };
+        let header = if study.version.has_lorries() { 56 } else { 40 };
+        let end = if dice.once_in(3) { file.len() } else { header };
         for _ in 0..dice.number(0, 2) {
             let place = dice.below(end as u64) as usize;
             file[place] = match dice.number(0, 2) {
@@ -185,7 +235,7 @@ fn damaged_files_are_judged_alike() {
         let length = match dice.number(0, 5) {
             0 => file.len() - usize::from(dice.number(0, 3)),
             1 => file.len() + usize::from(dice.number(0, 200)),
-            2 if dice.once_in(4) => usize::from(dice.number(0, 40)),
+            2 if dice.once_in(4) => usize::from(dice.number(0, 56)),
             3 if dice.once_in(400) => 65_536 + usize::from(dice.number(0, 1)),
             _ => file.len(),
         };
@@ -218,7 +268,7 @@ fn damaged_files_are_judged_alike() {
 #[test]
 fn largest_studies() {
     let mut dice = Dice(3);
-    for (number, bytes) in Version::NUMBERS.zip([13_408, 13_544, 14_568]) {
+    for (number, bytes) in Version::NUMBERS.zip([13_408, 13_544, 14_568, 23_288]) {
         let version = Version::numbered(number).expect("a version");
         let study = largest(&mut dice, version);
         let file = study.packed();
@@ -239,8 +289,8 @@ fn largest_studies() {
     }
 }
 
-/// A ring of 128 nodes, four links from each to the next; trips from every node
-/// to 32 of them.
+/// A ring of 128 nodes, four links from each to the next, the last of which is
+/// barred if links can be; trips from every node to 32 of them.
 fn largest(dice: &mut Dice, version: Version) -> Study {
     let link = |number: u16, dice: &mut Dice| Link {
         tail: number % 128,
@@ -250,6 +300,7 @@ fn largest(dice: &mut Dice, version: Version) -> Study {
         capacity: dice.number(1, u16::MAX),
         power: power(dice, version, false),
     };
+    let lorries = u16::from(version.has_lorries());
     Study {
         version,
         nodes: 128,
@@ -258,8 +309,14 @@ fn largest(dice: &mut Dice, version: Version) -> Study {
             .map(|node| Destination {
                 node,
                 trips: (0..128).map(|from| u16::from(from != node)).collect(),
+                lorry_trips: (0..128)
+                    .map(|from| lorries * u16::from(from != node))
+                    .collect(),
             })
             .collect(),
         closed: vec![0; 128],
+        barred: (0..512)
+            .map(|link| lorries as u8 * u8::from(link >= 384))
+            .collect(),
     }
 }

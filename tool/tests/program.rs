@@ -10,23 +10,24 @@ fn refusals() {
     let folder = Folder::new("program-refusals");
     let table = folder.study(&["refusals"]).ok();
     let lines: Vec<&str> = table.lines().collect();
-    assert_eq!(lines.len(), 20);
+    assert_eq!(lines.len(), 23);
     for (number, line) in (1..).zip(&lines) {
         let meaning = words::refusal(number).expect("one of the table's");
         assert_eq!(*line, format!("{number:2}  {meaning}"));
     }
     assert_eq!(
         lines[10],
-        "11  a node with trips to a destination has no path to it that leads through no closed node"
+        "11  a node with trips to a destination has no path to it that leads through no closed node \
+         and, for lorry trips, over no barred link"
     );
-    assert_eq!(lines[1], " 2  the version is not 1, 2 or 3");
+    assert_eq!(lines[1], " 2  the version is not 1, 2, 3 or 4");
     assert_eq!(
         lines[6],
         " 7  a link's free time is not 1 to 16,383, its rise not 0 to 16,383, its capacity is 0, or \
          its power is not 1 to 4"
     );
     assert_eq!(words::refusal(0), None);
-    assert_eq!(words::refusal(21), None);
+    assert_eq!(words::refusal(24), None);
     assert_eq!(words::answer(0), "accepted");
     assert_eq!(
         words::answer(18),
@@ -39,9 +40,13 @@ fn refusals() {
     assert_eq!(
         words::answer(20),
         "refused 20: the flow table has flow on a link into a closed node that is not flow to \
-         that node"
+         that node, or lorries on a barred link"
     );
-    assert_eq!(words::answer(21), "refused 21");
+    assert_eq!(
+        words::answer(23),
+        "refused 23: a link's barred byte is neither 0 nor 1"
+    );
+    assert_eq!(words::answer(24), "refused 24");
 }
 
 #[test]
@@ -112,6 +117,32 @@ fn help_on_powers() {
     let help = folder.study(&["from-tntp", "--help"]).ok();
     let row = "\n  power                     power, 1 to 4 (any figure where b is 0)\n";
     assert!(help.contains(row), "{help}");
+}
+
+/// What help says of lorries is so.
+#[test]
+fn help_on_lorries() {
+    let folder = Folder::new("program-lorries");
+    let help = folder.study(&["from-text", "--help"]).ok();
+    for said in ["`barred 0 1`", "`barred 0 1:7`", "`lorries from 0: 2`"] {
+        assert!(help.contains(said), "{help}");
+    }
+    folder.put(
+        "town.txt",
+        "study 4\nnodes 2\nlinks 2\ndestinations 1\nbarred 0 1:7\nlink 0 0 1 10 10 2 3\n\
+         link 1 0 1 15 0 1 4\ndestination 1\nlorries from 0: 2\n",
+    );
+    let said = folder
+        .study(&["from-text", "town.txt", "--out", "out"])
+        .ok();
+    let answer = format!("check: {}\n", words::answer(23));
+    assert!(said.contains(&answer), "{said}");
+    assert_eq!(folder.bytes("out")[88..], [2, 0, 0, 0, 1, 7]);
+
+    let help = folder.study(&["from-tntp", "--help"]).ok();
+    for option in ["lorry-trips", "car-units-per-lorry", "barred-links"] {
+        assert!(help.contains(&format!("\n  --{option} ")), "{help}");
+    }
 }
 
 /// No line of help is wider than 80 columns.

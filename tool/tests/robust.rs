@@ -2,10 +2,11 @@
 
 mod common;
 
-use common::{Dice, POWERS, TOWN, ZONE};
+use common::{Dice, LORRIES, POWERS, TOWN, ZONE};
+use study_tool::exact::Fraction;
 use study_tool::format::Study;
 use study_tool::source::Source;
-use study_tool::tntp::Options;
+use study_tool::tntp::{Lorries, Options};
 use study_tool::{text, tntp};
 
 const NET: &str = "\
@@ -26,7 +27,7 @@ Origin 1
 ";
 
 /// Pieces that mean something in one text or another.
-const PIECES: [&str; 35] = [
+const PIECES: [&str; 39] = [
     "",
     " ",
     "\n",
@@ -57,6 +58,10 @@ const PIECES: [&str; 35] = [
     "4.0",
     "closed",
     "closed 0 1",
+    "barred",
+    "barred 0 1",
+    "lorries from 1: 1",
+    "study 4",
     ":2",
     "×",
     "\u{feff}",
@@ -82,7 +87,7 @@ fn spoilt(text: &str, dice: &mut Dice) -> String {
 #[test]
 fn texts() {
     let mut dice = Dice(3);
-    for town in [TOWN, ZONE, POWERS] {
+    for town in [TOWN, ZONE, POWERS, LORRIES] {
         let (mut read, mut refused) = (0, 0);
         for _ in 0..4_000 {
             let source = Source::new("town.txt", spoilt(town, &mut dice));
@@ -136,4 +141,67 @@ fn tntp_files() {
         }
     }
     assert!(made > 200 && refused > 400, "{made} {refused}");
+}
+
+const LORRY_TRIPS: &str = "\
+<NUMBER OF ZONES> 3
+<TOTAL OD FLOW> 7.5
+<END OF METADATA>
+Origin 1
+2 : 2.5; 3 : 4.0;
+Origin 2
+3 : 1.0;
+";
+
+/// Two of three links that lead from 1 to 2 are barred.
+const BARRED: &str = "\
+~ init term
+1 2 1 ;
+1 2 2
+";
+
+#[test]
+fn lorry_files() {
+    let mut dice = Dice(5);
+    let (mut made, mut refused) = ([0; 2], [0; 2]);
+    let net = NET.replace("LINKS> 2", "LINKS> 4")
+        + "1 2 120 6 7 0.15 4 0 0 1 ;\n1 2 120 6 8 0.15 4 0 0 1 ;\n";
+    for turn in 0..6_000 {
+        let mut texts = [LORRY_TRIPS, BARRED].map(str::to_owned);
+        let place = turn % 2; // of the text that is spoilt
+        texts[place] = spoilt(&texts[place], &mut dice);
+        let [lorries, barred] = texts;
+        let options = Options {
+            lorries: Some(Lorries {
+                trips: Source::new("lorries", lorries),
+                car_units: Fraction::whole(2),
+                barred: Some(Source::new("barred", barred)),
+            }),
+            ..Options::default()
+        };
+        let (net, trips) = (
+            Source::new("net", net.as_str()),
+            Source::new("trips", TRIPS),
+        );
+        match tntp::convert(&net, &trips, &options) {
+            Ok(conversion) => {
+                made[place] += 1;
+                let file = conversion.study.packed();
+                assert_eq!(second::check(&file), 0);
+                assert_eq!(Study::read(&file), Ok(conversion.study));
+            }
+            Err(problem) => {
+                refused[place] += 1;
+                let problem = problem.to_string();
+                let files = ["lorries: line ", "barred: line "];
+                assert!(
+                    files.iter().any(|file| problem.starts_with(file)),
+                    "{problem}"
+                );
+            }
+        }
+    }
+    for (made, refused) in made.into_iter().zip(refused) {
+        assert!(made > 200 && refused > 400, "{made} {refused}");
+    }
 }

@@ -2,7 +2,9 @@
 
 mod common;
 
-use common::{Folder, POWERS, POWERS_FILE, TOWN, TOWN_FILE, ZONE, ZONE_FILE, with};
+use common::{
+    Folder, LORRIES, LORRIES_FILE, POWERS, POWERS_FILE, TOWN, TOWN_FILE, ZONE, ZONE_FILE, with,
+};
 
 const COMMAND: [&str; 4] = ["from-text", "town.txt", "--out", "out"];
 
@@ -29,6 +31,13 @@ fn bad_zone(name: &str, from: &str, to: &str, message: &str) {
 #[track_caller]
 fn bad_powers(name: &str, from: &str, to: &str, message: &str) {
     let folder = folder(&format!("powers-{name}"), &with(POWERS, from, to));
+    folder.fails(&COMMAND, &format!("town.txt: {message}"));
+}
+
+/// The town with lorries, and a fault.
+#[track_caller]
+fn bad_lorries(name: &str, from: &str, to: &str, message: &str) {
+    let folder = folder(&format!("lorries-{name}"), &with(LORRIES, from, to));
     folder.fails(&COMMAND, &format!("town.txt: {message}"));
 }
 
@@ -146,6 +155,66 @@ fn powers_that_are_all_4() {
         .iter()
         .fold(TOWN.to_owned(), |text, (from, to)| with(&text, from, to));
     goes_round("town-3", &text, &file);
+}
+
+#[test]
+fn the_town_with_lorries() {
+    assert_eq!(
+        goes_round("lorries", LORRIES, &LORRIES_FILE),
+        "out: 143 bytes, 4 nodes (1 closed), 5 links (1 barred to lorries), 1 destination, \
+         8 trips (5 lorry trips)\ncheck: accepted\n"
+    );
+    // With no link barred.
+    let mut file = LORRIES_FILE;
+    file[140] = 0;
+    goes_round("lorries-free", &with(LORRIES, "barred 2\n\n", ""), &file);
+    // With lorries alone.
+    let text = with(LORRIES, "  from 0: 2\n  from 1: 1\n", "");
+    let text = text.replace("8 trips (5", "5 trips (5");
+    file = LORRIES_FILE;
+    file[118..126].fill(0);
+    goes_round("lorries-alone", &text, &file);
+}
+
+/// Version 4 without lorry trips and barred links stays version 4.
+#[test]
+fn lorries_that_make_no_trips() {
+    let text = with(LORRIES, "  lorries from 0: 4\n  lorries from 3: 1\n", "");
+    let text = text.replace("8 trips (5 lorry trips)", "3 trips");
+    let mut file = LORRIES_FILE;
+    file[130..138].fill(0);
+    goes_round("lorries-none", &text, &file);
+    file[140] = 0;
+    let said = goes_round("lorries-nothing", &with(&text, "barred 2\n\n", ""), &file);
+    assert_eq!(
+        said,
+        "out: 143 bytes, 4 nodes (1 closed), 5 links, 1 destination, 3 trips\ncheck: accepted\n"
+    );
+}
+
+#[test]
+fn forms_of_lorry_lines_that_make_no_difference() {
+    let lines = "  from 0: 2\n  from 1: 1\n  lorries from 0: 4\n  lorries from 3: 1\n";
+    for (name, from, to) in [
+        ("byte", "barred 2", "barred 2:1"),
+        ("zeros", "barred 2", "barred 0:0\t002:01   4:0 # narrow"),
+        ("lines", "barred 2", "barred 3:0\n\n  barred 2\r"),
+        (
+            "order",
+            lines,
+            "lorries from 3: 1\nfrom 1: 1\nlorries from 0: 4\nfrom 0: 2\n",
+        ),
+        (
+            "blanks",
+            lines,
+            "from 0:2\nlorries\t from  0 : 4\nlorries from 1:0\nlorries from 3:1\nfrom 1:1\n",
+        ),
+    ] {
+        let folder = folder(&format!("lorries-form-{name}"), &with(LORRIES, from, to));
+        folder.study(&COMMAND).ok();
+        assert_eq!(folder.bytes("out"), LORRIES_FILE, "{name}");
+        assert_eq!(folder.study(&["show", "out"]).ok(), LORRIES, "{name}");
+    }
 }
 
 /// Lines of 16 nodes.
@@ -339,6 +408,27 @@ fn refused_9() {
 }
 
 #[test]
+fn refused_9_for_lorries() {
+    let edit = ("  lorries from 3: 1", "  lorries from 2: 1");
+    let answer = "9: a destination has trips to itself";
+    refused_of(
+        LORRIES,
+        "9-lorries",
+        &[edit],
+        answer,
+        "destination 2 has 1 lorry trip to itself",
+    );
+    // Cars come first.
+    refused_of(
+        LORRIES,
+        "9-both",
+        &[edit, ("  from 1: 1", "  from 2: 1")],
+        answer,
+        "destination 2 has 1 trip to itself",
+    );
+}
+
+#[test]
 fn refused_10() {
     refused(
         "10",
@@ -356,6 +446,43 @@ fn refused_10() {
     );
 }
 
+/// The limit is one of both classes together.
+#[test]
+fn refused_10_for_the_sum() {
+    let with_lorries = |lorries: u32| {
+        [
+            ("lorries from 0: 4", format!("lorries from 0: {lorries}")),
+            (
+                "destination 2  # 8 trips (5 lorry trips)",
+                format!(
+                    "destination 2  # 65,{} trips (65,{} lorry trips)",
+                    lorries + 4 - 65_000,
+                    lorries + 1 - 65_000
+                ),
+            ),
+            (
+                "total: 8 trips (5 lorry trips)",
+                format!("total: {} trips ({} lorry trips)", lorries + 4, lorries + 1),
+            ),
+        ]
+    };
+    let edits = with_lorries(65_532);
+    let edits = edits.each_ref().map(|(from, to)| (*from, to.as_str()));
+    refused_of(
+        LORRIES,
+        "10-sum",
+        &edits,
+        "10: the trips add up to more than 65,535",
+        "65,536 trips (65,533 lorry trips), limit 65,535",
+    );
+    let text = with_lorries(65_531)
+        .iter()
+        .fold(LORRIES.to_owned(), |text, (from, to)| with(&text, from, to));
+    let mut file = LORRIES_FILE;
+    file[130..132].copy_from_slice(&65_531u16.to_le_bytes());
+    goes_round("lorries-10", &text, &file);
+}
+
 #[test]
 fn refused_11() {
     refused(
@@ -370,8 +497,8 @@ fn refused_11() {
 }
 
 /// Refusal 11.
-const NO_PATH: &str =
-    "11: a node with trips to a destination has no path to it that leads through no closed node";
+const NO_PATH: &str = "11: a node with trips to a destination has no path to it that leads through \
+                       no closed node and, for lorry trips, over no barred link";
 
 /// Links 0 and 1 of the town with a zone alone, which lead through the zone.
 const THROUGH: [(&str, &str); 3] = [
@@ -418,6 +545,55 @@ fn refused_11_with_no_path_at_all() {
 }
 
 #[test]
+fn refused_11_because_links_are_barred() {
+    let lorries = "node 0 has 4 lorry trips to destination 2 and no path to it";
+    let refused = |name: &str, edits: &[(&str, &str)], but: &str| {
+        let culprit = format!("{lorries}{but}");
+        refused_of(LORRIES, &format!("11-{name}"), edits, NO_PATH, &culprit);
+    };
+    let (closed, barred) = (" but through closed nodes", " but over barred links");
+    let either = " but through closed nodes or over barred links";
+    refused("barred", &[("barred 2", "barred 1 2 4")], barred);
+    // The way through the zone is not barred.
+    refused("either", &[("barred 2", "barred 2 4")], either);
+    // Both ways of the lorries lead through closed nodes, and not the cars'.
+    let zones = ("closed 1", "closed 1 3");
+    let cars = ("  from 0: 2\n  from 1: 1\n", "  from 1: 1\n  from 3: 2\n");
+    refused("closed", &[zones, cars], closed);
+    // And all are barred as well.
+    let all = ("barred 2", "barred 0 2 4");
+    refused("both", &[zones, cars, all], either);
+}
+
+/// Cars may use barred links, and theirs come first.
+#[test]
+fn refused_11_of_cars_and_lorries() {
+    let reversed = [
+        ("     3     2     10", "     2     3     10"),
+        ("     1     2      5", "     2     1      5"),
+    ];
+    refused_of(
+        LORRIES,
+        "11-cars-first",
+        &reversed,
+        NO_PATH,
+        "node 0 has 2 trips to destination 2 and no path to it",
+    );
+    let lorries_alone = [
+        ("  from 0: 2\n  from 1: 1\n", ""),
+        ("destination 2  # 8 trips", "destination 2  # 5 trips"),
+        ("total: 8 trips", "total: 5 trips"),
+    ];
+    refused_of(
+        LORRIES,
+        "11-no-links",
+        &[&reversed[..], &lorries_alone].concat(),
+        NO_PATH,
+        "node 0 has 4 lorry trips to destination 2 and no path to it",
+    );
+}
+
+#[test]
 fn refused_19() {
     let answer = "19: a node's closed byte is neither 0 nor 1";
     refused_of(
@@ -447,6 +623,32 @@ fn refused_19() {
         ],
         "8: a destination is not a node, or the destinations are not strictly ascending",
         "destination 4, limit 0 to 3",
+    );
+}
+
+#[test]
+fn refused_23() {
+    let answer = "23: a link's barred byte is neither 0 nor 1";
+    let refused = |name: &str, edits: &[(&str, &str)], answer: &str, culprit: &str| {
+        refused_of(LORRIES, &format!("23-{name}"), edits, answer, culprit);
+    };
+    let wrong = ("barred 2", "barred 1:2");
+    let culprit = "link 1: barred byte 2, limit 0 to 1";
+    refused("byte", &[wrong], answer, culprit);
+    refused(
+        "last",
+        &[("barred 2", "barred 0 2 4:255")],
+        answer,
+        "link 4: barred byte 255, limit 0 to 1",
+    );
+    // Asked before 9, and after 19.
+    let own = ("  lorries from 3: 1", "  lorries from 2: 1");
+    refused("before-9", &[wrong, own], answer, culprit);
+    refused(
+        "after-19",
+        &[wrong, ("closed 1", "closed 1:2")],
+        "19: a node's closed byte is neither 0 nor 1",
+        "node 1: closed byte 2, limit 0 to 1",
     );
 }
 
@@ -582,12 +784,12 @@ fn not_a_whole_number() {
 
 #[test]
 fn counts_out_of_range() {
-    for version in [0, 4] {
+    for version in [0, 5] {
         bad(
             &format!("version-{version}"),
             "study 1",
             &format!("study {version}"),
-            &format!("line 3: study {version}, limit 1 to 3"),
+            &format!("line 3: study {version}, limit 1 to 4"),
         );
     }
     bad(
@@ -742,6 +944,109 @@ fn closed_lines_at_fault() {
 }
 
 #[test]
+fn barred_lines_at_fault() {
+    bad_lorries(
+        "link",
+        "barred 2",
+        "barred 2 5",
+        "line 11: barred link 5, limit 0 to 4",
+    );
+    bad_lorries(
+        "word",
+        "barred 2",
+        "barred 0-1",
+        "line 11: barred link `0-1` is not a whole number, limit 0 to 4",
+    );
+    bad_lorries(
+        "byte",
+        "barred 2",
+        "barred 2:256",
+        "line 11: barred byte 256, limit 0 to 255",
+    );
+    bad_lorries(
+        "twice",
+        "barred 2",
+        "barred 2\nbarred 0 2",
+        "line 12: barred link 2 for the second time",
+    );
+    bad_lorries(
+        "empty",
+        "barred 2",
+        "barred",
+        "line 11: `barred`, must be `barred LINK LINK ...`",
+    );
+    bad_lorries(
+        "before-closed",
+        "closed 1\n\nbarred 2\n",
+        "barred 2\nclosed 1\n",
+        "line 10: found `closed 1` where link 0 of 5 (they count from 0) is due",
+    );
+    bad_powers(
+        "barred",
+        "closed 1\n",
+        "closed 1\nbarred 2\n",
+        "line 9: barred links in a study of version 3, must be 4 or later",
+    );
+}
+
+#[test]
+fn lorry_lines_at_fault() {
+    bad_powers(
+        "lorries",
+        "  from 0: 2\n",
+        "  from 0: 2\n  lorries from 0: 1\n",
+        "line 18: lorry trips in a study of version 3, must be 4 or later",
+    );
+    bad_lorries(
+        "colon",
+        "lorries from 0: 4",
+        "lorries from 0 4",
+        "line 23: `lorries from 0 4`, must be `lorries from NODE: TRIPS`",
+    );
+    bad_lorries(
+        "node",
+        "lorries from 0: 4",
+        "lorries from 4: 4",
+        "line 23: lorries from node 4, limit 0 to 3",
+    );
+    bad_lorries(
+        "trips",
+        "lorries from 0: 4",
+        "lorries from 0: 65536",
+        "line 23: lorry trips 65536, limit 0 to 65,535",
+    );
+    bad_lorries(
+        "second",
+        "lorries from 3: 1",
+        "lorries from 0: 1",
+        "line 24: a second line `lorries from 0` for destination 2",
+    );
+    for (name, line) in [("to", "lorries to 0: 4"), ("lorry", "lorry from 0: 4")] {
+        bad_lorries(
+            name,
+            "lorries from 0: 4",
+            line,
+            &format!(
+                "line 23: found `{line}` where `from`, `lorries from`, `total:`, `check:` or the \
+                 end is due"
+            ),
+        );
+    }
+}
+
+#[test]
+fn lorry_totals_that_no_longer_hold_are_reported() {
+    let text = with(LORRIES, "lorries from 0: 4", "lorries from 0: 6");
+    let outcome = folder("lorries-stale", &text).study(&COMMAND);
+    assert_eq!(
+        outcome.stderr,
+        "town.txt: line 26: says `total: 8 trips (5 lorry trips)`, but now it is \
+         `total: 10 trips (7 lorry trips)`\n"
+    );
+    outcome.ok();
+}
+
+#[test]
 fn not_text() {
     let folder = Folder::new("text-binary");
     folder.put("town.txt", b"study 1\nnodes \xff\n");
@@ -779,6 +1084,10 @@ fn powers_with(place: usize, bytes: &[u8]) -> Vec<u8> {
     edited(&POWERS_FILE, place, bytes)
 }
 
+fn lorries_with(place: usize, bytes: &[u8]) -> Vec<u8> {
+    edited(&LORRIES_FILE, place, bytes)
+}
+
 #[test]
 fn refused_1() {
     let answer = "check: refused 1: the file is not 32 to 65,536 bytes long\n";
@@ -801,13 +1110,13 @@ fn refused_1() {
 
 #[test]
 fn refused_2() {
-    for version in [0, 4] {
+    for version in [0, 5] {
         shows_only(
             &format!("2-{version}"),
             &town_with(0, &[version]),
             &format!(
-                "check: refused 2: the version is not 1, 2 or 3\n\
-                 found: version {version}, limit 1 to 3\n"
+                "check: refused 2: the version is not 1, 2, 3 or 4\n\
+                 found: version {version}, limit 1 to 4\n"
             ),
         );
     }
@@ -831,7 +1140,7 @@ fn refused_3() {
 
 const ANSWER_4: &str = "check: refused 4: a section begins inside the header, runs into the next \
                         one or past the end of the file, or the file is shorter than its version's \
-                        header (32 bytes, 40 from version 2 on)\n";
+                        header (32 bytes, 40 in versions 2 and 3, 56 in version 4)\n";
 
 #[test]
 fn refused_4_in_version_2() {
@@ -899,6 +1208,47 @@ fn refused_4_in_version_3() {
 }
 
 #[test]
+fn refused_4_in_version_4() {
+    let answer = ANSWER_4;
+    for bytes in [32, 40, 55] {
+        shows_only(
+            &format!("4-lorries-{bytes}"),
+            &LORRIES_FILE[..bytes],
+            &format!("{answer}found: {bytes} bytes, but the header of version 4 has 56\n"),
+        );
+    }
+    shows_only(
+        "4-lorries-links",
+        &lorries_with(8, &[55]),
+        &format!("{answer}found: links begin at byte 55, must be 56 or later\n"),
+    );
+    shows_only(
+        "4-lorries-trips",
+        &lorries_with(40, &[129]),
+        &format!(
+            "{answer}found: closed bytes begin at byte 126 and have 4 bytes, so they end at 130, \
+             limit 129, where lorry trips begin\n"
+        ),
+    );
+    shows_only(
+        "4-lorries-barred",
+        &lorries_with(48, &[137]),
+        &format!(
+            "{answer}found: lorry trips begin at byte 130 and have 8 bytes, so they end at 138, \
+             limit 137, where barred bytes begin\n"
+        ),
+    );
+    shows_only(
+        "4-lorries-end",
+        &LORRIES_FILE[..142],
+        &format!(
+            "{answer}found: barred bytes begin at byte 138 and have 5 bytes, so they end at 143, \
+             limit 142, the end of the file\n"
+        ),
+    );
+}
+
+#[test]
 fn refused_4() {
     let answer = ANSWER_4;
     shows_only(
@@ -935,8 +1285,9 @@ fn refused_4() {
 #[test]
 fn refused_5() {
     let answer = "check: refused 5: the length of a section does not fit the counts: 10 bytes a \
-                  link (12 in version 3), 2 a destination, 2 for each destination and node and, \
-                  from version 2 on, 1 a node\n";
+                  link (12 from version 3 on), 2 a destination, 2 for each destination and node, \
+                  from version 2 on 1 a node and, in version 4, again 2 for each destination and \
+                  node, and 1 a link\n";
     for (name, file, found) in [
         (
             "5",
@@ -963,6 +1314,16 @@ fn refused_5() {
             "5-powers-closed",
             powers_with(36, &[3]),
             "closed bytes have 3 bytes, must have 4 = 1 × 4 nodes",
+        ),
+        (
+            "5-lorries-trips",
+            lorries_with(44, &[7]),
+            "lorry trips have 7 bytes, must have 8 = 2 × 1 destination × 4 nodes",
+        ),
+        (
+            "5-lorries-barred",
+            lorries_with(52, &[4]),
+            "barred bytes have 4 bytes, must have 5 = 1 × 5 links",
         ),
     ] {
         shows_only(name, &file, &format!("{answer}found: {found}\n"));
@@ -1013,6 +1374,12 @@ fn gaps_are_left_out() {
     file.insert(88, 7);
     file.push(7);
     shown_and_packed("powers-gaps", &file, POWERS, &POWERS_FILE);
+
+    // A byte more before the barred bytes, and one at the end.
+    let mut file = lorries_with(48, &[139]);
+    file.insert(138, 7);
+    file.push(7);
+    shown_and_packed("lorries-gaps", &file, LORRIES, &LORRIES_FILE);
 }
 
 /// Show prints this text of a file, and from-text makes the packed file of it.

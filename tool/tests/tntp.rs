@@ -5,7 +5,7 @@ mod common;
 use common::{Folder, with};
 use std::fs;
 use std::path::Path;
-use study_tool::format::{Link, Study};
+use study_tool::format::{Class, Link, Study};
 
 /// A triangle with the first link on line 7.
 const NET: &str = "\
@@ -603,6 +603,487 @@ fn powers_at_fault() {
     );
 }
 
+// Lorries.
+
+/// Lorry trips in the triangle, the first ones on line 5.
+const LORRY_TRIPS: &str = "\
+<NUMBER OF ZONES> 3
+<TOTAL OD FLOW> 6.5
+<END OF METADATA>
+Origin 1
+    3 :    4.0;
+Origin 2
+    3 :    2.5;     1 :    0.0;
+";
+
+const LORRY_COMMAND: [&str; 7] = [
+    "from-tntp",
+    "net.tntp",
+    "trips.tntp",
+    "--out",
+    "out",
+    "--lorry-trips",
+    "lorries.tntp",
+];
+
+fn lorry_folder(name: &str, lorries: &str, barred: &str) -> Folder {
+    let folder = folder(&format!("lorries-{name}"), NET, TRIPS);
+    folder.put("lorries.tntp", lorries);
+    folder.put("barred.txt", barred);
+    folder
+}
+
+/// The command with options more.
+fn lorry_command<'a>(options: &[&'a str]) -> Vec<&'a str> {
+    [&LORRY_COMMAND[..], options].concat()
+}
+
+fn bad_lorries(name: &str, from: &str, to: &str, message: &str) {
+    let folder = lorry_folder(name, &with(LORRY_TRIPS, from, to), "");
+    folder.fails(&LORRY_COMMAND, &format!("lorries.tntp: {message}"));
+}
+
+fn bad_list(name: &str, list: &str, message: &str) {
+    let folder = lorry_folder(&format!("list-{name}"), LORRY_TRIPS, list);
+    let command = lorry_command(&["--barred-links", "barred.txt"]);
+    folder.fails(&command, &format!("barred.txt: {message}"));
+}
+
+/// The study that the command makes in a folder, which goes round as text.
+#[track_caller]
+fn lorry_study(folder: &Folder, options: &[&str]) -> Study {
+    folder.study(&lorry_command(options)).ok();
+    let file = folder.bytes("out");
+    assert_eq!(second::check(&file), 0);
+    let shown = folder.study(&["show", "out"]).ok();
+    folder.put("text", &shown);
+    folder.study(&["from-text", "text", "--out", "again"]).ok();
+    assert_eq!(folder.bytes("again"), file);
+    Study::read(&file).expect("a study")
+}
+
+#[test]
+fn lorries_in_the_triangle() {
+    let folder = lorry_folder("triangle", LORRY_TRIPS, "~ narrow\n3 1 ;\n");
+    let options = ["--car-units-per-lorry=1.8", "--barred-links", "barred.txt"];
+    let outcome = folder.study(&lorry_command(&options));
+    assert_eq!(
+        outcome.stderr,
+        "lorries.tntp: lorries, which make a version 4 study\n\
+         barred.txt: 1 link is barred to lorries\n\
+         rounded to the nearest whole number, halves up:\n  \
+         free times: 0 of 3\n  \
+         rises: 0 of 3\n  \
+         capacities: 1 of 3, by 0.5 trips at most (net.tntp: line 8: capacity 80.5 became 81)\n  \
+         trips: 1 of 4, by 0.5 trips at most (trips.tntp: line 8: origin 3 to 1: flow 5.5 became 6)\n  \
+         lorry trips: 2 of 3, by 0.5 trips at most (lorries.tntp: line 7: origin 2 to 3: flow 2.5 \
+         became 5)\n\
+         trips in all: 35.5, with rounding 36\n\
+         lorry trips in all: 11.7, with rounding 12\n"
+    );
+    assert_eq!(
+        outcome.ok(),
+        "out: 140 bytes, 3 nodes, 3 links (1 barred to lorries), 3 destinations, \
+         48 trips (12 lorry trips)\ncheck: accepted\n"
+    );
+    let study = lorry_study(&folder, &options);
+    assert_eq!(study.version.to_string(), "4");
+    assert_eq!(study.barred, [0, 0, 1]);
+    // Flow 4 makes 7.2 trips, and 2.5 makes 4.5.
+    let lorry_trips = |node: usize| study.destinations[node].lorry_trips.clone();
+    assert_eq!(lorry_trips(2), [7, 5, 0]);
+    assert_eq!((lorry_trips(0), lorry_trips(1)), (vec![0; 3], vec![0; 3]));
+    // Powers come along, also where b is 0.
+    assert_eq!(powers(&study), [4, 4, 1]);
+
+    // Cars are as they are without lorries.
+    let (_, plain) = closed_from("lorries-plain", NET, TRIPS);
+    let plain = Study::read(&plain.bytes("out")).expect("a study");
+    let cars = |study: &Study| -> Vec<Vec<u16>> {
+        let destinations = study.destinations.iter();
+        destinations
+            .map(|destination| destination.trips.clone())
+            .collect()
+    };
+    assert_eq!(cars(&study), cars(&plain));
+}
+
+/// Lorry trips are flow × car units ÷ vehicles per trip, rounded once.
+#[test]
+fn car_units_are_exact() {
+    for (name, options, trips, rounded) in [
+        ("one", &[][..], [4, 3, 0], true),
+        ("two", &["--car-units-per-lorry", "2"], [8, 5, 0], true),
+        (
+            "ratio",
+            &["--car-units-per-lorry", "1.6", "--vehicles-per-trip", "0.1"],
+            [64, 40, 0],
+            false,
+        ),
+        (
+            "part",
+            &[
+                "--car-units-per-lorry",
+                "0.3",
+                "--vehicles-per-trip",
+                "0.15",
+            ],
+            [8, 5, 0],
+            true,
+        ),
+    ] {
+        let folder = lorry_folder(&format!("units-{name}"), LORRY_TRIPS, "");
+        let study = lorry_study(&folder, options);
+        assert_eq!(study.destinations[2].lorry_trips, trips, "{name}");
+        let told = folder.study(&lorry_command(options)).stderr;
+        assert_eq!(told.contains("rounded to the nearest"), rounded, "{told}");
+    }
+    let digits = "1.00000000000000000000000000000000001";
+    let folder = lorry_folder("units-long", &with(LORRY_TRIPS, "4.0", "4.01"), "");
+    folder.fails(
+        &lorry_command(&["--car-units-per-lorry", digits]),
+        "lorries.tntp: line 5: origin 1 to 3: flow 4.01 cannot be kept exactly, limit about 37 \
+         digits",
+    );
+}
+
+#[test]
+fn lorry_trips_that_round_to_0_are_reported() {
+    let folder = lorry_folder("vanished", LORRY_TRIPS, "");
+    let outcome = folder.study(&lorry_command(&["--car-units-per-lorry", "0.1"]));
+    let report = "not 0 but rounded to 0, lorry trips: 2 figures\n  \
+                  lorries.tntp: line 5: origin 1 to 3: flow 4.0\n  \
+                  lorries.tntp: line 7: origin 2 to 3: flow 2.5\n\
+                  trips in all: 35.5, with rounding 36\n\
+                  lorry trips in all: 0.65, with rounding 0\n";
+    assert!(outcome.stderr.ends_with(report), "{}", outcome.stderr);
+    // It is a version 4 study all the same.
+    let study = lorry_study(&folder, &["--car-units-per-lorry", "0.1"]);
+    assert_eq!(study.version.to_string(), "4");
+}
+
+/// Nodes that receive trips of either class.
+#[test]
+fn destinations_of_lorries() {
+    let lorries = "<END OF METADATA>\nOrigin 3\n2 : 7;\n";
+    let folder = lorry_folder("destinations", lorries, "");
+    folder.put("trips.tntp", "<END OF METADATA>\nOrigin 1\n3 : 5;\n");
+    let study = lorry_study(&folder, &[]);
+    let found: Vec<_> = study
+        .destinations
+        .iter()
+        .map(|to| (to.node, to.trips.clone(), to.lorry_trips.clone()))
+        .collect();
+    assert_eq!(
+        found,
+        [
+            (1, vec![0, 0, 0], vec![0, 0, 7]),
+            (2, vec![5, 0, 0], vec![0, 0, 0]),
+        ]
+    );
+    // Lorries alone.
+    folder.put("trips.tntp", "<END OF METADATA>\nOrigin 1\n3 : 0;\n");
+    let study = lorry_study(&folder, &[]);
+    assert_eq!((study.destinations.len(), study.total()), (1, 7));
+    // Neither.
+    folder.put("lorries.tntp", "<END OF METADATA>\nOrigin 3\n2 : 0;\n");
+    fs::remove_file(folder.path("out")).expect("it was written");
+    folder.fails(
+        &LORRY_COMMAND,
+        "lorries.tntp: line 3: 0 trips in all, limit 1 or more: a study has a destination",
+    );
+}
+
+#[test]
+fn too_many_destinations_with_lorries() {
+    let mut net = "<NUMBER OF NODES> 40\n<NUMBER OF LINKS> 39\n<END OF METADATA>\n".to_owned();
+    let mut cars = "<END OF METADATA>\nOrigin 1\n".to_owned();
+    let mut lorries = cars.clone();
+    for node in 2..=40 {
+        net += &format!("1 {node} 100 1 1 0 4 0 0 1 ;\n");
+        let row = format!("{node} : 1.0;\n");
+        if node <= 30 { &mut cars } else { &mut lorries }.push_str(&row);
+    }
+    let folder = folder("lorries-too-many", &net, &cars);
+    folder.put("lorries.tntp", lorries);
+    folder.fails(
+        &LORRY_COMMAND,
+        "lorries.tntp: line 6: destination 34 is number 33 to receive trips, limit 32 destinations",
+    );
+}
+
+/// The limit is one of both classes together.
+#[test]
+fn too_many_trips_with_lorries() {
+    let lorries = |flow: &str, total: &str| {
+        let lorries = with(LORRY_TRIPS, "   4.0", flow);
+        with(&lorries, "FLOW> 6.5", &format!("FLOW> {total}"))
+    };
+    // 36 of cars and 3 of lorries leave 65,496.
+    let full = lorry_folder("full", &lorries("65496", "65498.5"), "");
+    assert_eq!(lorry_study(&full, &[]).total(), 65_535);
+    lorry_folder("over", &lorries("65497", "65499.5"), "").fails(
+        &LORRY_COMMAND,
+        "lorries.tntp: line 7: 65,536 trips in all, 36 of them in the trips file, passing the limit \
+         65,535 here (more vehicles a trip make fewer)",
+    );
+    // Without lorries the trips would fit.
+    let folder = lorry_folder("over-cell", &lorries("40000", "40002.5"), "");
+    folder.fails(
+        &lorry_command(&["--car-units-per-lorry", "2"]),
+        "lorries.tntp: line 5: origin 1 to 3: flow 40000 is 80,000 trips, limit 0 to 65,535",
+    );
+    // Cars alone are told of the trips file.
+    let trips = with(TRIPS, "   20.0", "65520.5");
+    folder.put("trips.tntp", with(&trips, "FLOW> 35.5", "FLOW> 65536.0"));
+    folder.fails(
+        &LORRY_COMMAND,
+        "trips.tntp: line 8: 65,537 trips in all, passing the limit 65,535 here \
+         (more vehicles a trip make fewer)",
+    );
+}
+
+#[test]
+fn lorry_files_at_fault() {
+    bad_lorries(
+        "zones",
+        "ZONES> 3",
+        "ZONES> 2",
+        "line 1: <NUMBER OF ZONES> 2, but the net file has 3",
+    );
+    bad_lorries(
+        "total",
+        "FLOW> 6.5",
+        "FLOW> 13.0",
+        "line 2: <TOTAL OD FLOW> 13, but the flows add up to 6.5",
+    );
+    bad_lorries(
+        "own",
+        "3 :    4.0",
+        "1 :    4.0",
+        "line 5: origin 1 has a flow of 4.0 to itself, must be 0",
+    );
+    bad_lorries(
+        "zone",
+        "3 :    4.0",
+        "4 :    4.0",
+        "line 5: destination 4, limit 1 to 3",
+    );
+    bad_lorries(
+        "negative",
+        "3 :    4.0",
+        "3 :   -4.0",
+        "line 5: origin 1 to 3: flow -4.0, limit 0 or more",
+    );
+    bad_lorries(
+        "twice",
+        "1 :    0.0",
+        "3 :    0.0",
+        "line 7: origin 2 to 3 for the second time, first on line 7",
+    );
+}
+
+/// Where the net file has no number of zones, the trips file's counts.
+#[test]
+fn zones_of_the_trips_file() {
+    let net = with(NET, "<NUMBER OF ZONES> 3\n", "");
+    let folder = lorry_folder(
+        "zones-trips",
+        &with(LORRY_TRIPS, "ZONES> 3", "ZONES> 2"),
+        "",
+    );
+    folder.put("net.tntp", &net);
+    folder.fails(
+        &LORRY_COMMAND,
+        "lorries.tntp: line 1: <NUMBER OF ZONES> 2, but the trips file has 3",
+    );
+    folder.put(
+        "lorries.tntp",
+        with(LORRY_TRIPS, "<NUMBER OF ZONES> 3\n", ""),
+    );
+    lorry_study(&folder, &[]);
+}
+
+#[test]
+fn lorries_with_closed_zones_and_powers() {
+    let net = with(
+        ZONED_NET,
+        "\t4\t5\t10\t1\t1\t0\t4",
+        "\t4\t5\t10\t1\t1\t0.5\t2",
+    );
+    let folder = folder("lorries-zoned", &net, ZONED_TRIPS);
+    folder.put("lorries.tntp", "<END OF METADATA>\nOrigin 1\n2 : 1;\n");
+    // From 1 to 2 by way of 6 or straight.
+    folder.put("barred.txt", "1 6\n1 2\n");
+    let options = ["--barred-links", "barred.txt"];
+    let outcome = folder.study(&lorry_command(&options));
+    assert_eq!(
+        outcome.stderr,
+        "net.tntp: line 3: <FIRST THRU NODE> 3: nodes 1 to 2 are closed\n\
+         lorries.tntp: lorries, which make a version 4 study\n\
+         barred.txt: 2 links are barred to lorries\n\
+         no figure was rounded\n"
+    );
+    let study = lorry_study(&folder, &options);
+    assert_eq!(study.closed, [1, 1, 0, 0, 0, 0]);
+    assert_eq!(study.barred, [0, 0, 0, 0, 0, 0, 0, 1, 1]);
+    assert_eq!(powers(&study), [4, 4, 2, 4, 4, 4, 4, 4, 4]);
+}
+
+/// The triangle with a fourth link, straight from 1 to 3.
+fn net_with_shortcut() -> String {
+    with(NET, "LINKS> 3", "LINKS> 4") + "\t1\t3\t60\t5\t5\t0\t1\t0\t0\t1\t;\n"
+}
+
+#[test]
+fn lorries_without_a_path() {
+    let barred = "but every path there leads over a barred link";
+    let command = lorry_command(&["--barred-links", "barred.txt"]);
+    let folder = lorry_folder("path", LORRY_TRIPS, "2 3\n");
+    folder.fails(
+        &command,
+        &format!("lorries.tntp: line 5: origin 1 has lorry trips to 3, {barred}"),
+    );
+    folder.put("net.tntp", net_with_shortcut());
+    folder.fails(
+        &command,
+        &format!("lorries.tntp: line 7: origin 2 has lorry trips to 3, {barred}"),
+    );
+    // No path at all is said so, whatever is barred.
+    folder.put("net.tntp", with(NET, "\t3\t1\t60", "\t1\t3\t60"));
+    folder.put("trips.tntp", "<END OF METADATA>\nOrigin 1\n3 : 5;\n");
+    folder.put("lorries.tntp", "<END OF METADATA>\nOrigin 3\n1 : 5;\n");
+    folder.fails(
+        &command,
+        "lorries.tntp: line 3: origin 3 has lorry trips to 1, but no path of links leads there",
+    );
+}
+
+/// Cars go from 1 to 3 straight; lorries may not.
+#[test]
+fn lorries_without_a_path_but_through_zones() {
+    let net = with(&net_with_shortcut(), "THRU NODE> 1", "THRU NODE> 3");
+    let fails = |name: &str, list: &str, but: &str| {
+        let folder = lorry_folder(&format!("shut-{name}"), LORRY_TRIPS, list);
+        folder.put("net.tntp", &net);
+        folder.fails(
+            &lorry_command(&["--barred-links", "barred.txt"]),
+            &format!(
+                "lorries.tntp: line 5: origin 1 has lorry trips to 3, but every path there {but}"
+            ),
+        );
+    };
+    let either = "leads through a node below <FIRST THRU NODE> 3 or over a barred link";
+    fails("either", "1 3\n", either);
+    fails("barred", "1 3\n1 2\n", "leads over a barred link");
+}
+
+#[test]
+fn barred_lists() {
+    let parallel = with(NET, "LINKS> 3", "LINKS> 5")
+        + "\t1\t2\t60\t5\t7\t0\t4\t0\t0\t1\t;\n\t1\t2\t60\t5\t8\t0\t4\t0\t0\t1\t;\n";
+    for (name, list, barred) in [
+        ("one", "3 1", [0, 0, 1, 0, 0]),
+        ("none", "~ nothing yet\n", [0, 0, 0, 0, 0]),
+        ("which", "1 2 1\n1 2 3 ;\n", [1, 0, 0, 0, 1]),
+        (
+            "second",
+            "~ init\tterm\r\n1\t2\t02;\r\n3 1 1;\r\n",
+            [0, 0, 1, 1, 0],
+        ),
+    ] {
+        let folder = lorry_folder(&format!("barred-{name}"), LORRY_TRIPS, list);
+        folder.put("net.tntp", &parallel);
+        let study = lorry_study(&folder, &["--barred-links", "barred.txt"]);
+        assert_eq!(study.barred, barred, "{name}");
+    }
+    for (name, list, message) in [
+        (
+            "which",
+            "3 1\n1 2\n",
+            "line 2: 3 links lead from 1 to 2, a third column, 1 to 3, must tell which is barred",
+        ),
+        (
+            "4",
+            "1 2 4",
+            "line 1: link from 1 to 2, number 4, limit 1 to 3",
+        ),
+        (
+            "twice",
+            "1 2 3\n1 2 2\n1 2 3\n",
+            "line 3: link from 1 to 2 for the second time, first on line 1",
+        ),
+    ] {
+        let folder = lorry_folder(&format!("parallel-{name}"), LORRY_TRIPS, list);
+        folder.put("net.tntp", &parallel);
+        let command = lorry_command(&["--barred-links", "barred.txt"]);
+        folder.fails(&command, &format!("barred.txt: {message}"));
+    }
+}
+
+#[test]
+fn barred_lists_at_fault() {
+    let columns = "a row has 2: init node, term node; and a third where several links lead there";
+    bad_list("no-link", "3 1\n1 3\n", "line 2: no link leads from 1 to 3");
+    bad_list("loop", "1 1\n", "line 1: no link leads from 1 to 1");
+    bad_list(
+        "twice",
+        "3 1\n\n3 1 1 ;\n",
+        "line 3: link from 3 to 1 for the second time, first on line 1",
+    );
+    bad_list("init", "0 1\n", "line 1: init node 0, limit 1 to 3");
+    bad_list("term", "3 4\n", "line 1: term node 4, limit 1 to 3");
+    bad_list(
+        "word",
+        "3 one\n",
+        "line 1: term node `one` is not a whole number, limit 1 to 3",
+    );
+    bad_list(
+        "which",
+        "3 1 2\n",
+        "line 1: link from 3 to 1, number 2, limit 1",
+    );
+    bad_list("short", "3\n", &format!("line 1: 1 column, {columns}"));
+    bad_list(
+        "long",
+        "3 1 1 1\n",
+        &format!("line 1: 4 columns, {columns}"),
+    );
+    bad_list(
+        "empty",
+        "3 1\n;\n",
+        &format!("line 2: 0 columns, {columns}"),
+    );
+}
+
+#[test]
+fn sioux_falls_with_lorries() {
+    let folder = folder(
+        "sioux-falls-lorries",
+        &data("SiouxFalls_net.tntp"),
+        &data("SiouxFalls_trips.tntp"),
+    );
+    folder.put("lorries.tntp", data("SiouxFalls_trips.tntp"));
+    folder.put("barred.txt", "1 2 ;\n10 16 ;\n");
+    let options = [
+        "--vehicles-per-trip=10",
+        "--car-units-per-lorry=0.2",
+        "--barred-links=barred.txt",
+    ];
+    let study = lorry_study(&folder, &options);
+    assert_eq!(
+        (study.total_of(Class::Cars), study.total()),
+        (36_060, 43_272)
+    );
+    for destination in &study.destinations {
+        let lorries = destination.trips.iter().map(|trips| trips / 5);
+        assert!(lorries.eq(destination.lorry_trips.iter().copied()));
+    }
+    let said = folder.study(&lorry_command(&options)).ok();
+    let links = "76 links (2 barred to lorries), 24 destinations, 43,272 trips (7,212 lorry trips)";
+    assert!(said.contains(links), "{said}");
+}
+
 #[test]
 fn forms_of_text_that_make_no_difference() {
     let folder = folder("forms", NET, TRIPS);
@@ -1033,6 +1514,18 @@ fn command_lines_that_make_no_sense() {
             &["from-tntp", "a", "b", "--out=out", "--time-unit", "days"],
             "--time-unit `days`, must be one of minutes, seconds, hours, hundredths",
         ),
+        (
+            &lorry_command(&["--car-units-per-lorry", "none"]),
+            "--car-units-per-lorry `none`, must be a figure above 0",
+        ),
+        (
+            &[&COMMAND[..], &["--car-units-per-lorry", "2"]].concat(),
+            "--car-units-per-lorry is for lorries, but --lorry-trips is missing",
+        ),
+        (
+            &[&COMMAND[..], &["--barred-links", "barred.txt"]].concat(),
+            "--barred-links is for lorries, but --lorry-trips is missing",
+        ),
     ] {
         let outcome = folder.study(arguments);
         assert_eq!(
@@ -1054,6 +1547,24 @@ fn inputs_are_never_overwritten() {
         "study: ./net.tntp: cannot be written: it is an input\n"
     );
     assert_eq!(folder.bytes("net.tntp"), NET.as_bytes());
+    folder.put("lorries.tntp", LORRY_TRIPS);
+    folder.put("barred.txt", "3 1\n");
+    for input in ["lorries.tntp", "barred.txt"] {
+        let outcome = folder.study(&[
+            "from-tntp",
+            "net.tntp",
+            "trips.tntp",
+            "--lorry-trips=lorries.tntp",
+            "--barred-links=barred.txt",
+            "--out",
+            input,
+        ]);
+        assert_eq!(
+            outcome.stderr,
+            format!("study: {input}: cannot be written: it is an input\n")
+        );
+        assert_eq!(outcome.status, 1);
+    }
 
     let outcome = folder.study(&["from-tntp", "net.tntp", "trips.tntp", "--out", "no/out"]);
     assert_eq!(outcome.status, 1);

@@ -4,11 +4,11 @@ use libc::STDIN_FILENO;
 use libc::STDOUT_FILENO;
 
 // One byte more is read than the longest input that holds a study, so that a longer one is refused,
-// however long it is. The table has p·m numbers for the largest p and m, and 32,768 bytes hold any
+// however long it is. The table has 2·p·m numbers for the largest p and m, and 32,768 bytes hold any
 // listing.
 fn main() {
     let mut input = [0u8; 65541];
-    let mut table = [0u32; 16384];
+    let mut table = [0u32; 32768];
     let mut listing = [0u8; 32768];
     let length = io::read_full(STDIN_FILENO, &mut input);
     let size = report::respond(&input[..length], &mut table, &mut listing);

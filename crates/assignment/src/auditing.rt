@@ -5,8 +5,11 @@ ghost use Rattle.refusals.specs.Places.{curvePlaces};
 ghost use Rattle.calls.specs.Calls.{auditAnswer};
 use crate::answers::refused_audit;
 use calls::AuditAnswer;
+use network::ALL_ENTRIES;
+use network::CAR_ENTRIES;
 use network::SHORT_ENTRIES;
 use network::SHORT_LINKS;
+use network::has_lorries;
 use refusals::curve_places;
 use refusals::is_small;
 use refusals::totals_refusal;
@@ -24,9 +27,13 @@ pub fn audit(file: &[u8], table: &[u32], share: u32) -> AuditAnswer
         return audit_in(file, table, share, &mut rows, &mut entries, &mut curves);
     }
     let mut rows = [[0u16, 0, 0, 0, 0, 0]; 512];
-    let mut entries = [0u16; 4096];
     let mut curves = [0u64; ALL_LISTS];
     let curves = &mut curves[..curve_places(file)];
+    if has_lorries(file) {
+        let mut entries = [0u16; ALL_ENTRIES];
+        return audit_in(file, table, share, &mut rows, &mut entries, curves);
+    }
+    let mut entries = [0u16; CAR_ENTRIES];
     audit_in(file, table, share, &mut rows, &mut entries, curves)
 }
 
@@ -42,21 +49,21 @@ fn audit_in(
     requires { ⌜ Room (now file) (length (now rows)) (length (now entries)) × (length (now curves) ≡ curvePlaces (now file)) ⌝ }
     ensures { λ r. ⌜ r ≡ auditAnswer (now (file .entry)) (now (table .entry)) share ⌝ }
 {
-    let mut places = [0u16; 32];
+    let mut places = [0u16; 64];
     let opening = network::decode(file, rows, &mut places, entries);
     let n = opening.nodes;
     let m = opening.links;
-    let p = opening.destinations;
+    let count = opening.commodities;
     let links = &rows[..m];
-    let destinations = &places[..p];
-    let trips = &entries[..p * n];
+    let commodities = &places[..count];
+    let trips = &entries[..count * n];
     let mut totals = [0u64; 512];
     let refusal = totals_refusal(
         file,
         opening.refusal,
         n,
         links,
-        destinations,
+        commodities,
         trips,
         table,
         share,
@@ -65,7 +72,7 @@ fn audit_in(
     if refusal != 0 {
         return refused_audit(refusal);
     }
-    let sums = judging::audit_table(n, links, destinations, trips, table, share, &totals, curves);
+    let sums = judging::audit_table(n, links, commodities, trips, table, share, &totals, curves);
     AuditAnswer {
         refusal: 0,
         gap: sums.gap,

@@ -9,11 +9,11 @@ use lib.ListN.{take, drop, replicate}
 use lib.Dec.{eqb}
 use Rattle.text.specs.Decimal.{digitsWithin, decimal, hundredths, aligned}
 use Rattle.study.specs.Bytes.{u16, u32}
-use Rattle.study.specs.Versions.{versions, formOf}
-use Rattle.study.specs.Header.{version, nodeField, linkField, destinationField, hasSection, offset, size, closedField}
-use Rattle.study.specs.Questions.{lengthFits, versionKnown, countsFit, sectionsApart, sectionsInOrder, sizesFit, opening, refusal}
-use Rattle.study.specs.Sections.{nodes, links, destinations, closedCount, part, linkPart, closedPart}
-use Rattle.study.specs.Fields.{tail, head, freeTime, rise, capacity, power as powerOf, destination, trips, closedByte}
+use Rattle.study.specs.Versions.{versions, formOf, sectionSize}
+use Rattle.study.specs.Header.{version, nodeField, linkField, destinationField, hasSection, offset, size}
+use Rattle.study.specs.Questions.{lengthFits, versionKnown, countsFit, eachSection, sectionsApart, sectionsInOrder, sizesFit, opening, refusal}
+use Rattle.study.specs.Sections.{nodes, links, destinations, lorryDestinations, part, linkPart, closedPart}
+use Rattle.study.specs.Fields.{tail, head, freeTime, rise, capacity, power as powerOf, destination, trips, markByte}
 use Rattle.theory.specs.Finite.{sum, all, first, largest, tabulate, rows}
 use Rattle.theory.specs.Network.{Network, totalTrips}
 use Rattle.theory.specs.Flows.{linkTotal, total, sumAt, balances, conserves, permits, totalsFit, step, stepTime, timeAt, times, overAt, over}
@@ -21,13 +21,13 @@ use Rattle.theory.specs.Routes.{routing, IsPath, leastOf, fromHead, round, roun
 use Rattle.theory.specs.Cost.{staircase, linkCost, cost, leastTimes, spentTimes, gap}
 use Rattle.theory.specs.Moves.{started, movedTimes, qualifies, chosen, added, doubled, move, afterMoves, reaches, stops, judged, lastJudged}
 use Rattle.theory.specs.Notes.{nextMarks, noteOf, leavesBy, notedLinks, leadsFrom, noteLeads, noteLoading, canTakeBack, takenBack}
-use Rattle.theory.specs.Study.{mayUse, network, linkMark}
+use Rattle.theory.specs.Study.{barredTo, mayUse, network, linkMark}
 use Rattle.theory.specs.Marks.{bit, marked, onlyNode, nodesBelow, union, lowest, unvisited, lowestUnvisited}
-use Rattle.calls.specs.Study.{linkRow, linkRows, destinationNodes, tripEntries, networkOf}
-use Rattle.calls.specs.Questions.{endsFit, timesFit, destinationsFit, closedFit, noTripsWithin, totalFits, hasPath, tripsReach, tableHolds, noteHolds, budgetFits, shareFits}
+use Rattle.calls.specs.Study.{linkRow, linkRows, destinationNodes, commodities, tripEntries, networkOf}
+use Rattle.calls.specs.Questions.{endsFit, timesFit, destinationsFit, marksFit, noTripsWithin, totalFits, hasPath, tripsReach, tableHolds, noteHolds, budgetFits, shareFits}
 use Rattle.calls.specs.Questions.{packedSize, outputHolds, studyQuestions, shareQuestions, checkQuestions, packQuestions, startQuestions, runQuestions, tableQuestions, pageHolds, pageQuestions, noteQuestions, passQuestions, takeBackQuestions}
 use Rattle.calls.specs.declared.Outcome.the-variants as outcome
-use Rattle.calls.specs.Pack.{bytes16, bytes32, packedHeader, packed}
+use Rattle.calls.specs.Pack.{bytes16, bytes32, sectionPlace, packedHeader, packed}
 use Rattle.calls.specs.Page.{volume, pageLine, lineOf, pageOf}
 use Rattle.calls.specs.Calls.{endingNumber, overwritten, checkNumber, packNumber, packOutput, startNumber, startTable, tableNumber, auditAnswer}
 use Rattle.calls.specs.Calls.{passNumber, passAnswer, passTable, passNote, takeBackNumber, takeBackAnswer, takeBackTable, outcomeNumber, runNumber, endingAt, runAnswer, runTable, pageNumber, pageSlice}
@@ -131,6 +131,28 @@ ringTown count =
     ++ (1 ∷ 0 ∷ 2 ∷ 0 ∷ 5 ∷ 0 ∷ 0 ∷ 0 ∷ 1 ∷ 0 ∷ [])
     ++ (2 ∷ 0 ∷ [])
     ++ (count ∷ 0 ∷ 0 ∷ 0 ∷ 0 ∷ 0 ∷ [])
+
+-- A.7: the town in version 4, with power 4 on both roads. The cars' trips from node 0 are the number whose two bytes are said; then the lorries' trips
+-- from node 0, those from the destination to itself, and the barred bytes of the two roads. File 94 bytes.
+unfoldable pub lorryTown : ℕ → ℕ → ℕ → ℕ → ℕ → ℕ → List ℕ
+lorryTown low high lorries own bar0 bar1 =
+    4 ∷ 0 ∷ 2 ∷ 0 ∷ 2 ∷ 0 ∷ 1 ∷ 0 ∷ []
+    ++ (56 ∷ 0 ∷ 0 ∷ 0 ∷ 24 ∷ 0 ∷ 0 ∷ 0 ∷ 80 ∷ 0 ∷ 0 ∷ 0 ∷ 2 ∷ 0 ∷ 0 ∷ 0 ∷ 82 ∷ 0 ∷ 0 ∷ 0 ∷ 4 ∷ 0 ∷ 0 ∷ 0 ∷ [])
+    ++ (86 ∷ 0 ∷ 0 ∷ 0 ∷ 2 ∷ 0 ∷ 0 ∷ 0 ∷ 88 ∷ 0 ∷ 0 ∷ 0 ∷ 4 ∷ 0 ∷ 0 ∷ 0 ∷ 92 ∷ 0 ∷ 0 ∷ 0 ∷ 2 ∷ 0 ∷ 0 ∷ 0 ∷ [])
+    ++ (0 ∷ 0 ∷ 1 ∷ 0 ∷ 10 ∷ 0 ∷ 10 ∷ 0 ∷ 2 ∷ 0 ∷ 4 ∷ 0 ∷ [])
+    ++ (0 ∷ 0 ∷ 1 ∷ 0 ∷ 15 ∷ 0 ∷ 0 ∷ 0 ∷ 1 ∷ 0 ∷ 4 ∷ 0 ∷ [])
+    ++ (1 ∷ 0 ∷ [])
+    ++ (low ∷ high ∷ 0 ∷ 0 ∷ [])
+    ++ (0 ∷ 0 ∷ [])
+    ++ (lorries ∷ 0 ∷ own ∷ 0 ∷ [])
+    ++ (bar0 ∷ bar1 ∷ [])
+
+-- Two cars and a lorry, which is barred from road 0; and the same with nothing barred.
+abbrev pub barredTown : List ℕ
+barredTown = lorryTown 2 0 1 0 1 0
+
+abbrev pub sharedTown : List ℕ
+sharedTown = lorryTown 2 0 1 0 0 0
 
 -- A case: what the definitions give, and what the paper says.
 pub record Case : Type 0 where
@@ -271,8 +293,8 @@ cases =
     -- A closed byte of 2 is refused 19, before 9. The zone with no way round it: 11 where it is closed.
     ∷ case (checkNumber (zoneTown 0 2) ∷ checkNumber (zoneTown 1 2) ∷ checkNumber (zoneTown 1 1) ∷ []) (19 ∷ 19 ∷ 9 ∷ [])
     ∷ case (checkNumber (zoneOnly 0) ∷ checkNumber (zoneOnly 1) ∷ []) (0 ∷ 11 ∷ [])
-    -- A version 2 file of 39 bytes is refused 4; so is one whose header is there, but not its sections. Version 4 is refused 2.
-    ∷ case (checkNumber (take 39 (zoneTown 0 1)) ∷ checkNumber (take 40 (zoneTown 0 1)) ∷ checkNumber (4 ∷ drop 1 (zoneTown 0 1)) ∷ []) (4 ∷ 4 ∷ 2 ∷ [])
+    -- A version 2 file of 39 bytes is refused 4; so is one whose header is there, but not its sections. Version 5 is refused 2.
+    ∷ case (checkNumber (take 39 (zoneTown 0 1)) ∷ checkNumber (take 40 (zoneTown 0 1)) ∷ checkNumber (5 ∷ drop 1 (zoneTown 0 1)) ∷ []) (4 ∷ 4 ∷ 2 ∷ [])
     -- Pack keeps the version and wants its whole packed size.
     ∷ case (packOutput (zoneTown 0 1) (replicate 95 7)) (zoneTown 0 1 ++ (7 ∷ []))
     ∷ case (packNumber (zoneTown 0 1) (replicate 93 7) ∷ packNumber (zoneTown 0 1) (replicate 94 7) ∷ []) (17 ∷ 0 ∷ [])
@@ -330,6 +352,28 @@ cases =
     ∷ case (takeBackNumber town (16 ∷ 2 ∷ []) 9 (9 ∷ 0 ∷ 7 ∷ []) ∷ takeBackNumber town (16 ∷ 2 ∷ []) 9 (2000 ∷ 0 ∷ 7 ∷ []) ∷ takeBackNumber town (16 ∷ 2 ∷ []) 9 (9 ∷ 2 ∷ 7 ∷ []) ∷ []) (22 ∷ 22 ∷ 21 ∷ [])
     ∷ case (back town (16 ∷ 2 ∷ []) 9 (2 ∷ 1 ∷ 7 ∷ [])) (22 ∷ 0 ∷ 16 ∷ 2 ∷ [])
     ∷ case (takeBackNumber town (3 ∷ 1 ∷ []) 2 (0 ∷ 7 ∷ 7 ∷ []) ∷ takeBackNumber town (4 ∷ 2 ∷ []) 3 (0 ∷ 7 ∷ 7 ∷ []) ∷ []) (22 ∷ 22 ∷ [])
+    -- A.7: cars and lorries part where road 0 is barred; they do not where nothing is. Later numbers are untouched.
+    ∷ case (startTable barredTown (replicate 5 7) ++ startTable sharedTown (replicate 5 7)) (2 ∷ 0 ∷ 0 ∷ 1 ∷ 7 ∷ 2 ∷ 0 ∷ 1 ∷ 0 ∷ 7 ∷ [])
+    -- S is the total of both: road 0 takes 20 with the cars alone, and 60 with the lorry. One gap for both classes, of each one's own distances.
+    ∷ case (times (networkOf barredTown) 1 (2 ∷ 0 ∷ 0 ∷ 1 ∷ []) ++ times (networkOf sharedTown) 1 (2 ∷ 0 ∷ 1 ∷ 0 ∷ [])) (20 ∷ 15 ∷ 60 ∷ 15 ∷ [])
+    ∷ case (auditAnswer barredTown (2 ∷ 0 ∷ 0 ∷ 1 ∷ []) 1 .gap ∷ auditAnswer sharedTown (2 ∷ 0 ∷ 1 ∷ 0 ∷ []) 1 .gap ∷ []) (10 ∷ 135 ∷ [])
+    -- With no lorry trips and nothing barred, the numbers are those of version 3: the run of power 4, and the lorries' part all 0.
+    ∷ case (let a = runAnswer (lorryTown 2 0 0 0 0 0) (replicate 4 7) 10 0 in endingNumber (a .ending) ∷ a .judged ∷ a .share ∷ a .gap ∷ runTable (lorryTown 2 0 0 0 0 0) (replicate 4 7) 10 0) (curvedRan 4 ++ (0 ∷ 0 ∷ []))
+    -- Lorry trips at their own destination: 9. Both trip tables together 65,536: 10, and 65,535 accepted. A barred byte of 2: 23, before 9.
+    ∷ case (checkNumber (lorryTown 2 0 1 1 0 0) ∷ checkNumber (lorryTown 255 255 1 0 0 0) ∷ checkNumber (lorryTown 254 255 1 0 0 0) ∷ []) (9 ∷ 10 ∷ 0 ∷ [])
+    ∷ case (checkNumber (lorryTown 2 0 1 0 2 0) ∷ checkNumber (lorryTown 2 0 1 1 0 2) ∷ []) (23 ∷ 23 ∷ [])
+    -- Both roads barred: 11 for the lorry alone, and accepted without it.
+    ∷ case (checkNumber (lorryTown 2 0 1 0 1 1) ∷ checkNumber (lorryTown 2 0 0 0 1 1) ∷ checkNumber barredTown ∷ []) (11 ∷ 0 ∷ 0 ∷ [])
+    -- A lorry on the barred road: 20; the cars may go by it. A table of 2·p·m − 1 and a note of 2·p·n numbers: 12.
+    ∷ case (tableNumber barredTown (2 ∷ 0 ∷ 1 ∷ 0 ∷ []) 1 ∷ tableNumber barredTown (2 ∷ 0 ∷ 0 ∷ 1 ∷ []) 1 ∷ tableNumber sharedTown (2 ∷ 0 ∷ 1 ∷ 0 ∷ []) 1 ∷ []) (20 ∷ 0 ∷ 0 ∷ [])
+    ∷ case (startNumber barredTown (replicate 3 7) ∷ passNumber barredTown (2 ∷ 0 ∷ 0 ∷ 1 ∷ []) 1 (replicate 4 7) ∷ passNumber barredTown (2 ∷ 0 ∷ 0 ∷ 1 ∷ []) 1 (replicate 5 7) ∷ []) (12 ∷ 12 ∷ 0 ∷ [])
+    -- A pass notes the next links of both classes, cars first; taking back restores the table. A note that leads lorries by a barred road: 21.
+    ∷ case (passTable barredTown (16 ∷ 0 ∷ 0 ∷ 8 ∷ []) 8 (replicate 6 7) ++ passNote barredTown (16 ∷ 0 ∷ 0 ∷ 8 ∷ []) 8 (replicate 6 7)) (16 ∷ 2 ∷ 0 ∷ 9 ∷ 1 ∷ 1 ∷ 65535 ∷ 1 ∷ 65535 ∷ 7 ∷ [])
+    ∷ case (back barredTown (16 ∷ 2 ∷ 0 ∷ 9 ∷ []) 9 (1 ∷ 1 ∷ 65535 ∷ 1 ∷ 65535 ∷ [])) (0 ∷ 8 ∷ 16 ∷ 0 ∷ 0 ∷ 8 ∷ [])
+    ∷ case (takeBackNumber barredTown (16 ∷ 2 ∷ 0 ∷ 9 ∷ []) 9 (1 ∷ 1 ∷ 7 ∷ 0 ∷ 7 ∷ []) ∷ takeBackNumber barredTown (16 ∷ 2 ∷ 0 ∷ 9 ∷ []) 9 (1 ∷ 0 ∷ 7 ∷ 1 ∷ 7 ∷ []) ∷ []) (21 ∷ 0 ∷ [])
+    -- A version 4 file of 55 bytes is refused 4. Pack writes the new sections last.
+    ∷ case (checkNumber (take 55 barredTown) ∷ checkNumber (take 56 barredTown) ∷ []) (4 ∷ 4 ∷ [])
+    ∷ case (packOutput barredTown (replicate 95 7)) (barredTown ++ (7 ∷ []))
     ∷ []
 
 -- One lemma, by computation: the test holds of every case; and what the theorems ask of a study, a table, a share and a budget can be
@@ -353,7 +397,7 @@ pub record Computed : Type 0 where
   pub zone-sizes : (networkOf (zoneTown 0 1) .links ≡ 4) × (networkOf (zoneTown 0 1) .commodities ≡ 1)
   pub zone-head : networkOf (zoneTown 0 1) .head 0 ≡ 1
   pub zone-destination : networkOf (zoneTown 0 1) .destination 0 ≡ 2
-  pub zone-byte : closedByte (closedPart (zoneTown 0 1)) 1 ≡ 1
+  pub zone-byte : markByte (closedPart (zoneTown 0 1)) 1 ≡ 1
   pub zone-pack : packNumber (zoneTown 0 1) (replicate 94 7) ≡ 0
   pub zone-way : IsPath (routing (networkOf (zoneTown 0 1)) (5 ∷ 5 ∷ 10 ∷ 10 ∷ []) 0) 0 (2 ∷ 3 ∷ [])
   pub zone-avoided : tableNumber (zoneTown 0 1) (0 ∷ 1 ∷ 2 ∷ 2 ∷ []) 1 ≡ 0
@@ -375,9 +419,15 @@ pub record Computed : Type 0 where
   pub none-chosen : chosen g 1 (total g (2 ∷ 0 ∷ [])) (total g (loading g (times g 1 (2 ∷ 0 ∷ [])))) ≡ 0
   pub rests : passAnswer town (1820 ∷ 228 ∷ []) 1024 blank .outcome ≡ outcome.Finest
   pub taken-back : takeBackNumber town (16 ∷ 2 ∷ []) 9 (1 ∷ 1 ∷ 7 ∷ []) ≡ 0
+  pub lorries-shared : checkNumber sharedTown ≡ 0
+  pub lorries-barred : checkNumber barredTown ≡ 0
+  pub lorries-stranded : checkNumber (lorryTown 2 0 1 0 1 1) ≡ 11
+  pub cars-alone : checkNumber (lorryTown 2 0 0 0 1 1) ≡ 0
+  pub lorry-table : tableNumber sharedTown (2 ∷ 0 ∷ 0 ∷ 1 ∷ []) 1 ≡ 0
+  pub other-table : tableNumber sharedTown (1 ∷ 1 ∷ 1 ∷ 0 ∷ []) 1 ≡ 0
 
 pub computed : Computed
-unfolding cases case town strandedTown fullTown busyTown curvedTown zoneTown zoneServed zoneOnly ringTown townLines fullLine digitsWithin decimal hundredths aligned u16 u32 versions formOf version nodeField linkField destinationField hasSection offset size closedField lengthFits versionKnown countsFit sectionsApart sectionsInOrder sizesFit opening refusal nodes links destinations closedCount part tail head freeTime rise capacity powerOf destination trips closedByte sum all first largest tabulate rows totalTrips linkTotal sumAt balances conserves permits totalsFit step stepTime times over leastOf fromHead round rounds distances fitsNext nextLinks walk sentAlong loadingRow loading staircase linkCost cost leastTimes spentTimes gap started movedTimes qualifies chosen added doubled move afterMoves reaches stops judged lastJudged linkRow linkRows destinationNodes tripEntries mayUse network networkOf endsFit timesFit destinationsFit closedFit noTripsWithin totalFits hasPath tripsReach tableHolds noteHolds budgetFits shareFits packedSize outputHolds studyQuestions shareQuestions checkQuestions packQuestions startQuestions runQuestions tableQuestions bytes16 bytes32 packedHeader packed packNumber packOutput overwritten checkNumber startNumber startTable tableNumber auditAnswer passNumber passAnswer passTable passNote takeBackNumber takeBackAnswer takeBackTable runNumber endingAt runAnswer runTable pageHolds pageQuestions noteQuestions passQuestions takeBackQuestions nextMarks noteOf leavesBy notedLinks leadsFrom noteLeads noteLoading canTakeBack takenBack linkMark pageLine lineOf pageOf pageNumber pageSlice bit marked onlyNode nodesBelow union lowest unvisited lowestUnvisited
+unfolding cases case town strandedTown fullTown busyTown curvedTown zoneTown zoneServed zoneOnly ringTown lorryTown townLines fullLine digitsWithin decimal hundredths aligned u16 u32 versions formOf sectionSize version nodeField linkField destinationField hasSection offset size lengthFits versionKnown countsFit eachSection sectionsApart sectionsInOrder sizesFit opening refusal nodes links destinations lorryDestinations part tail head freeTime rise capacity powerOf destination trips markByte sum all first largest tabulate rows totalTrips linkTotal sumAt balances conserves permits totalsFit step stepTime times over leastOf fromHead round rounds distances fitsNext nextLinks walk sentAlong loadingRow loading staircase linkCost cost leastTimes spentTimes gap started movedTimes qualifies chosen added doubled move afterMoves reaches stops judged lastJudged linkRow linkRows destinationNodes commodities tripEntries barredTo mayUse network networkOf endsFit timesFit destinationsFit marksFit noTripsWithin totalFits hasPath tripsReach tableHolds noteHolds budgetFits shareFits packedSize outputHolds studyQuestions shareQuestions checkQuestions packQuestions startQuestions runQuestions tableQuestions bytes16 bytes32 sectionPlace packedHeader packed packNumber packOutput overwritten checkNumber startNumber startTable tableNumber auditAnswer passNumber passAnswer passTable passNote takeBackNumber takeBackAnswer takeBackTable runNumber endingAt runAnswer runTable pageHolds pageQuestions noteQuestions passQuestions takeBackQuestions nextMarks noteOf leavesBy notedLinks leadsFrom noteLeads noteLoading canTakeBack takenBack linkMark pageLine lineOf pageOf pageNumber pageSlice bit marked onlyNode nodesBelow union lowest unvisited lowestUnvisited
 computed =
     record {
       every-case-holds = refl;
@@ -420,4 +470,10 @@ computed =
       none-chosen = refl;
       rests = refl;
       taken-back = refl;
+      lorries-shared = refl;
+      lorries-barred = refl;
+      lorries-stranded = refl;
+      cars-alone = refl;
+      lorry-table = refl;
+      other-table = refl;
     }

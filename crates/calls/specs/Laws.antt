@@ -1,5 +1,6 @@
 -- Laws of the definitions beside this file. Nothing here needs to be believed: the check proves it.
 pub mod Questions
+pub mod Commodities
 pub mod Networks
 pub mod Calls
 pub mod Pack

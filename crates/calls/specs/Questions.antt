@@ -7,18 +7,18 @@ use mathlib.Core.Option.{none}
 use lib.ListN.{length, getD, replicate}
 use lib.Dec.{leb, ltb, eqb}
 use Rattle.study.specs.Questions.{Question, within, opening}
-use Rattle.study.specs.Versions.{formOf}
+use Rattle.study.specs.Versions.{formOf, sectionSize}
 use Rattle.study.specs.Header.{version}
-use Rattle.study.specs.Sections.{nodes, links, destinations, closedCount, closedPart}
-use Rattle.study.specs.Fields.{closedByte}
-use Rattle.theory.specs.Finite.{all, tabulate}
+use Rattle.study.specs.Sections.{nodes, links, destinations, closedPart, barredPart}
+use Rattle.study.specs.Fields.{markByte}
+use Rattle.theory.specs.Finite.{sum, all, tabulate}
 use Rattle.theory.specs.Network.{Network, totalTrips}
 use Rattle.theory.specs.Flows.{totalsFit, conserves, permits}
 use Rattle.theory.specs.Routes.{routing, distances, isSome}
 use Rattle.theory.specs.Moves.{tableSize}
 use Rattle.theory.specs.Notes.{noteSize, noteLeads, canTakeBack}
 use Rattle.theory.specs.Study.{freeTime, rise, capacity, power, network}
-use Rattle.calls.specs.Study.{linkRows, destinationNodes, tripEntries, networkOf}
+use Rattle.calls.specs.Study.{linkRows, destinationNodes, commodities, tripEntries, networkOf}
 
 -- 6. Are each link's tail and head below n and different?
 unfoldable pub endsFit : Network → Bool
@@ -31,14 +31,14 @@ timesFit rows =
     within 1 16383 (freeTime rows l) && within 0 16383 (rise rows l) && leb 1 (capacity rows l) && within 1 4 (power rows l))
 
 -- 8. Are the destinations below n and strictly ascending?
-unfoldable pub destinationsFit : Network → Bool
-destinationsFit g =
-    all (g .commodities) (λ k. ltb (g .destination k) (g .nodes))
-    && all (g .commodities - 1) (λ k. ltb (g .destination k) (g .destination (k + 1)))
+unfoldable pub destinationsFit : ℕ → List ℕ → Bool
+destinationsFit n nodeList =
+    all (length nodeList) (λ k. ltb (getD nodeList k 0) n)
+    && all (length nodeList - 1) (λ k. ltb (getD nodeList k 0) (getD nodeList (k + 1) 0))
 
--- 19 (A.2). Is every closed byte 0 or 1?
-unfoldable pub closedFit : List ℕ → Bool
-closedFit closedBytes = all (length closedBytes) (λ j. leb (closedByte closedBytes j) 1)
+-- 19 (A.2). Is every closed byte 0 or 1? 23 (A.7). Is every barred byte?
+unfoldable pub marksFit : List ℕ → Bool
+marksFit bytes = all (length bytes) (λ i. leb (markByte bytes i) 1)
 
 -- 9. Is D(s,s) zero for every destination?
 unfoldable pub noTripsWithin : Network → Bool
@@ -61,11 +61,11 @@ tripsReach g =
     let path = hasPath g k in
     all (g .nodes) (λ j. eqb (g .trips k j) 0 || getD path j true))
 
--- 12. Does the flow table hold at least p·m numbers of 32 bits?
+-- 12. Does the flow table hold at least p·m numbers of 32 bits, and 2·p·m in version 4 (A.7): a row for each commodity?
 unfoldable pub tableHolds : Network → List ℕ → Bool
 tableHolds g table = leb (tableSize g) (length table)
 
--- 12 (A.6), of a call that is lent a note: does the note hold at least 1 + p·n numbers of 16 bits?
+-- 12 (A.6), of a call that is lent a note: does the note hold at least 1 + p·n numbers of 16 bits, and 1 + 2·p·n in version 4?
 unfoldable pub noteHolds : Network → List ℕ → Bool
 noteHolds g note = leb (noteSize g) (length note)
 
@@ -77,14 +77,12 @@ budgetFits budget = within 1 1024 budget
 unfoldable pub shareFits : ℕ → Bool
 shareFits share = within 1 1024 share
 
--- The packed size: 32 + 10m + 2p + 2pn bytes in version 1, 40 + 10m + 2p + 2pn + n in version 2, 40 + 12m + 2p + 2pn + n in version 3.
+-- The packed size, the header and the version's sections: 32 + 10m + 2p + 2pn bytes in version 1, 40 + 10m + 2p + 2pn + n in version 2,
+-- 40 + 12m + 2p + 2pn + n in version 3 and 56 + 12m + 2p + 2pn + n + 2pn + m in version 4.
 unfoldable pub packedSize : List ℕ → ℕ
 packedSize file =
     formOf (version file) .header
-    + formOf (version file) .link * links file
-    + 2 * destinations file
-    + 2 * destinations file * nodes file
-    + closedCount file
+    + sum (formOf (version file) .sections) (sectionSize (version file) (nodes file) (links file) (destinations file))
 
 -- 17. Is the output slice at least that long?
 unfoldable pub outputHolds : List ℕ → List ℕ → Bool
@@ -98,14 +96,15 @@ pageHolds g page = leb (30 * g .links) (length page)
 abbrev pub ask : ℕ → Bool → Question
 ask number answer = record { number = number; yes = answer }
 
--- Questions 6 to 11 of a study whose file passes 1 to 5, with 19 after 8;
-unfoldable pub studyQuestions : ℕ → List (List ℕ) → List ℕ → List ℕ → List ℕ → List Question
-studyQuestions n rows nodeList closedBytes entries =
-    let g = network n rows nodeList entries in
+-- Questions 6 to 11 of a study whose file passes 1 to 5, with 19 and 23 after 8;
+unfoldable pub studyQuestions : ℕ → List (List ℕ) → List ℕ → List ℕ → List ℕ → List ℕ → List ℕ → List Question
+studyQuestions n rows nodeList closedBytes barredBytes commodityList entries =
+    let g = network n rows commodityList entries in
     ask 6 (endsFit g)
     ∷ ask 7 (timesFit rows)
-    ∷ ask 8 (destinationsFit g)
-    ∷ ask 19 (closedFit closedBytes)
+    ∷ ask 8 (destinationsFit n nodeList)
+    ∷ ask 19 (marksFit closedBytes)
+    ∷ ask 23 (marksFit barredBytes)
     ∷ ask 9 (noTripsWithin g)
     ∷ ask 10 (totalFits g)
     ∷ ask 11 (tripsReach g)
@@ -120,10 +119,11 @@ shareQuestions g table share =
     ∷ ask 20 (permits g table)
     ∷ []
 
--- Check puts 1 to 8, 19, 9 to 11;
+-- Check puts 1 to 8, 19, 23, 9 to 11;
 unfoldable pub checkQuestions : List ℕ → List Question
 checkQuestions file =
-    opening file ++ studyQuestions (nodes file) (linkRows file) (destinationNodes file) (closedPart file) (tripEntries file)
+    opening file
+    ++ studyQuestions (nodes file) (linkRows file) (destinationNodes file) (closedPart file) (barredPart file) (commodities file) (tripEntries file)
 
 -- pack those, then 17;
 unfoldable pub packQuestions : List ℕ → List ℕ → List Question

@@ -14,4 +14,5 @@ pub mod NextNodes
 pub mod PastCurves
 pub mod Powers
 pub mod TakingBack
+pub mod Lorries
 pub mod Instances

@@ -7,7 +7,7 @@ use mathlib.Core.List.{List, [], _++_, append-nil}
 use lib.Dec.{eqb, eqb·suc-zero}
 use lib.ListN.{length, take, drop, length-append, length-drop}
 use lib.Seq.{take-at, drop-at}
-use borrow.Author.Tests.{leb-true, ne-eqb}
+use borrow.Author.Tests.{leb-true}
 use Rattle.study.specs.Questions.{refusal}
 use Rattle.study.specs.Laws.{accepted}
 use Rattle.calls.specs.Questions.{packedSize, outputHolds}
@@ -15,7 +15,8 @@ use Rattle.calls.specs.Pack.{packed}
 use Rattle.calls.specs.Calls.{overwritten, checkNumber, packNumber, packOutput}
 use Rattle.calls.specs.Laws.Questions.{pack-number, check-passed}
 use Rattle.calls.specs.Laws.Calls.{pack-kept}
-use Rattle.demands.specs.Packing.ReadBack.{packed-length, packed-shorter, packed-version, packed-accepted, packed-nodes, packed-links, packed-destinations, packed-link-part, packed-destination-part, packed-trip-part, packed-closed-part}
+use Rattle.calls.specs.Laws.Pack.{packed-length}
+use Rattle.demands.specs.Packing.ReadBack.{packed-shorter, packed-version, packed-accepted, packed-nodes, packed-links, packed-destinations, packed-part}
 use Rattle.demands.specs.Packing.Same.{SameStudy, same-packed, same-check, same-pack-output}
 pub mod Bytes
 pub mod Header
@@ -33,10 +34,7 @@ packing-reads-back file rest e fits =
       same-nodes = packed-nodes file rest e fits;
       same-links = packed-links file rest e fits;
       same-destinations = packed-destinations file rest e fits;
-      same-link-part = packed-link-part file rest e fits;
-      same-destination-part = packed-destination-part file rest e fits;
-      same-trip-part = packed-trip-part file rest e fits;
-      same-closed-part = packed-closed-part file rest e fits;
+      same-part = packed-part file rest e fits;
     }
 
 -- With no later bytes the packed file is never too long: packing makes no file longer.

@@ -5,7 +5,7 @@ use native.Mathlib.Omega.{arith}
 use mathlib.Core.Path.{_≡_, _∙_, ap}
 use mathlib.Core.List.{List, []}
 use Rattle.study.specs.Header.{version}
-use Rattle.study.specs.Sections.{links, linkSize, linkPart, closedPart}
+use Rattle.study.specs.Sections.{links, linkSize, linkPart, closedPart, barredPart}
 use Rattle.study.specs.Fields.{freeTime, rise, power}
 use Rattle.study.specs.Laws.{no-powers}
 use Rattle.theory.specs.Network.{Network, Sound}
@@ -36,7 +36,7 @@ powerOf file l = power (linkPart file) (linkSize file) l
 -- The height of a link's curve, by the power in its row.
 height-row : (file : List ℕ) (l r : ℕ) → l < links file → networkOf file .height l r ≡ stepTime (freeOf file l) (riseOf file l) (powerIn (linkRows file) l) r
 unfolding networkOf network linkRows linkRow
-height-row file l r h = rw (getD-tabulate (links file) (linkRow (linkPart file) (linkSize file) (closedPart file)) [] l h)
+height-row file l r h = rw (getD-tabulate (links file) (linkRow (linkPart file) (linkSize file) (closedPart file) (barredPart file)) [] l h)
 
 -- In a sound network a link's time does not fall as its flow grows: its step does not, and its curve does not fall with the step.
 rises-with-flow : (g : Network) → Sound g → (l : ℕ) → l < g .links → (share : ℕ) (flow more : ℕ → ℕ) → 1 ≤ share → flow l ≤ more l

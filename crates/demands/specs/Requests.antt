@@ -7,7 +7,8 @@ use mathlib.Core.List.{List, _∷_}
 use mathlib.Core.Logic.{_↔_}
 use lib.ListN.{length, getD, take, replicate}
 use Rattle.study.specs.Header.{version}
-use Rattle.study.specs.Sections.{links}
+use Rattle.study.specs.Sections.{links, destinations, barredPart}
+use Rattle.study.specs.Fields.{markByte}
 use Rattle.text.specs.Decimal.{decimal, hundredths}
 use Rattle.theory.specs.Network.{Network, Sound}
 use Rattle.theory.specs.Flows.{entry, Carries, stepTime, timeAt, total, overAt, over}
@@ -22,6 +23,7 @@ use Rattle.theory.specs.Laws.Finite.{Lowest}
 use Rattle.theory.specs.Laws.Moves.{chosenOf}
 use Rattle.theory.specs.Laws.Paths.{Simple}
 use Rattle.theory.specs.Laws.Times.{stepTime-mono}
+use Rattle.theory.specs.Laws.Totals.{SameFor}
 use Rattle.calls.specs.Study.{networkOf}
 use Rattle.calls.specs.Questions.{packedSize}
 use Rattle.calls.specs.Page.{lineOf, pageOf}
@@ -30,11 +32,12 @@ use Rattle.calls.specs.Calls.{passNumber, passAnswer, passTable, passNote, take
 use Rattle.calls.specs.declared.Outcome.the-variants as outcome
 use Rattle.calls.specs.Laws.Page.{LineRange, LineFits}
 use Rattle.demands.specs.Results.{Fresh}
-use Rattle.demands.specs.Zones.{Closed, Avoids, OnlyClosed, permitted-exactly, version-1-open, path-avoids, flow-avoids, pack-version, only-closed}
+use Rattle.demands.specs.Zones.{Closed, Barred, OfLorries, Avoids, OnlyClosed, permitted-exactly, version-1-open, path-avoids, flow-avoids, pack-version, only-closed}
 use Rattle.demands.specs.NextNodes.{word-of, found-exactly, none-exactly}
 use Rattle.demands.specs.PastCurves.{CountsOver, over-when, over-when-fourfold, audit-counts, pass-counts, run-counts, empty-counts}
 use Rattle.demands.specs.Powers.{freeOf, riseOf, powerOf, power-range, curve-exactly, versions-fourth, time-rises, withCurves, curves-rise, curves-bound}
 use Rattle.demands.specs.TakingBack.{routingAt, nextWalk, TakesBackTo, walk-short, walk-simple, moved-leads, moved-restores, back-carried, back-fresh, note-fresh, finest-note, doubling-note}
+use Rattle.demands.specs.Lorries.{TwoClasses, KeepsOff, OnlyBarred, barredAt, two-classes, cars-alone, barred-exactly, path-keeps-off, flow-keeps-off, cars-same, only-barred}
 use Rattle.demands.specs.Pages.{Plain, Pointed, OfLine, Largest, decimal-plain, hundredths-pointed, full-road, numbers-range, numbers-fit, line-length, line-place, page-length, page-fresh}
 
 -- A.1, volumes on paper. Whatever table the audit accepts, every number fits its columns (3, 3, 3, 8 and 8), so each line has exactly 30
@@ -68,13 +71,15 @@ request-A1 =
       slice = page-fresh;
     }
 
--- A.2, no driving through zones. The demands hold of both versions as they stand, since the file decides the network. A link whose head is
--- closed may carry only flow to that head, and version 1 has every node open; so no path leads through a closed node, and no table that the
--- audit accepts has flow through one. Pack keeps a file's version. A study is refused as unreachable only because a node is closed: open, a
--- table through that node would carry its trips.
+-- A.2, no driving through zones. The demands hold of every version as they stand, since the file decides the network. A link whose head is
+-- closed may carry only flow to that head, of cars and of lorries alike (A.7: and one that lorries are barred from no flow of lorries), and
+-- every other flow; version 1 has every node open. So no path leads through a closed node, and no table that the audit accepts has flow through
+-- one. Pack keeps a file's version. A study is refused as unreachable only because a node is closed: open, a table through that node would carry
+-- its trips.
 pub record RequestA2 : Type 0 where
   pub permission : (file : List ℕ) (l : ℕ) → l < networkOf file .links → (k : ℕ)
-      → (networkOf file .mayUse k l ≡ true) ↔ (Closed file (networkOf file .head l) → networkOf file .head l ≡ networkOf file .destination k)
+      → (networkOf file .mayUse k l ≡ true)
+      ↔ ((OfLorries file k → Barred file l → ⊥) × (Closed file (networkOf file .head l) → networkOf file .head l ≡ networkOf file .destination k))
   pub version-1 : (file : List ℕ) → version file ≡ 1 → (node : ℕ) → Closed file node → ⊥
   pub path : (file times : List ℕ) (k j : ℕ) (path : List ℕ) → IsPath (routing (networkOf file) times k) j path → Avoids file k path
   pub flow : (file table : List ℕ) (share : ℕ) → tableNumber file table share ≡ 0 → (k l : ℕ) → k < networkOf file .commodities → l < networkOf file .links
@@ -203,4 +208,34 @@ request-A6 =
       note = note-fresh;
       still = finest-note;
       doubling = doubling-note;
+    }
+
+-- A.7, lorries on the same links. The demands and the requests above hold of version 4 as they stand, since the file decides the network. Version 4 has
+-- twice the commodities of its cars, each destination for cars and then again for lorries, so its table has 2·p·m numbers and its note 1 + 2·p·n; earlier
+-- versions have those of cars. A commodity of an accepted study is barred from a link exactly where it is of lorries and the link's byte is 1. Lorry paths
+-- keep off barred links, and so does the lorry flow of every table that the audit accepts. Two tables of one study with equal totals and one share, however
+-- their lorry flows differ, give cars the same times, next links and loading. A study is refused as unreachable only because a link is barred to lorries.
+pub record RequestA7 : Type 0 where
+  pub classes : (file : List ℕ) → checkNumber file ≡ 0 → version file ≡ 4 → TwoClasses file
+  pub cars : (file : List ℕ) → version file < 4 → networkOf file .commodities ≡ destinations file
+  pub barred : (file : List ℕ) → checkNumber file ≡ 0 → (k l : ℕ) → k < networkOf file .commodities → l < networkOf file .links
+      → (barredAt file k l ≡ true) ↔ ((destinations file ≤ k) × (markByte (barredPart file) l ≡ 1))
+  pub path : (file : List ℕ) → checkNumber file ≡ 0 → (times : List ℕ) (k j : ℕ) (path : List ℕ) → destinations file ≤ k → k < networkOf file .commodities
+      → IsPath (routing (networkOf file) times k) j path → KeepsOff file path
+  pub flow : (file table : List ℕ) (share : ℕ) → tableNumber file table share ≡ 0 → (k l : ℕ) → destinations file ≤ k → k < networkOf file .commodities
+      → l < networkOf file .links → markByte (barredPart file) l ≡ 1 → entry (networkOf file .links) table k l ≡ 0
+  pub same : (file table other : List ℕ) (share : ℕ) → ((l : ℕ) → l < networkOf file .links → total (networkOf file) table l ≡ total (networkOf file) other l)
+      → (k : ℕ) → k < destinations file → SameFor (networkOf file) share table other k
+  pub only-barred : OnlyBarred
+
+pub request-A7 : RequestA7
+request-A7 =
+    record {
+      classes = two-classes;
+      cars = cars-alone;
+      barred = barred-exactly;
+      path = path-keeps-off;
+      flow = flow-keeps-off;
+      same = cars-same;
+      only-barred = only-barred;
     }

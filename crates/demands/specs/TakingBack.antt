@@ -3,14 +3,14 @@ use Prim.Native.Nat.{ℕ, zero, suc, _≤_, _<_}
 use native.Mathlib.Nat.{le-of-suc-le-suc}
 use native.Mathlib.Omega.{arith}
 use mathlib.Core.Path.{_≡_, refl, sym, _∙_, ap, ap₂}
-use mathlib.Core.Bool.{Bool, true, false, _&&_, cond}
+use mathlib.Core.Bool.{Bool, true, false, not, _&&_, cond}
 use mathlib.Core.List.{List, [], _∷_, _++_}
 use mathlib.Core.Logic.{⊎-elim}
 use mathlib.Core.Option.{Option, none, some}
 use lib.ListN.{length, getD, take, drop, replicate, take-append-drop}
-use lib.Dec.{eqb, ltb}
+use lib.Dec.{eqb}
 use lib.Seq.{ext-getD, length-take-le, getD-take}
-use borrow.Author.Tests.{le-leb, leb-true, ltb-true}
+use borrow.Author.Tests.{le-leb, leb-true, eqb-false, not-true}
 use Rattle.study.specs.Questions.{Question, firstNo, opening}
 use Rattle.study.specs.Laws.{accepted}
 use Rattle.theory.specs.Finite.{tabulate}
@@ -95,34 +95,34 @@ module _ (file : List ℕ) (e : checkNumber file ≡ 0) (table : List ℕ) (shar
       (λ b. rw (walk-same (q .head) (nextLinks q) (q .nodes) most j short (omega arith)) simple)
       (order most (q .nodes)))
 
--- Every question of a list has a number below a limit. Of a list whose numbers are written out this computes.
-abbrev numbersBelow : ℕ → List Question → Bool
-numbersBelow limit [] = true
-numbersBelow limit (question ∷ rest) = ltb (question .number) limit && numbersBelow limit rest
+-- No question of a list has a number. Of a list whose numbers are written out this computes.
+abbrev numberFree : ℕ → List Question → Bool
+numberFree number [] = true
+numberFree number (question ∷ rest) = not (eqb (question .number) number) && numberFree number rest
 
-first-below : (limit : ℕ) (questions : List Question) → 0 < limit → numbersBelow limit questions ≡ true → firstNo questions < limit
-first-below limit [] some-limit below = some-limit
-first-below limit (question ∷ rest) some-limit below =
+first-other : (number : ℕ) (questions : List Question) → 0 < number → numberFree number questions ≡ true → firstNo questions ≡ number → ⊥
+first-other number [] some-number free e = omega arith
+first-other number (question ∷ rest) some-number free e =
     on-test (question .yes)
-    (λ e. rw e (first-below limit rest some-limit (and-right (ltb (question .number) limit) _ below)))
-    (λ e. rw e (ltb-true (question .number) limit (and-left (ltb (question .number) limit) _ below)))
+    (λ f. first-other number rest some-number (and-right (not (eqb (question .number) number)) _ free) (rw f at e))
+    (λ f. eqb-false (question .number) number (not-true (eqb (question .number) number) (and-left (not (eqb (question .number) number)) _ free)) (rw f at e))
 
--- The questions of a pass, which are put before question 21, have smaller numbers.
-pass-below : (file table : List ℕ) (share : ℕ) (note : List ℕ) → passNumber file table share note < 21
+-- No question of a pass, which are put before question 21, has that number.
+pass-other : (file table : List ℕ) (share : ℕ) (note : List ℕ) → passNumber file table share note ≡ 21 → ⊥
 unfolding passNumber passQuestions noteQuestions checkQuestions opening studyQuestions shareQuestions
-pass-below file table share note = first-below 21 (passQuestions file table share note) (omega arith) refl
+pass-other file table share note = first-other 21 (passQuestions file table share note) (omega arith) refl
 
 -- So a note that leads every node with trips to the destination is not refused 21.
 leading-note : (file table : List ℕ) (share : ℕ) (note : List ℕ) → noteLeads (networkOf file) note ≡ true → takeBackNumber file table share note ≡ 21 → ⊥
 leading-note file table share note leads e =
     let number = passNumber file table share note in
     let can = canTakeBack (networkOf file) (record { table = table; share = share }) note in
-    go number (eqb number 0) can (pass-below file table share note) (rw (take-back-number file table share note, leads) at e)
+    go number (eqb number 0) can (pass-other file table share note) (rw (take-back-number file table share note, leads) at e)
   where
-    go : (number : ℕ) (none can : Bool) → number < 21 → cond none (cond can 0 22) number ≡ 21 → ⊥
-    go number true true below f = omega arith
-    go number true false below f = omega arith
-    go number false can below f = omega arith
+    go : (number : ℕ) (none can : Bool) → (number ≡ 21 → ⊥) → cond none (cond can 0 22) number ≡ 21 → ⊥
+    go number true true other f = omega arith
+    go number true false other f = omega arith
+    go number false can other f = other f
 
 -- The first numbers of a list,
 abbrev frontOf : ℕ → List ℕ → List ℕ

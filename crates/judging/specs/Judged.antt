@@ -12,33 +12,32 @@ use Rattle.theory.specs.Notes.{noteOf}
 use Rattle.calls.specs.Calls.{shareAfter, tableAfter, noteAfter}
 use Rattle.travel.specs.Links.{padded, listTime, listProduct, totalOf, loadOf}
 use Rattle.travel.specs.Ranges.{LinkPowers, Within, Clear, TimesFit, mostTime, mostFlow}
-use Rattle.search.specs.Chains.{Linked}
-use Rattle.routes.specs.Table.{Nexts}
 use Rattle.judging.specs.declared.Step.{Step}
 use Rattle.judging.specs.declared.Sums.{Sums}
 use Rattle.judging.specs.declared.Passed.{Passed}
 use Rattle.judging.specs.declared.Standing.{Standing}
 use Rattle.judging.specs.declared.Turn.{Turn}
-use Rattle.judging.specs.Study.{Study, linkCount, destinationCount, moveOf, stepOf, shareAfterStep, tableAfterStep}
+use Rattle.judging.specs.Classes.{ClassChains, ClassNexts}
+use Rattle.judging.specs.Study.{Study, linkCount, commodityCount, moveOf, stepOf, shareAfterStep, tableAfterStep}
 use Rattle.moves.specs.Loading.{loadingAlong, volumeRows}
 
--- What a call computes once: the chains of a study's links, and the powers of the steps.
-pub record Prepared (links chains : List (List ℕ)) (curves : List ℕ) : Type 0 where
-  pub chains-are : Linked links chains
-  pub powers-are : LinkPowers links curves
+-- What a call computes once: the chains of a study's links for cars and, where there are any, for lorries, and the powers of the steps.
+pub record Prepared (d : Study) (chains : List (List ℕ)) (curves : List ℕ) : Type 0 where
+  pub chains-are : ClassChains d chains
+  pub powers-are : LinkPowers (d .links) curves
 
--- The arrays that are lent for judging a study of m links: times and loads are 0 past the links, next links and volumes have 32 rows, and
--- totals S and loads Y are two arrays.
-pub record Lent (m : ℕ) (times : List ℕ) (nexts volumes flows : List (List ℕ)) : Type 0 where
-  pub times-clear : Clear m times
-  pub nexts-long : length nexts ≡ 32
-  pub volumes-long : length volumes ≡ 32
+-- The arrays that are lent for judging a study: times and loads are 0 past the links, next links and volumes have a row for each
+-- commodity, and totals S and loads Y are two arrays.
+pub record Lent (d : Study) (times : List ℕ) (nexts volumes flows : List (List ℕ)) : Type 0 where
+  pub times-clear : Clear (linkCount d) times
+  pub nexts-long : commodityCount d ≤ length nexts
+  pub volumes-long : commodityCount d ≤ length volumes
   pub flows-long : length flows ≡ 2
-  pub loads-clear : Clear m (getD flows 1 [])
+  pub loads-clear : Clear (linkCount d) (getD flows 1 [])
 
 -- The totals S are those of a table.
 abbrev pub TotalsOf : Study → List ℕ → List (List ℕ) → Type 0
-TotalsOf d table flows = getD flows 0 [] ≡ padded (linkCount d) (linkTotal (destinationCount d) (linkCount d) table)
+TotalsOf d table flows = getD flows 0 [] ≡ padded (linkCount d) (linkTotal (commodityCount d) (linkCount d) table)
 
 -- The totals S are in their range.
 abbrev pub TotalsFit : ℕ → List (List ℕ) → Type 0
@@ -48,16 +47,16 @@ TotalsFit m flows = Within m mostFlow (getD flows 0 [])
 pub record Known (d : Study) (share : ℕ) (times : List ℕ) (nexts volumes flows : List (List ℕ)) : Type 0 where
   pub times-are : times ≡ padded (linkCount d) (listTime (d .links) share (getD flows 0 []))
   pub times-fit : TimesFit (linkCount d) times
-  pub nexts-are : Nexts (d .nodes) (d .links) (d .destinations) (d .trips) times nexts
-  pub volumes-long : length volumes ≡ 32
+  pub nexts-are : ClassNexts d times nexts
+  pub volumes-long : commodityCount d ≤ length volumes
   pub volumes-are :
-      volumeRows (d .nodes) (linkCount d) (destinationCount d) nexts volumes
-      ≡ loadingAlong (d .nodes) (d .links) (destinationCount d) (d .trips) nexts
+      volumeRows (d .nodes) (linkCount d) (commodityCount d) nexts volumes
+      ≡ loadingAlong (d .nodes) (d .links) (commodityCount d) (d .trips) nexts
   pub flows-long : length flows ≡ 2
   pub loads-are :
       getD flows 1 []
       ≡ padded (linkCount d)
-      (linkTotal (destinationCount d) (linkCount d) (loadingAlong (d .nodes) (d .links) (destinationCount d) (d .trips) nexts))
+      (linkTotal (commodityCount d) (linkCount d) (loadingAlong (d .nodes) (d .links) (commodityCount d) (d .trips) nexts))
 
 -- What judging leaves: it is known, and the totals S are as they were.
 pub record JudgedAt (d : Study) (share : ℕ) (flows₀ : List (List ℕ)) (times : List ℕ) (nexts volumes flows : List (List ℕ)) : Type 0 where
@@ -103,7 +102,7 @@ pub record Turned (g : Network) (table : List ℕ) (at : Standing) (r : Turn) (a
 
 -- The arrays after a turn: they can be lent again, hold the totals of the table, and what judging it computes where the turn says so.
 pub record Left (d : Study) (r : Turn) (after times : List ℕ) (nexts volumes flows : List (List ℕ)) : Type 0 where
-  pub lent : Lent (linkCount d) times nexts volumes flows
+  pub lent : Lent d times nexts volumes flows
   pub totals-are : TotalsOf d after flows
   pub known : r .known ≡ true → Known d (r .share) times nexts volumes flows
 

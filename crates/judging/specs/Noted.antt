@@ -9,8 +9,8 @@ use Rattle.theory.specs.Notes.{noteLinks, nextMarks}
 use Rattle.theory.specs.Study.{noLink}
 use Rattle.calls.specs.Calls.{overwritten}
 use Rattle.travel.specs.Ranges.{TimesFit}
-use Rattle.routes.specs.Table.{Nexts}
-use Rattle.judging.specs.Study.{Study, linkCount, destinationCount, Ready}
+use Rattle.judging.specs.Classes.{ClassNexts}
+use Rattle.judging.specs.Study.{Study, linkCount, commodityCount, Ready}
 
 -- The note after a pass that chose j at the times of a list, by what a doubling makes of the share.
 unfoldable pub noteBy : Network → List ℕ → ℕ → ℕ → List ℕ → List ℕ
@@ -22,6 +22,6 @@ noteBy g times j doubled note =
 pub record Notable (d : Study) (times : List ℕ) (nexts : List (List ℕ)) (j : ℕ) (note : List ℕ) : Type 0 where
   pub ready : Ready d
   pub times-fit : TimesFit (linkCount d) times
-  pub nexts-are : Nexts (d .nodes) (d .links) (d .destinations) (d .trips) times nexts
+  pub nexts-are : ClassNexts d times nexts
   pub small-step : j ≤ 64
-  pub holds : destinationCount d * d .nodes < length note
+  pub holds : commodityCount d * d .nodes < length note

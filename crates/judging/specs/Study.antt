@@ -1,5 +1,5 @@
 -- A study in rows, what the functions of this crate ask of it and of a table, and what a turn does.
-use Prim.Native.Nat.{ℕ, _*_, _≤_, _<_}
+use Prim.Native.Nat.{ℕ, _*_, _-_, _≤_, _<_}
 use mathlib.Core.Path.{_≡_}
 use mathlib.Core.Bool.{Bool, true, cond}
 use mathlib.Core.List.{List}
@@ -11,6 +11,7 @@ use Rattle.theory.specs.Flows.{totalsFit, Carries}
 use Rattle.theory.specs.Cost.{gap}
 use Rattle.theory.specs.Moves.{Shared, tableSize, move, moves}
 use Rattle.theory.specs.Study.{freeTime, rise, power, network}
+use Rattle.theory.specs.Classes.{carCount, Classed}
 use Rattle.theory.specs.Laws.Routings.{AllServed}
 use Rattle.calls.specs.Calls.{shareAfter, tableAfter}
 use Rattle.judging.specs.declared.Step.{Step}
@@ -20,30 +21,32 @@ use Rattle.judging.specs.declared.Step.the-variants as step
 pub record Study : Type 0 where
   pub nodes : ℕ
   pub links : List (List ℕ)
-  pub destinations : List ℕ
+  pub commodities : List ℕ
   pub trips : List ℕ
 
 abbrev pub studyOf : ℕ → List (List ℕ) → List ℕ → List ℕ → Study
-studyOf nodes links destinations trips = record { nodes = nodes; links = links; destinations = destinations; trips = trips }
+studyOf nodes links commodities trips = record { nodes = nodes; links = links; commodities = commodities; trips = trips }
 
--- How many links and destinations it has: m and p.
+-- How many links and commodities it has: m, and p or, with lorries, 2p (A.7).
 abbrev pub linkCount : Study → ℕ
 linkCount d = length (d .links)
 
-abbrev pub destinationCount : Study → ℕ
-destinationCount d = length (d .destinations)
+abbrev pub commodityCount : Study → ℕ
+commodityCount d = length (d .commodities)
 
 -- Its network.
 abbrev pub networkIn : Study → Network
-networkIn d = network (d .nodes) (d .links) (d .destinations) (d .trips)
+networkIn d = network (d .nodes) (d .links) (d .commodities) (d .trips)
 
 -- A study that passes questions 1 to 11.
 pub record Ready (d : Study) : Type 0 where
   pub few-nodes : d .nodes ≤ 128
   pub few-links : linkCount d ≤ 512
-  pub few-destinations : destinationCount d ≤ 32
+  pub few-cars : carCount (d .commodities) ≤ 32
+  pub few-lorries : commodityCount d - carCount (d .commodities) ≤ 32
+  pub classed : Classed (d .commodities)
   pub some-links : 1 ≤ linkCount d
-  pub trips-long : length (d .trips) ≡ destinationCount d * d .nodes
+  pub trips-long : length (d .trips) ≡ commodityCount d * d .nodes
   pub sound : Sound (networkIn d)
   pub free-most : (l : ℕ) → l < linkCount d → freeTime (d .links) l ≤ 16383
   pub rise-most : (l : ℕ) → l < linkCount d → rise (d .links) l ≤ 16383

@@ -7,29 +7,29 @@ ghost use Rattle.travel.specs.Ranges.{CurveRoom};
 ghost use Rattle.judging.specs.Study.{studyOf, Judgeable};
 ghost use Rattle.judging.specs.Judged.{Audited};
 use crate::Sums;
+use crate::classes::least_times;
 
 // Audit: the gap and cost of a table with these totals, which say all that is needed of it, and how many links are over. The gap is taken by
 // its definition, from the least times.
 pub fn audit_table(
     nodes: usize,
     links: &[[u16; 6]],
-    destinations: &[u16],
+    commodities: &[u16],
     trips: &[u16],
     table: &[u32],
     share: u32,
     totals: &[u64; 512],
     curves: &mut [u64],
 ) -> Sums
-    requires { ⌜ Judgeable (studyOf nodes (now links) (now destinations) (now trips)) (now table) share ⌝ }
-    requires { ⌜ now totals ≡ tableTotals (now links) (now destinations) (now table) ⌝ }
+    requires { ⌜ Judgeable (studyOf nodes (now links) (now commodities) (now trips)) (now table) share ⌝ }
+    requires { ⌜ now totals ≡ tableTotals (now links) (now commodities) (now table) ⌝ }
     requires { ⌜ CurveRoom (now links) (length (now curves)) ⌝ }
-    ensures { λ r. ⌜ Audited (network nodes (now (links .entry)) (now (destinations .entry)) (now (trips .entry))) (now (table .entry)) share r ⌝ }
+    ensures { λ r. ⌜ Audited (network nodes (now (links .entry)) (now (commodities .entry)) (now (trips .entry))) (now (table .entry)) share r ⌝ }
 {
     let mut times = [0u32; 512];
     travel::put_powers(curves);
     travel::times(links, totals, share, curves, &mut times);
-    let into = search::into_chain(links);
-    let least = search::least_times(nodes, links, destinations, trips, &times, &into);
+    let least = least_times(nodes, links, commodities, trips, &times);
     let gap = travel::product(&times, totals, links.len()) - share as u64 * least;
     let costs = travel::cost(links, totals, share, curves);
     Sums {

@@ -5,6 +5,7 @@ ghost use lib.ListN.{length};
 ghost use Rattle.travel.specs.Ranges.{ShareFits};
 ghost use Rattle.judging.specs.Study.{studyOf, Ready};
 ghost use Rattle.judging.specs.Judged.{Prepared, Lent, TotalsFit, Known, JudgedAt};
+use crate::classes::put_next_links;
 use travel::LOAD;
 use travel::TOTAL;
 
@@ -13,31 +14,31 @@ use travel::TOTAL;
 pub fn judge(
     nodes: usize,
     links: &[[u16; 6]],
-    destinations: &[u16],
+    commodities: &[u16],
     trips: &[u16],
-    chains: &[[u16; 768]; 2],
+    chains: &[[u16; 896]],
     curves: &[u64],
     share: u32,
     known: bool,
     times: &mut [u32; 512],
-    next: &mut [[u16; 128]; 32],
-    volumes: &mut [[u16; 128]; 32],
+    next: &mut [[u16; 128]],
+    volumes: &mut [[u16; 128]],
     flows: &mut [[u64; 512]; 2],
 )
-    requires { ⌜ Ready (studyOf nodes (now links) (now destinations) (now trips)) × ShareFits share × Prepared (now links) (now chains) (now curves) ⌝ }
-    requires { ⌜ (known ≡ true → Known (studyOf nodes (now links) (now destinations) (now trips)) share (now times) (now next) (now volumes) (now flows)) ⌝ }
-    requires { ⌜ Lent (length (now links)) (now times) (now next) (now volumes) (now flows) × TotalsFit (length (now links)) (now flows) ⌝ }
-    ensures { λ _. ⌜ JudgedAt (studyOf nodes (now (links .entry)) (now (destinations .entry)) (now (trips .entry))) share (now (flows .entry)) (now (times .exit)) (now (next .exit)) (now (volumes .exit)) (now (flows .exit)) ⌝ }
+    requires { ⌜ Ready (studyOf nodes (now links) (now commodities) (now trips)) × ShareFits share × Prepared (studyOf nodes (now links) (now commodities) (now trips)) (now chains) (now curves) ⌝ }
+    requires { ⌜ (known ≡ true → Known (studyOf nodes (now links) (now commodities) (now trips)) share (now times) (now next) (now volumes) (now flows)) ⌝ }
+    requires { ⌜ Lent (studyOf nodes (now links) (now commodities) (now trips)) (now times) (now next) (now volumes) (now flows) × TotalsFit (length (now links)) (now flows) ⌝ }
+    ensures { λ _. ⌜ JudgedAt (studyOf nodes (now (links .entry)) (now (commodities .entry)) (now (trips .entry))) share (now (flows .entry)) (now (times .exit)) (now (next .exit)) (now (volumes .exit)) (now (flows .exit)) ⌝ }
 {
     if known {
         return;
     }
     travel::times(links, &flows[TOTAL], share, curves, times);
-    routes::next_table(nodes, links, destinations, trips, times, chains, next);
+    put_next_links(nodes, links, commodities, trips, times, chains, next);
     moves::load(
         nodes,
         links,
-        destinations,
+        commodities,
         trips,
         next,
         volumes,

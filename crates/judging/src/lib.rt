@@ -1,6 +1,7 @@
 // Judging a table: its totals, times, next links, loading, gap and cost, and the move that a pass makes of it. Nothing here knows of
 // bytes: a study stands decoded in rows.
 mod audit;
+mod classes;
 mod gaps;
 mod judge;
 mod note;
@@ -9,6 +10,7 @@ mod start;
 mod turns;
 
 pub use audit::audit_table;
+pub use classes::put_class_chains;
 pub use pass::pass_table;
 pub use start::start_table;
 pub use turns::turn_table;

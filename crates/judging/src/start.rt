@@ -14,28 +14,27 @@ use crate::judge::judge;
 pub fn start_table(
     nodes: usize,
     links: &[[u16; 6]],
-    destinations: &[u16],
+    commodities: &[u16],
     trips: &[u16],
-    chains: &[[u16; 768]; 2],
+    chains: &[[u16; 896]],
     curves: &[u64],
     table: &mut [u32],
     times: &mut [u32; 512],
-    next: &mut [[u16; 128]; 32],
-    volumes: &mut [[u16; 128]; 32],
+    next: &mut [[u16; 128]],
+    volumes: &mut [[u16; 128]],
     flows: &mut [[u64; 512]; 2],
 )
-    requires { ⌜ Ready (studyOf nodes (now links) (now destinations) (now trips)) × Prepared (now links) (now chains) (now curves) ⌝ }
-    requires { ⌜ length (now destinations) * length (now links) ≤ length (now table) ⌝ }
-    requires { ⌜ Lent (length (now links)) (now times) (now next) (now volumes) (now flows) × (getD (now flows) 0 [] ≡ replicate 512 0) ⌝ }
-    ensures { λ _. ⌜ now (table .exit) ≡ overwritten (started (network nodes (now (links .entry)) (now (destinations .entry)) (now (trips .entry))) .table) (now (table .entry)) ⌝ }
-    ensures { λ _. ⌜ Lent (length (now (links .entry))) (now (times .exit)) (now (next .exit)) (now (volumes .exit)) (now (flows .exit)) × (getD (now (flows .exit)) 0 [] ≡ replicate 512 0) ⌝ }
+    requires { ⌜ Ready (studyOf nodes (now links) (now commodities) (now trips)) × Prepared (studyOf nodes (now links) (now commodities) (now trips)) (now chains) (now curves) ⌝ }
+    requires { ⌜ length (now commodities) * length (now links) ≤ length (now table) ⌝ }
+    requires { ⌜ Lent (studyOf nodes (now links) (now commodities) (now trips)) (now times) (now next) (now volumes) (now flows) × (getD (now flows) 0 [] ≡ replicate 512 0) ⌝ }
+    ensures { λ _. ⌜ now (table .exit) ≡ overwritten (started (network nodes (now (links .entry)) (now (commodities .entry)) (now (trips .entry))) .table) (now (table .entry)) ⌝ }
+    ensures { λ _. ⌜ Lent (studyOf nodes (now (links .entry)) (now (commodities .entry)) (now (trips .entry))) (now (times .exit)) (now (next .exit)) (now (volumes .exit)) (now (flows .exit)) × (getD (now (flows .exit)) 0 [] ≡ replicate 512 0) ⌝ }
 {
     let m = links.len();
-    let p = destinations.len();
     judge(
         nodes,
         links,
-        destinations,
+        commodities,
         trips,
         chains,
         curves,
@@ -46,6 +45,6 @@ pub fn start_table(
         volumes,
         flows,
     );
-    moves::empty_flows(table, p * m);
-    moves::add_loadings(table, nodes, m, p, next, volumes, 1);
+    moves::empty_flows(table, commodities.len() * m);
+    moves::add_classes(table, nodes, m, commodities, next, volumes, 1);
 }

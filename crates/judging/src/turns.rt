@@ -17,29 +17,29 @@ use crate::judge::judge;
 pub fn turn_table(
     nodes: usize,
     links: &[[u16; 6]],
-    destinations: &[u16],
+    commodities: &[u16],
     trips: &[u16],
-    chains: &[[u16; 768]; 2],
+    chains: &[[u16; 896]],
     curves: &[u64],
     times: &mut [u32; 512],
-    next: &mut [[u16; 128]; 32],
-    volumes: &mut [[u16; 128]; 32],
+    next: &mut [[u16; 128]],
+    volumes: &mut [[u16; 128]],
     flows: &mut [[u64; 512]; 2],
     table: &mut [u32],
     standing: Standing,
 ) -> Turn
-    requires { ⌜ Judgeable (studyOf nodes (now links) (now destinations) (now trips)) (now table) (standing .share) × Prepared (now links) (now chains) (now curves) × Curves (now links) (now curves) ⌝ }
-    requires { ⌜ Lent (length (now links)) (now times) (now next) (now volumes) (now flows) ⌝ }
-    requires { ⌜ Stands (studyOf nodes (now links) (now destinations) (now trips)) (now table) standing (now times) (now next) (now volumes) (now flows) ⌝ }
-    ensures { λ r. ⌜ Turned (network nodes (now (links .entry)) (now (destinations .entry)) (now (trips .entry))) (now (table .entry)) standing r (now (table .exit)) ⌝ }
-    ensures { λ r. ⌜ Left (studyOf nodes (now (links .entry)) (now (destinations .entry)) (now (trips .entry))) r (now (table .exit)) (now (times .exit)) (now (next .exit)) (now (volumes .exit)) (now (flows .exit)) ⌝ }
+    requires { ⌜ Judgeable (studyOf nodes (now links) (now commodities) (now trips)) (now table) (standing .share) × Prepared (studyOf nodes (now links) (now commodities) (now trips)) (now chains) (now curves) × Curves (now links) (now curves) ⌝ }
+    requires { ⌜ Lent (studyOf nodes (now links) (now commodities) (now trips)) (now times) (now next) (now volumes) (now flows) ⌝ }
+    requires { ⌜ Stands (studyOf nodes (now links) (now commodities) (now trips)) (now table) standing (now times) (now next) (now volumes) (now flows) ⌝ }
+    ensures { λ r. ⌜ Turned (network nodes (now (links .entry)) (now (commodities .entry)) (now (trips .entry))) (now (table .entry)) standing r (now (table .exit)) ⌝ }
+    ensures { λ r. ⌜ Left (studyOf nodes (now (links .entry)) (now (commodities .entry)) (now (trips .entry))) r (now (table .exit)) (now (times .exit)) (now (next .exit)) (now (volumes .exit)) (now (flows .exit)) ⌝ }
 {
     let m = links.len();
     let share = standing.share;
     judge(
         nodes,
         links,
-        destinations,
+        commodities,
         trips,
         chains,
         curves,
@@ -62,7 +62,7 @@ pub fn turn_table(
         return turned(Step::Spent, share, gap, false);
     }
     moves::move_totals(flows, m, j);
-    let after = moves::move_table(table, nodes, m, destinations.len(), next, volumes, share, j);
+    let after = moves::move_table(table, nodes, m, commodities, next, volumes, share, j);
     turned(Step::Moved, after, gap, j == 0)
 }
 

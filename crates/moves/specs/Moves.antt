@@ -40,7 +40,8 @@ pub record TotalsMovable (m j : ℕ) (flows : List (List ℕ)) : Type 0 where
 pub record Movable (n m p : ℕ) (nexts volumes : List (List ℕ)) (share j : ℕ) (table : List ℕ) : Type 0 where
   pub few-nodes : n ≤ 128
   pub few-links : m ≤ 512
-  pub few-destinations : p ≤ 32
+  pub few-commodities : p ≤ 64
+  pub has-rows : (p ≤ length nexts) × (p ≤ length volumes)
   pub next-link : (k i : ℕ) → k < p → i < n → (getD (getD nexts k []) i 0 ≡ noLink → ⊥) → getD (getD nexts k []) i 0 < m
   pub small-share : share + j ≤ 1024
   pub holds : p * m ≤ length table

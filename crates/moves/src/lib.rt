@@ -1,9 +1,9 @@
-// The loading of all destinations, with its totals, and what a move makes of a table and its totals.
+// The loading of all commodities, with its totals, and what a move makes of a table and its totals.
 mod loads;
 mod moves;
 mod widths;
 
-pub use loads::add_loadings;
+pub use loads::add_classes;
 pub use loads::load;
 pub use loads::load_volumes;
 pub use moves::can_move;

@@ -1,4 +1,4 @@
-// The loading that next links give: volumes by destination and node, its totals, and a multiple of it added to a table.
+// The loading that next links give: volumes by commodity and node, its totals, and a multiple of it added to a table.
 ghost use mathlib.Core.Path.{_≡_};
 ghost use Prim.Native.Nat.{_*_, _≤_};
 ghost use lib.ListN.{length, getD};
@@ -7,27 +7,28 @@ ghost use Rattle.travel.specs.Links.{padded};
 ghost use Rattle.travel.specs.Ranges.{Clear};
 ghost use Rattle.moves.specs.Loading.{loadingAlong, volumeRows, addedRows, AllFollowable, Addable};
 use crate::widths::wide;
+use theory::car_count;
 
-// The volumes of each destination, by node, and Y's totals: what the trips of all destinations send over each link.
+// The volumes of each commodity, by node, and Y's totals: what the trips of all commodities send over each link.
 pub fn load(
     nodes: usize,
     links: &[[u16; 6]],
-    destinations: &[u16],
+    commodities: &[u16],
     trips: &[u16],
-    next: &[[u16; 128]; 32],
-    volumes: &mut [[u16; 128]; 32],
+    next: &[[u16; 128]],
+    volumes: &mut [[u16; 128]],
     loads: &mut [u64; 512],
 )
-    requires { ⌜ AllFollowable nodes (now links) (length (now destinations)) (now trips) (now next) × (length (now volumes) ≡ 32) ⌝ }
+    requires { ⌜ AllFollowable nodes (now links) (length (now commodities)) (now trips) (now next) × (length (now commodities) ≤ length (now volumes)) ⌝ }
     requires { ⌜ Clear (length (now links)) (now loads) ⌝ }
-    ensures { λ _. ⌜ now (loads .exit) ≡ padded (length (now (links .entry))) (linkTotal (length (now (destinations .entry))) (length (now (links .entry))) (loadingAlong nodes (now (links .entry)) (length (now (destinations .entry))) (now (trips .entry)) (now (next .entry)))) ⌝ }
-    ensures { λ _. ⌜ volumeRows nodes (length (now (links .entry))) (length (now (destinations .entry))) (now (next .entry)) (now (volumes .exit)) ≡ loadingAlong nodes (now (links .entry)) (length (now (destinations .entry))) (now (trips .entry)) (now (next .entry)) ⌝ }
-    ensures { λ _. ⌜ length (now (volumes .exit)) ≡ 32 ⌝ }
+    ensures { λ _. ⌜ now (loads .exit) ≡ padded (length (now (links .entry))) (linkTotal (length (now (commodities .entry))) (length (now (links .entry))) (loadingAlong nodes (now (links .entry)) (length (now (commodities .entry))) (now (trips .entry)) (now (next .entry)))) ⌝ }
+    ensures { λ _. ⌜ volumeRows nodes (length (now (links .entry))) (length (now (commodities .entry))) (now (next .entry)) (now (volumes .exit)) ≡ loadingAlong nodes (now (links .entry)) (length (now (commodities .entry))) (now (trips .entry)) (now (next .entry)) ⌝ }
+    ensures { λ _. ⌜ length (now (volumes .exit)) ≡ length (now (volumes .entry)) ⌝ }
 {
     let m = links.len();
     let mut sums = [0u32; 512];
     let mut k: usize = 0;
-    while k < destinations.len() {
+    while k < commodities.len() {
         let first = k * nodes;
         let past = first + nodes;
         loading::volumes(nodes, links, &trips[first..past], &next[k], &mut volumes[k]);
@@ -41,16 +42,16 @@ pub fn load(
 pub fn load_volumes(
     nodes: usize,
     links: &[[u16; 6]],
-    destinations: &[u16],
+    commodities: &[u16],
     trips: &[u16],
-    next: &[[u16; 128]; 32],
-    volumes: &mut [[u16; 128]; 32],
+    next: &[[u16; 128]],
+    volumes: &mut [[u16; 128]],
 )
-    requires { ⌜ AllFollowable nodes (now links) (length (now destinations)) (now trips) (now next) × (length (now volumes) ≡ 32) ⌝ }
-    ensures { λ _. ⌜ volumeRows nodes (length (now (links .entry))) (length (now (destinations .entry))) (now (next .entry)) (now (volumes .exit)) ≡ loadingAlong nodes (now (links .entry)) (length (now (destinations .entry))) (now (trips .entry)) (now (next .entry)) ⌝ }
+    requires { ⌜ AllFollowable nodes (now links) (length (now commodities)) (now trips) (now next) × (length (now commodities) ≤ length (now volumes)) ⌝ }
+    ensures { λ _. ⌜ volumeRows nodes (length (now (links .entry))) (length (now (commodities .entry))) (now (next .entry)) (now (volumes .exit)) ≡ loadingAlong nodes (now (links .entry)) (length (now (commodities .entry))) (now (trips .entry)) (now (next .entry)) ⌝ }
 {
     let mut k: usize = 0;
-    while k < destinations.len() {
+    while k < commodities.len() {
         let first = k * nodes;
         let past = first + nodes;
         loading::volumes(nodes, links, &trips[first..past], &next[k], &mut volumes[k]);
@@ -70,14 +71,14 @@ fn widened(sums: &[u32; 512], m: usize, totals: &mut [u64; 512])
     }
 }
 
-// Adds weight × the loading to a table of p rows, each of m flows, a destination's row at a time.
-pub fn add_loadings(
+// Adds weight × the loading to a table of p rows, each of m flows, a commodity's row at a time.
+fn add_loadings(
     table: &mut [u32],
     nodes: usize,
     m: usize,
     p: usize,
-    next: &[[u16; 128]; 32],
-    volumes: &[[u16; 128]; 32],
+    next: &[[u16; 128]],
+    volumes: &[[u16; 128]],
     weight: u32,
 )
     requires { ⌜ Addable nodes m p (now next) (now volumes) weight (now table) ⌝ }
@@ -96,5 +97,36 @@ pub fn add_loadings(
             weight,
         );
         k += 1;
+    }
+}
+
+// Adds weight × the loading to a table, first that of the cars. The lorries' part of the table, from its middle, is lent on to the same call.
+pub fn add_classes(
+    table: &mut [u32],
+    nodes: usize,
+    m: usize,
+    commodities: &[u16],
+    next: &[[u16; 128]],
+    volumes: &[[u16; 128]],
+    weight: u32,
+)
+    requires { ⌜ Addable nodes m (length (now commodities)) (now next) (now volumes) weight (now table) ⌝ }
+    ensures { λ _. ⌜ now (table .exit) ≡ addedRows (length (now (commodities .entry)) * m) weight (volumeRows nodes m (length (now (commodities .entry))) (now (next .entry)) (now (volumes .entry))) (now (table .entry)) ⌝ }
+{
+    let cars = car_count(commodities);
+    add_loadings(table, nodes, m, cars, next, volumes, weight);
+    if cars < commodities.len() {
+        let lorries = commodities.len() - cars;
+        let middle = cars * m;
+        let end = middle + lorries * m;
+        add_loadings(
+            &mut table[middle..end],
+            nodes,
+            m,
+            lorries,
+            &next[cars..],
+            &volumes[cars..],
+            weight,
+        );
     }
 }

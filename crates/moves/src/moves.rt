@@ -6,7 +6,7 @@ ghost use lib.ListN.{length, getD, set};
 ghost use Rattle.calls.specs.Calls.{shareAfter, tableAfter};
 ghost use Rattle.moves.specs.Loading.{volumeRows, front};
 ghost use Rattle.moves.specs.Moves.{canMove, moveAlong, totalAfter, TotalsMovable, Movable};
-use crate::loads::add_loadings;
+use crate::loads::add_classes;
 use travel::LOAD;
 use travel::TOTAL;
 
@@ -50,22 +50,22 @@ pub fn move_table(
     table: &mut [u32],
     nodes: usize,
     m: usize,
-    p: usize,
-    next: &[[u16; 128]; 32],
-    volumes: &[[u16; 128]; 32],
+    commodities: &[u16],
+    next: &[[u16; 128]],
+    volumes: &[[u16; 128]],
     share: u32,
     j: u32,
 ) -> u32
-    requires { ⌜ Movable nodes m p (now next) (now volumes) share j (now table) ⌝ }
-    ensures { λ r. ⌜ r ≡ shareAfter share (moveAlong (p * m) share j (volumeRows nodes m p (now (next .entry)) (now (volumes .entry))) (now (table .entry))) ⌝ }
-    ensures { λ r. ⌜ now (table .exit) ≡ tableAfter (now (table .entry)) (moveAlong (p * m) share j (volumeRows nodes m p (now (next .entry)) (now (volumes .entry))) (now (table .entry))) ⌝ }
+    requires { ⌜ Movable nodes m (length (now commodities)) (now next) (now volumes) share j (now table) ⌝ }
+    ensures { λ r. ⌜ r ≡ shareAfter share (moveAlong (length (now (commodities .entry)) * m) share j (volumeRows nodes m (length (now (commodities .entry))) (now (next .entry)) (now (volumes .entry))) (now (table .entry))) ⌝ }
+    ensures { λ r. ⌜ now (table .exit) ≡ tableAfter (now (table .entry)) (moveAlong (length (now (commodities .entry)) * m) share j (volumeRows nodes m (length (now (commodities .entry))) (now (next .entry)) (now (volumes .entry))) (now (table .entry))) ⌝ }
 {
     if 0 < j {
-        add_loadings(table, nodes, m, p, next, volumes, j);
+        add_classes(table, nodes, m, commodities, next, volumes, j);
         return share + j;
     }
     if 2 * share <= 1024 {
-        double_flows(table, p * m);
+        double_flows(table, commodities.len() * m);
         return 2 * share;
     }
     share

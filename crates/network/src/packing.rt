@@ -1,17 +1,17 @@
 // Document 01's pack: an accepted study in its own version with no gaps, sections in order from the header's end on.
-ghost use Prim.Native.Nat.{_+_, _-_, _≤_};
+ghost use Prim.Native.Nat.{_+_, _≤_};
 ghost use mathlib.Core.List.{_++_};
 ghost use mathlib.Core.Path.{_≡_};
 ghost use lib.ListN.{length};
-ghost use Rattle.study.specs.Versions.{formOf};
+ghost use Rattle.study.specs.Versions.{formOf, sectionSize};
+ghost use Rattle.study.specs.Header.{version};
 ghost use Rattle.study.specs.Questions.{refusal};
 ghost use Rattle.study.specs.Laws.{Known};
-ghost use Rattle.calls.specs.Pack.{bytes16, bytes32, packedHeader, packed};
+ghost use Rattle.calls.specs.Pack.{bytes16, bytes32, sectionPlace, packedHeader, packed};
 ghost use Rattle.calls.specs.Calls.{overwritten, packNumber, packOutput};
 ghost use Rattle.calls.specs.Questions.{packedSize};
 ghost use Rattle.network.specs.Decoded.{Counts};
-ghost use Rattle.network.specs.Written.{written};
-ghost use Rattle.network.specs.Places.{placesOf};
+ghost use Rattle.network.specs.Written.{written, pairBytes, sectionBytes};
 use crate::checking::check;
 
 // Pack returns only the refusal number or 0. A refusal leaves the output as it was, and so are the
@@ -26,41 +26,35 @@ pub fn pack(file: &[u8], output: &mut [u8]) -> u8
     let n = study::node_field(file) as usize;
     let m = study::link_field(file) as usize;
     let p = study::destination_field(file) as usize;
-    let places = places_of(study::version(file), n, m, p);
-    if output.len() < places.end {
+    if output.len() < packed_end(study::version(file), n, m, p) {
         return 17;
     }
     write_study(file, n, m, p, output);
     0
 }
 
-// Where the sections of a packed study begin, and where it ends.
-struct Places {
-    links: usize,
-    destinations: usize,
-    trips: usize,
-    closed: usize,
-    end: usize,
-}
-
-// The places in a version, each section after the one before it, from the header's end on.
-fn places_of(version: u16, n: usize, m: usize, p: usize) -> Places
+// Where a packed study of a version ends: after its header and the version's sections.
+fn packed_end(version: u16, n: usize, m: usize, p: usize) -> usize
     requires { ⌜ Known version × ((n ≤ 128) × (m ≤ 512) × (p ≤ 32)) ⌝ }
-    ensures { λ r. ⌜ r ≡ placesOf version n m p ⌝ }
+    ensures { λ r. ⌜ r ≡ sectionPlace version n m p (formOf version .sections) ⌝ }
 {
     let form = study::form_of(version);
-    let links = form.header as usize;
-    let destinations = links + form.link as usize * m;
-    let trips = destinations + 2 * p;
-    let closed = trips + 2 * p * n;
-    let closed_bytes = if 3 < form.sections { n } else { 0 };
-    Places {
-        links,
-        destinations,
-        trips,
-        closed,
-        end: closed + closed_bytes,
+    let sections = form.sections;
+    let mut place = form.header as usize;
+    let mut section = 0;
+    while section < sections {
+        place += section_size(version, n, m, p, section);
+        section += 1;
     }
+    place
+}
+
+// The length of a section in a version.
+fn section_size(version: u16, n: usize, m: usize, p: usize, section: usize) -> usize
+    requires { ⌜ Known version × ((n ≤ 128) × (m ≤ 512) × (p ≤ 32)) ⌝ }
+    ensures { λ r. ⌜ (r ≡ sectionSize version n m p section) × (r ≤ 8192) ⌝ }
+{
+    study::section_size(version, n as u64, m as u64, p as u64, section) as usize
 }
 
 fn write_study(file: &[u8], n: usize, m: usize, p: usize, output: &mut [u8])
@@ -68,42 +62,49 @@ fn write_study(file: &[u8], n: usize, m: usize, p: usize, output: &mut [u8])
     requires { ⌜ packedSize (now file) ≤ length (now output) ⌝ }
     ensures { λ r. ⌜ now (output .exit) ≡ overwritten (packed (now (file .entry))) (now (output .entry)) ⌝ }
 {
-    let version = study::version(file);
-    let places = places_of(version, n, m, p);
-    write_header(output, version, n, m, p);
-    write_bytes(
-        output,
-        places.links,
-        study::accepted_section(file, study::LINKS),
-    );
-    write_bytes(
-        output,
-        places.destinations,
-        study::accepted_section(file, study::DESTINATIONS),
-    );
-    write_bytes(
-        output,
-        places.trips,
-        study::accepted_section(file, study::TRIPS),
-    );
-    write_bytes(
-        output,
-        places.closed,
-        study::accepted_section(file, study::CLOSED),
-    );
+    write_header(output, study::version(file), n, m, p);
+    write_sections(file, output);
+}
+
+// The sections of the version, one after the other from the header's end on.
+fn write_sections(file: &[u8], output: &mut [u8])
+    requires { ⌜ (refusal (now file) ≡ 0) × (packedSize (now file) ≤ length (now output)) ⌝ }
+    ensures { λ r. ⌜ now (output .exit) ≡ written (formOf (version (now (file .entry))) .header) (sectionBytes (now (file .entry))) (now (output .entry)) ⌝ }
+{
+    let form = study::form_of(study::version(file));
+    let sections = form.sections;
+    let mut place = form.header as usize;
+    let mut section = 0;
+    while section < sections {
+        let bytes = study::accepted_section(file, section);
+        write_bytes(output, place, bytes);
+        place += bytes.len();
+        section += 1;
+    }
 }
 
 fn write_header(output: &mut [u8], version: u16, n: usize, m: usize, p: usize)
     requires { ⌜ Known version × (formOf version .header ≤ length (now output)) × ((n ≤ 128) × (m ≤ 512) × (p ≤ 32)) ⌝ }
     ensures { λ r. ⌜ now (output .exit) ≡ overwritten (packedHeader version n m p) (now (output .entry)) ⌝ }
 {
-    let places = places_of(version, n, m, p);
     write_counts(output, version as usize, n, m, p);
-    write_pair(output, 8, places.links, places.destinations);
-    write_pair(output, 16, places.destinations, places.trips);
-    write_pair(output, 24, places.trips, places.closed);
-    if 3 < study::form_of(version).sections {
-        write_pair(output, 32, places.closed, places.end);
+    write_pairs(output, version, n, m, p);
+}
+
+// The pair of each section of the version, after the counts.
+fn write_pairs(output: &mut [u8], version: u16, n: usize, m: usize, p: usize)
+    requires { ⌜ Known version × (formOf version .header ≤ length (now output)) × ((n ≤ 128) × (m ≤ 512) × (p ≤ 32)) ⌝ }
+    ensures { λ r. ⌜ now (output .exit) ≡ written 8 (pairBytes version n m p) (now (output .entry)) ⌝ }
+{
+    let form = study::form_of(version);
+    let sections = form.sections;
+    let mut place = form.header as usize;
+    let mut section = 0;
+    while section < sections {
+        let size = section_size(version, n, m, p, section);
+        write_pair(output, 8 + 8 * section, place, size);
+        place += size;
+        section += 1;
     }
 }
 
@@ -118,13 +119,13 @@ fn write_counts(output: &mut [u8], version: usize, n: usize, m: usize, p: usize)
     write_u16(output, 6, p);
 }
 
-// The offset and the length of a section that begins at a place and ends before another.
-fn write_pair(output: &mut [u8], at: usize, from: usize, to: usize)
-    requires { ⌜ (at + 8 ≤ length (now output)) × (from ≤ to) ⌝ }
-    ensures { λ r. ⌜ now (output .exit) ≡ written at (bytes32 from ++ bytes32 (to - from)) (now (output .entry)) ⌝ }
+// The offset and the length of a section.
+fn write_pair(output: &mut [u8], at: usize, offset: usize, size: usize)
+    requires { ⌜ at + 8 ≤ length (now output) ⌝ }
+    ensures { λ r. ⌜ now (output .exit) ≡ written at (bytes32 offset ++ bytes32 size) (now (output .entry)) ⌝ }
 {
-    write_u32(output, at, from);
-    write_u32(output, at + 4, to - from);
+    write_u32(output, at, offset);
+    write_u32(output, at + 4, size);
 }
 
 fn write_u32(output: &mut [u8], at: usize, x: usize)

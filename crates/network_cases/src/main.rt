@@ -1,4 +1,4 @@
-// Runs check and pack on studies at the limits of questions 6 to 11 and 17, as the lines of standard
+// Runs check and pack on studies at the limits of questions 6 to 11, 17, 19 and 23, as the lines of standard
 // input say (in the words of `case_lines`):
 //
 //     file STUDY            the file of the lines that follow
@@ -26,8 +26,8 @@ struct Sizes {
 }
 
 fn main() {
-    let mut file_space = [0u8; 13408];
-    let mut output_space = [0u8; 13408];
+    let mut file_space = [0u8; 23288];
+    let mut output_space = [0u8; 23288];
     let file: &mut [u8] = &mut file_space;
     let output: &mut [u8] = &mut output_space;
     run(file, output);

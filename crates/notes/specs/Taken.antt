@@ -14,15 +14,15 @@ use Rattle.calls.specs.Calls.{overwritten}
 use Rattle.notes.specs.declared.Taken.{Taken}
 
 -- What taking back asks: a study that passes questions 1 to 11, and a table and a note that pass question 12.
-pub record Takeable (n : ℕ) (links : List (List ℕ)) (destinations trips table note : List ℕ) : Type 0 where
+pub record Takeable (n : ℕ) (links : List (List ℕ)) (commodities trips table note : List ℕ) : Type 0 where
   pub few-nodes : n ≤ 128
   pub few-links : length links ≤ 512
-  pub few-destinations : length destinations ≤ 32
-  pub trips-long : length trips ≡ length destinations * n
-  pub sound : Sound (network n links destinations trips)
-  pub few-trips : totalTrips (network n links destinations trips) ≤ 65535
-  pub holds : length destinations * length links ≤ length table
-  pub note-holds : length destinations * n < length note
+  pub few-commodities : length commodities ≤ 64
+  pub trips-long : length trips ≡ length commodities * n
+  pub sound : Sound (network n links commodities trips)
+  pub few-trips : totalTrips (network n links commodities trips) ≤ 65535
+  pub holds : length commodities * length links ≤ length table
+  pub note-holds : length commodities * n < length note
 
 -- What it answers and leaves: refused with a number, or taken back to a table and a share.
 pub record Refused (number : ℕ) (table : List ℕ) (r : Taken) (after : List ℕ) : Type 0 where

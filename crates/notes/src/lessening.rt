@@ -17,8 +17,8 @@ pub fn holds_part(
     nodes: usize,
     m: usize,
     p: usize,
-    next: &[[u16; 128]; 32],
-    volumes: &[[u16; 128]; 32],
+    next: &[[u16; 128]],
+    volumes: &[[u16; 128]],
     j: u32,
 ) -> bool
     requires { ⌜ Lessenable nodes m p (now next) (now volumes) j (now table) ⌝ }
@@ -46,8 +46,8 @@ pub fn lessen(
     nodes: usize,
     m: usize,
     p: usize,
-    next: &[[u16; 128]; 32],
-    volumes: &[[u16; 128]; 32],
+    next: &[[u16; 128]],
+    volumes: &[[u16; 128]],
     j: u32,
 )
     requires { ⌜ Lessenable nodes m p (now next) (now volumes) j (now table) ⌝ }
@@ -67,7 +67,7 @@ pub fn lessen(
     }
 }
 
-// Writes j times the loading of one destination, by link.
+// Writes j times the loading of one commodity, by link.
 fn put_part(
     part: &mut [u32; 512],
     nodes: usize,
@@ -118,7 +118,7 @@ fn lessen_row(row: &mut [u32], part: &[u32; 512], m: usize)
 
 // Are the first numbers of a table even? The odd ones are counted.
 pub fn all_even(table: &[u32], size: usize) -> bool
-    requires { ⌜ (size ≤ length (now table)) × (size ≤ 16384) ⌝ }
+    requires { ⌜ (size ≤ length (now table)) × (size ≤ 32768) ⌝ }
     ensures { λ r. ⌜ r ≡ all size (λ i. even (getD (now (table .entry)) i 0)) ⌝ }
 {
     let mut odd: u32 = 0;

@@ -9,8 +9,8 @@ ghost use Rattle.calls.specs.Calls.{overwritten};
 ghost use Rattle.notes.specs.Written.{linkRows, Writable};
 use theory::NO_LINK;
 
-// Writes the note of a move that adds j·Y: j, then the next links, a destination's row at a time.
-pub fn put_links(note: &mut [u16], nodes: usize, p: usize, next: &[[u16; 128]; 32], j: u16)
+// Writes the note of a move that adds j·Y: j, then the next links, a commodity's row at a time.
+pub fn put_links(note: &mut [u16], nodes: usize, p: usize, next: &[[u16; 128]], j: u16)
     requires { ⌜ Writable nodes p (now next) × (p * nodes < length (now note)) ⌝ }
     ensures { λ _. ⌜ now (note .exit) ≡ overwritten (j ∷ linkRows nodes p (now (next .entry))) (now (note .entry)) ⌝ }
 {
@@ -23,7 +23,7 @@ pub fn put_links(note: &mut [u16], nodes: usize, p: usize, next: &[[u16; 128]; 3
     }
 }
 
-// Writes the next links of one destination at a place, and answers the place behind them.
+// Writes the next links of one commodity at a place, and answers the place behind them.
 fn put_row(note: &mut [u16], at: usize, nodes: usize, next: &[u16; 128]) -> usize
     requires { ⌜ (nodes ≤ 128) × (nodes ≤ length (now next)) × (at + nodes ≤ length (now note)) ⌝ }
     ensures { λ r. ⌜ Put (now (note .entry)) at (take nodes (now (next .entry))) (now (note .exit)) r ⌝ }

@@ -34,10 +34,10 @@ pub page-audited :
     audited ≡ 0
 page-audited file table share page e accepted = e ∙ page-both file table share page accepted .0
 
-module _ {file : List ℕ} {opening n : ℕ} {linkList : List (List ℕ)} {nodeList entries : List ℕ}
-    (parts : PartsOf file opening n linkList nodeList entries) (table : List ℕ) (share : ℕ) (page : List ℕ) where
+module _ {file : List ℕ} {opening n : ℕ} {linkList : List (List ℕ)} {commodityList entries : List ℕ}
+    (parts : PartsOf file opening n linkList commodityList entries) (table : List ℕ) (share : ℕ) (page : List ℕ) where
   abbrev g : Network
-  g = network n linkList nodeList entries
+  g = network n linkList commodityList entries
 
   links-same : length linkList ≡ networkOf file .links
   unfolding network
@@ -54,7 +54,7 @@ module _ {file : List ℕ} {opening n : ℕ} {linkList : List (List ℕ)} {nodeL
     audited = page-both file table share page accepted .0
 
     -- An accepted page's table can be judged,
-    page-ready : Judgeable (studyOf n linkList nodeList entries) table share
+    page-ready : Judgeable (studyOf n linkList commodityList entries) table share
     page-ready = table-ready file table parts share audited
 
     -- and its slice has room.
@@ -66,9 +66,9 @@ module _ {file : List ℕ} {opening n : ℕ} {linkList : List (List ℕ)} {nodeL
     in-range h e = rw e (line-range file table share audited)
 
     -- The links' totals stand in a list.
-    module _ {flows : List ℕ} (totals-are : flows ≡ tableTotals linkList nodeList table) where
-      flow-at : (l : ℕ) → l < length linkList → getD flows l 0 ≡ linkTotal (length nodeList) (length linkList) table l
-      flow-at = padded-holds (length linkList) (linkTotal (length nodeList) (length linkList) table) totals-are
+    module _ {flows : List ℕ} (totals-are : flows ≡ tableTotals linkList commodityList table) where
+      flow-at : (l : ℕ) → l < length linkList → getD flows l 0 ≡ linkTotal (length commodityList) (length linkList) table l
+      flow-at = padded-holds (length linkList) (linkTotal (length commodityList) (length linkList) table) totals-are
 
       time-at : (l : ℕ) → l < length linkList → listTime linkList share flows l ≡ timeAt g share (total g table) l
       unfolding listTime network

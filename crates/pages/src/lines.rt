@@ -10,7 +10,7 @@ ghost use Rattle.pages.specs.Lines.{ends, rowLines, Printable};
 use text::put_aligned;
 use text::put_byte;
 use text::put_hundredths;
-use theory::CLOSED_POWER;
+use theory::ACCESS_POWER;
 use theory::HEAD;
 use theory::TAIL;
 
@@ -31,7 +31,7 @@ pub fn put_lines(
         let link = links[l];
         let flow = flows[l];
         let volume = volume_of(share, flow);
-        let list = travel::list_start(link[CLOSED_POWER] / 256, travel::ALL_LISTS);
+        let list = travel::list_start(link[ACCESS_POWER] / 256, travel::ALL_LISTS);
         let timed = travel::link_time(link, list, share, flow, curves);
         let time = timed.time as u32;
         at = put_line(page, at, l, link[TAIL], link[HEAD], volume, time);

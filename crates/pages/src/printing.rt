@@ -5,8 +5,11 @@ ghost use Rattle.network.specs.Decoded.{Room};
 ghost use Rattle.refusals.specs.Places.{curvePlaces};
 ghost use Rattle.pages.specs.Lines.{afterAudit};
 use crate::lines::put_lines;
+use network::ALL_ENTRIES;
+use network::CAR_ENTRIES;
 use network::SHORT_ENTRIES;
 use network::SHORT_LINKS;
+use network::has_lorries;
 use refusals::curve_places;
 use refusals::is_small;
 use travel::ALL_LISTS;
@@ -32,9 +35,13 @@ pub fn page(file: &[u8], table: &[u32], share: u32, page: &mut [u8]) -> u8
         );
     }
     let mut rows = [[0u16, 0, 0, 0, 0, 0]; 512];
-    let mut entries = [0u16; 4096];
     let mut curves = [0u64; ALL_LISTS];
     let curves = &mut curves[..curve_places(file)];
+    if has_lorries(file) {
+        let mut entries = [0u16; ALL_ENTRIES];
+        return page_in(file, table, share, page, &mut rows, &mut entries, curves);
+    }
+    let mut entries = [0u16; CAR_ENTRIES];
     page_in(file, table, share, page, &mut rows, &mut entries, curves)
 }
 
@@ -52,21 +59,21 @@ fn page_in(
     ensures { λ r. ⌜ r ≡ pageNumber (now (file .entry)) (now (table .entry)) share (now (page .entry)) ⌝ }
     ensures { λ _. ⌜ now (page .exit) ≡ pageSlice (now (file .entry)) (now (table .entry)) share (now (page .entry)) ⌝ }
 {
-    let mut places = [0u16; 32];
+    let mut places = [0u16; 64];
     let opening = network::decode(file, rows, &mut places, entries);
     let n = opening.nodes;
     let m = opening.links;
-    let p = opening.destinations;
+    let count = opening.commodities;
     let links = &rows[..m];
-    let destinations = &places[..p];
-    let trips = &entries[..p * n];
+    let commodities = &places[..count];
+    let trips = &entries[..count * n];
     let mut flows = [0u64; 512];
     let audited = refusals::totals_refusal(
         file,
         opening.refusal,
         n,
         links,
-        destinations,
+        commodities,
         trips,
         table,
         share,

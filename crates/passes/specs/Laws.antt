@@ -1,5 +1,5 @@
 -- What a pass and a taking back of a decoded file ask, answer and leave.
-use Prim.Native.Nat.{ℕ, zero, suc, _*_, _<_}
+use Prim.Native.Nat.{ℕ, zero, suc, _*_, _≤_, _<_}
 use native.Mathlib.Omega.{arith}
 use mathlib.Core.Path.{_≡_, refl, sym, _∙_, ap}
 use mathlib.Core.Bool.{Bool, true, false, _&&_, cond}
@@ -12,6 +12,7 @@ use Rattle.theory.specs.Network.{Network}
 use Rattle.theory.specs.Moves.{Shared, moves}
 use Rattle.theory.specs.Notes.{noteSize, noteLeads, canTakeBack, takenBack}
 use Rattle.theory.specs.Study.{network}
+use Rattle.theory.specs.Classes.{carCount}
 use Rattle.theory.specs.Laws.Cases.{on-test}
 use Rattle.calls.specs.Study.{networkOf}
 use Rattle.calls.specs.Questions.{noteHolds}
@@ -21,6 +22,7 @@ use Rattle.calls.specs.Laws.Questions.{pass-both, take-back-number}
 use Rattle.calls.specs.declared.PassAnswer.{PassAnswer}
 use Rattle.calls.specs.declared.TakeBackAnswer.{TakeBackAnswer}
 use Rattle.judging.specs.Study.{studyOf, Judgeable, moveOf}
+use Rattle.judging.specs.Laws.Classes.{few-commodities}
 use Rattle.judging.specs.Laws.Study.{holds-rows}
 use Rattle.judging.specs.declared.Passed.{Passed}
 use Rattle.judging.specs.Judged.{PassedOn}
@@ -59,18 +61,18 @@ module _ (file table : List ℕ) (share : ℕ) (note : List ℕ) where
     back-kept = sym (take-back-kept file table share note (λ e. refused (sym number-is ∙ e)))
 
   -- An accepted pass: what it asks of the judging, and what it answers and leaves.
-  module _ {opening n : ℕ} {linkList : List (List ℕ)} {nodeList entries : List ℕ} (parts : PartsOf file opening n linkList nodeList entries)
+  module _ {opening n : ℕ} {linkList : List (List ℕ)} {commodityList entries : List ℕ} (parts : PartsOf file opening n linkList commodityList entries)
       (accepted : passNumber file table share note ≡ 0) where
     abbrev g : Network
-    g = network n linkList nodeList entries
+    g = network n linkList commodityList entries
 
     pub table-accepted : tableNumber file table share ≡ 0
     table-accepted = pass-both file table share note accepted .0
 
-    pub pass-ready : Judgeable (studyOf n linkList nodeList entries) table share
+    pub pass-ready : Judgeable (studyOf n linkList commodityList entries) table share
     pass-ready = table-ready file table parts share table-accepted
 
-    pub note-room : length nodeList * n < length note
+    pub note-room : length commodityList * n < length note
     unfolding noteHolds
     note-room =
         let holds = leb-true (noteSize (networkOf file)) (length note) (pass-both file table share note accepted .1) in
@@ -90,19 +92,22 @@ module _ (file table : List ℕ) (share : ℕ) (note : List ℕ) where
       pass-notes = on .note-is ∙ rw (network-is parts) (sym (pass-note file table share note accepted))
 
     -- The same of a taking back.
-    pub takeable : Takeable n linkList nodeList entries table note
+    pub takeable : Takeable n linkList commodityList entries table note
     takeable =
         let judgeable = pass-ready in
         record {
           few-nodes = judgeable .ready .few-nodes;
           few-links = judgeable .ready .few-links;
-          few-destinations = judgeable .ready .few-destinations;
+          few-commodities = few-commodities (judgeable .ready);
           trips-long = judgeable .ready .trips-long;
           sound = judgeable .ready .sound;
           few-trips = judgeable .ready .few-trips;
-          holds = holds-rows (studyOf n linkList nodeList entries) table (judgeable .holds);
+          holds = holds-rows (studyOf n linkList commodityList entries) table (judgeable .holds);
           note-holds = note-room;
         }
+
+    pub few-cars : carCount commodityList ≤ 32
+    few-cars = pass-ready .ready .few-cars
 
     abbrev x : Shared
     x = record { table = table; share = share }

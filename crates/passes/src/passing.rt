@@ -7,8 +7,11 @@ ghost use Rattle.passes.specs.Answers.{outcomeOf};
 use crate::answers::refused_pass;
 use calls::Outcome;
 use calls::PassAnswer;
+use network::ALL_ENTRIES;
+use network::CAR_ENTRIES;
 use network::SHORT_ENTRIES;
 use network::SHORT_LINKS;
+use network::has_lorries;
 use refusals::curve_places;
 use refusals::is_small;
 use refusals::note_refusal;
@@ -37,9 +40,13 @@ pub fn pass(file: &[u8], table: &mut [u32], share: u32, note: &mut [u16]) -> Pas
         );
     }
     let mut rows = [[0u16, 0, 0, 0, 0, 0]; 512];
-    let mut entries = [0u16; 4096];
     let mut curves = [0u64; ALL_LISTS];
     let curves = &mut curves[..curve_places(file)];
+    if has_lorries(file) {
+        let mut entries = [0u16; ALL_ENTRIES];
+        return pass_in(file, table, share, note, &mut rows, &mut entries, curves);
+    }
+    let mut entries = [0u16; CAR_ENTRIES];
     pass_in(file, table, share, note, &mut rows, &mut entries, curves)
 }
 
@@ -58,21 +65,21 @@ fn pass_in(
     ensures { λ r. ⌜ now (table .exit) ≡ passTable (now (file .entry)) (now (table .entry)) share (now (note .entry)) ⌝ }
     ensures { λ r. ⌜ now (note .exit) ≡ passNote (now (file .entry)) (now (table .entry)) share (now (note .entry)) ⌝ }
 {
-    let mut places = [0u16; 32];
+    let mut places = [0u16; 64];
     let opening = network::decode(file, rows, &mut places, entries);
     let n = opening.nodes;
     let m = opening.links;
-    let p = opening.destinations;
+    let count = opening.commodities;
     let links = &rows[..m];
-    let destinations = &places[..p];
-    let trips = &entries[..p * n];
+    let commodities = &places[..count];
+    let trips = &entries[..count * n];
     let mut flows = [[0u64; 512]; 2];
     let refusal = note_refusal(
         file,
         opening.refusal,
         n,
         links,
-        destinations,
+        commodities,
         trips,
         table,
         share,
@@ -85,7 +92,7 @@ fn pass_in(
     let passed = judging::pass_table(
         n,
         links,
-        destinations,
+        commodities,
         trips,
         table,
         share,

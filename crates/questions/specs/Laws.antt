@@ -1,7 +1,9 @@
 -- The laws of the definitions above.
--- Questions of a study:
+-- Links and questions of a study:
+pub mod Links
 pub mod Questions
 pub mod Reach
+pub mod Commodities
 -- of a table:
 pub mod Rows
 pub mod Table

@@ -9,18 +9,18 @@ use Rattle.theory.specs.Finite.{all}
 use Rattle.theory.specs.Marks.{marked, nodesBelow, union, common, lowestUnvisited}
 use Rattle.theory.specs.Network.{Network}
 use Rattle.theory.specs.Routes.{Routing, routing, IsPath}
-use Rattle.theory.specs.Study.{tail, head, closed, network}
+use Rattle.theory.specs.Study.{tail, head, closed, barredTo, network}
 
--- Links and one destination.
+-- Links and one commodity.
 abbrev pub toward : ℕ → List (List ℕ) → ℕ → Network
-toward nodes links s = network nodes links (s ∷ []) []
+toward nodes links commodity = network nodes links (commodity ∷ []) []
 
--- What question 11 asks of a node: a path to s, whatever the times, here 1 on every link.
+-- What question 11 asks of a node: a path to the commodity's destination, whatever the times, here 1 on every link.
 abbrev pub toDestination : ℕ → List (List ℕ) → ℕ → Routing
-toDestination nodes links s = routing (toward nodes links s) (replicate (length links) 1) 0
+toDestination nodes links commodity = routing (toward nodes links commodity) (replicate (length links) 1) 0
 
 abbrev pub PathTo : ℕ → List (List ℕ) → ℕ → ℕ → Type 0
-PathTo nodes links s j = (path : List ℕ) × IsPath (toDestination nodes links s) j path
+PathTo nodes links commodity j = (path : List ℕ) × IsPath (toDestination nodes links commodity) j path
 
 -- No link has a closed head.
 abbrev pub AllOpen : List (List ℕ) → Type 0
@@ -60,11 +60,11 @@ pub record Marks (i j : ℕ) (before after : List (List ℕ)) : Type 0 where
   pub pairs : (a : ℕ) → a < length after → length (row after a) ≡ 2
   pub marks : (a b : ℕ) → marked (row after a) b ≡ (marked (row before a) b || (eqb i a && eqb j b))
 
--- The first l links have marked their tails in their rows, and there is no other mark.
-pub record Tails (nodes : ℕ) (links : List (List ℕ)) (l : ℕ) (rows : List (List ℕ)) : Type 0 where
+-- Those of the first l links that a class is not barred from (A.7) have marked their tails in their rows, and there is no other mark.
+pub record Tails (nodes : ℕ) (links : List (List ℕ)) (lorries : Bool) (l : ℕ) (rows : List (List ℕ)) : Type 0 where
   pub pairs : (i : ℕ) → i < length rows → length (row rows i) ≡ 2
-  pub all : (k : ℕ) → k < l → marked (row rows (rowOf nodes links k)) (tail links k) ≡ true
-  pub only : (i j : ℕ) → marked (row rows i) j ≡ true → (k : ℕ) × (k < l) × (tail links k ≡ j) × (rowOf nodes links k ≡ i)
+  pub all : (k : ℕ) → k < l → barredTo links lorries k ≡ false → marked (row rows (rowOf nodes links k)) (tail links k) ≡ true
+  pub only : (i j : ℕ) → marked (row rows i) j ≡ true → (k : ℕ) × (k < l) × (barredTo links lorries k ≡ false) × (tail links k ≡ j) × (rowOf nodes links k ≡ i)
 
 -- The tails of the links into s.
 unfoldable pub tailsInto : ℕ → Bool → List (List ℕ) → ℕ → List ℕ

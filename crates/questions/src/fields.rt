@@ -1,4 +1,4 @@
-// Document 01, 'The questions, in order': questions 6 to 10, one function each, and 19 of document 02. Question 11 is the reach search.
+// Document 01, 'The questions, in order': questions 6 to 10, one function each, and 19 and 23 of document 02. Question 11 is the reach search.
 ghost use Prim.Native.Nat.{_*_, _≤_};
 ghost use mathlib.Core.Bool.{_&&_, not, true};
 ghost use mathlib.Core.List.{[]};
@@ -8,13 +8,14 @@ ghost use lib.ListN.{length, getD};
 ghost use Rattle.study.specs.Questions.{within as withinOf};
 ghost use Rattle.theory.specs.Finite.{sum};
 ghost use Rattle.theory.specs.Study.{AllFourth, network};
-ghost use Rattle.calls.specs.Questions.{endsFit, timesFit, destinationsFit, closedFit, noTripsWithin};
+ghost use Rattle.calls.specs.Questions.{endsFit, timesFit, destinationsFit, marksFit, noTripsWithin};
 ghost use Rattle.questions.specs.Fields.{roadsFit, powersFit};
+ghost use Rattle.questions.specs.Sized.{ToNodes};
 ghost use Rattle.questions.specs.Destinations.{allNodes, allAscending};
 use crate::numbers::amount;
 use crate::numbers::node;
+use theory::ACCESS_POWER;
 use theory::CAPACITY;
-use theory::CLOSED_POWER;
 use theory::FREE_TIME;
 use theory::HEAD;
 use theory::RISE;
@@ -61,7 +62,7 @@ fn powers_fit(links: &[[u16; 6]]) -> bool
 {
     let mut l = 0;
     while l < links.len() {
-        if !within(1, 4, links[l][CLOSED_POWER] / 256) {
+        if !within(1, 4, links[l][ACCESS_POWER] / 256) {
             return false;
         }
         l += 1;
@@ -99,7 +100,7 @@ fn within(least: u16, most: u16, x: u16) -> bool
 
 // 8. Are the destinations below n and strictly ascending?
 pub fn destinations_fit(nodes: usize, destinations: &[u16]) -> bool
-    ensures { λ r. ⌜ r ≡ destinationsFit (network nodes [] (now (destinations .entry)) []) ⌝ }
+    ensures { λ r. ⌜ r ≡ destinationsFit nodes (now (destinations .entry)) ⌝ }
 {
     if !destinations_are_nodes(nodes, destinations) {
         return false;
@@ -133,29 +134,29 @@ fn destinations_ascend(destinations: &[u16]) -> bool
     true
 }
 
-// 19 (A.2). Is every closed byte 0 or 1?
-pub fn closed_fit(closed: &[u8]) -> bool
-    ensures { λ r. ⌜ r ≡ closedFit (now (closed .entry)) ⌝ }
+// 19 (A.2). Is every closed byte 0 or 1? 23 (A.7). Is every barred byte?
+pub fn marks_fit(bytes: &[u8]) -> bool
+    ensures { λ r. ⌜ r ≡ marksFit (now (bytes .entry)) ⌝ }
 {
-    let mut j = 0;
-    while j < closed.len() {
-        if 1 < closed[j] {
+    let mut i = 0;
+    while i < bytes.len() {
+        if 1 < bytes[i] {
             return false;
         }
-        j += 1;
+        i += 1;
     }
     true
 }
 
-// 9. Is D(s,s) zero for every destination?
-pub fn no_trips_within(nodes: usize, destinations: &[u16], trips: &[u16]) -> bool
-    requires { ⌜ length (now trips) ≡ length (now destinations) * nodes ⌝ }
-    requires { ⌜ destinationsFit (network nodes [] (now destinations) []) ≡ true ⌝ }
-    ensures { λ r. ⌜ r ≡ noTripsWithin (network nodes [] (now (destinations .entry)) (now (trips .entry))) ⌝ }
+// 9. Is D(s,s) zero for every destination, of cars and of lorries?
+pub fn no_trips_within(nodes: usize, commodities: &[u16], trips: &[u16]) -> bool
+    requires { ⌜ length (now trips) ≡ length (now commodities) * nodes ⌝ }
+    requires { ⌜ ToNodes nodes (now commodities) ⌝ }
+    ensures { λ r. ⌜ r ≡ noTripsWithin (network nodes [] (now (commodities .entry)) (now (trips .entry))) ⌝ }
 {
     let mut k = 0;
-    while k < destinations.len() {
-        let s = node(destinations[k]);
+    while k < commodities.len() {
+        let s = theory::node_of(commodities[k]);
         if trips[k * nodes + s] != 0 {
             return false;
         }
@@ -164,10 +165,10 @@ pub fn no_trips_within(nodes: usize, destinations: &[u16], trips: &[u16]) -> boo
     true
 }
 
-// T of document 01: the sum of the trips of all nodes to all destinations. It is added up in 32 bits: the compiler
+// T of document 01: the sum of the trips of all nodes to all destinations, of cars and of lorries. It is added up in 32 bits: the compiler
 // adds more of these at once than of 64.
 pub fn total_trips(trips: &[u16]) -> u64
-    requires { ⌜ length (now trips) ≤ 4096 ⌝ }
+    requires { ⌜ length (now trips) ≤ 8192 ⌝ }
     ensures { λ r. ⌜ r ≡ sum (length (now (trips .entry))) (λ i. getD (now (trips .entry)) i 0) ⌝ }
 {
     let mut total: u32 = 0;
@@ -181,7 +182,7 @@ pub fn total_trips(trips: &[u16]) -> u64
 
 // 10. Is the total of trips, T, at most 65,535?
 pub fn total_fits(trips: &[u16]) -> bool
-    requires { ⌜ length (now trips) ≤ 4096 ⌝ }
+    requires { ⌜ length (now trips) ≤ 8192 ⌝ }
     ensures { λ r. ⌜ r ≡ leb (sum (length (now (trips .entry))) (λ i. getD (now (trips .entry)) i 0)) 65535 ⌝ }
 {
     total_trips(trips) <= 65535

@@ -1,15 +1,16 @@
-// Question 11: for each destination a search for the nodes with a path to it. It goes over rows: for each node the set of the nodes with a
-// link into it, built once from the links.
-ghost use Prim.Native.Nat.{ℕ, _<_, _≤_};
+// Question 11, of the commodities of one class: for each destination a search for the nodes with a path to it. It goes over rows: for each node
+// the set of the nodes with a link into it, built once from the links that the class may use.
+ghost use Prim.Native.Nat.{ℕ, _+_, _<_, _≤_};
 ghost use mathlib.Core.Bool.{true};
 ghost use mathlib.Core.List.{[]};
 ghost use mathlib.Core.Path.{_≡_};
-ghost use lib.ListN.{length};
+ghost use lib.ListN.{length, getD, take, drop};
 ghost use Rattle.theory.specs.Marks.{marked};
-ghost use Rattle.theory.specs.Study.{network};
-ghost use Rattle.calls.specs.Questions.{endsFit, destinationsFit, tripsReach};
-ghost use Rattle.questions.specs.Sized.{Sized};
+ghost use Rattle.theory.specs.Study.{ofLorries, network};
+ghost use Rattle.calls.specs.Questions.{endsFit, tripsReach};
+ghost use Rattle.questions.specs.Sized.{Sized, ToNodes, OneClass};
 ghost use Rattle.questions.specs.Reach.{AllOpen, allMarked, row, rowPlace, Room, NoMarks, Marks, Tails, tailsInto, Closure, Rows, wholeRow, allReached, nextNode, Filled, Reached};
+use crate::access::barred_to;
 use crate::marks::NO_NODE;
 use crate::marks::both;
 use crate::marks::is_marked;
@@ -18,35 +19,60 @@ use crate::marks::nodes_below;
 use crate::marks::only_node;
 use crate::marks::shared;
 use crate::numbers::node;
-use theory::CLOSED_POWER;
+use theory::ACCESS_POWER;
 use theory::HEAD;
 use theory::TAIL;
 
-// 11. Does every node with trips to s have a path to s?
-// `all_open` may be true where no link has a closed head: the search is then faster.
-pub fn trips_reach(
+// 11. Does every node with trips to s have a path to s, of cars and of lorries? The first so many commodities are of cars, and the others, if there
+// are any, of lorries. `all_open` may be true where no link has a closed head: the search is then faster.
+pub fn classes_reach(
     nodes: usize,
     links: &[[u16; 6]],
-    destinations: &[u16],
+    cars: usize,
+    commodities: &[u16],
     trips: &[u16],
     all_open: bool,
 ) -> bool
-    requires { ⌜ Sized nodes (now links) (now destinations) (now trips) × («all_open» ≡ true → AllOpen (now links)) ⌝ }
+    requires { ⌜ Sized nodes (now links) (now commodities) (now trips) × («all_open» ≡ true → AllOpen (now links)) ⌝ }
     requires { ⌜ endsFit (network nodes (now links) [] []) ≡ true ⌝ }
-    requires { ⌜ destinationsFit (network nodes [] (now destinations) []) ≡ true ⌝ }
-    ensures { λ r. ⌜ r ≡ tripsReach (network nodes (now (links .entry)) (now (destinations .entry)) (now (trips .entry))) ⌝ }
+    requires { ⌜ (cars ≤ length (now commodities)) × ToNodes nodes (now commodities) ⌝ }
+    requires { ⌜ OneClass (take cars (now commodities)) × OneClass (drop cars (now commodities)) ⌝ }
+    ensures { λ r. ⌜ r ≡ tripsReach (network nodes (now (links .entry)) (now (commodities .entry)) (now (trips .entry))) ⌝ }
+{
+    let past = cars * nodes;
+    if !trips_reach(nodes, links, &commodities[..cars], &trips[..past], all_open) {
+        return false;
+    }
+    if commodities.len() == cars {
+        return true;
+    }
+    trips_reach(nodes, links, &commodities[cars..], &trips[past..], all_open)
+}
+
+// The same of the commodities of one class.
+fn trips_reach(
+    nodes: usize,
+    links: &[[u16; 6]],
+    commodities: &[u16],
+    trips: &[u16],
+    all_open: bool,
+) -> bool
+    requires { ⌜ Sized nodes (now links) (now commodities) (now trips) × («all_open» ≡ true → AllOpen (now links)) ⌝ }
+    requires { ⌜ endsFit (network nodes (now links) [] []) ≡ true ⌝ }
+    requires { ⌜ ToNodes nodes (now commodities) × OneClass (now commodities) ⌝ }
+    ensures { λ r. ⌜ r ≡ tripsReach (network nodes (now (links .entry)) (now (commodities .entry)) (now (trips .entry))) ⌝ }
 {
     let count = row_count(nodes, all_open);
     if 64 < count {
         let mut rows = [[0u64, 0]; 256];
-        return trips_reach_in(nodes, links, destinations, trips, all_open, &mut rows);
+        return trips_reach_in(nodes, links, commodities, trips, all_open, &mut rows);
     }
     if 16 < count {
         let mut rows = [[0u64, 0]; 64];
-        return trips_reach_in(nodes, links, destinations, trips, all_open, &mut rows);
+        return trips_reach_in(nodes, links, commodities, trips, all_open, &mut rows);
     }
     let mut rows = [[0u64, 0]; 16];
-    trips_reach_in(nodes, links, destinations, trips, all_open, &mut rows)
+    trips_reach_in(nodes, links, commodities, trips, all_open, &mut rows)
 }
 
 // How many rows a search needs: one for each node and, where a head may be closed, another.
@@ -61,22 +87,22 @@ fn row_count(nodes: usize, all_open: bool) -> usize
 fn trips_reach_in(
     nodes: usize,
     links: &[[u16; 6]],
-    destinations: &[u16],
+    commodities: &[u16],
     trips: &[u16],
     all_open: bool,
     rows: &mut [[u64; 2]],
 ) -> bool
-    requires { ⌜ Sized nodes (now links) (now destinations) (now trips) × («all_open» ≡ true → AllOpen (now links)) ⌝ }
+    requires { ⌜ Sized nodes (now links) (now commodities) (now trips) × («all_open» ≡ true → AllOpen (now links)) ⌝ }
     requires { ⌜ endsFit (network nodes (now links) [] []) ≡ true ⌝ }
-    requires { ⌜ destinationsFit (network nodes [] (now destinations) []) ≡ true ⌝ }
+    requires { ⌜ ToNodes nodes (now commodities) × OneClass (now commodities) ⌝ }
     requires { ⌜ Room nodes «all_open» (length (now rows)) × NoMarks (now rows) ⌝ }
-    ensures { λ r. ⌜ r ≡ tripsReach (network nodes (now (links .entry)) (now (destinations .entry)) (now (trips .entry))) ⌝ }
+    ensures { λ r. ⌜ r ≡ tripsReach (network nodes (now (links .entry)) (now (commodities .entry)) (now (trips .entry))) ⌝ }
 {
-    mark_tails(nodes, links, all_open, rows);
+    mark_tails(nodes, links, lorries_only(commodities), all_open, rows);
     let mut whole = [0u64; 2];
     let mut k = 0;
-    while k < destinations.len() {
-        let s = node(destinations[k]);
+    while k < commodities.len() {
+        let s = theory::node_of(commodities[k]);
         let tails = tails_into(nodes, s, all_open, rows);
         let reached = reach(nodes, s, tails, &mut whole, rows);
         let first = k * nodes;
@@ -88,26 +114,61 @@ fn trips_reach_in(
     true
 }
 
-// Marks each link's tail in the row of its head, or in the other row of a head that is closed.
-fn mark_tails(nodes: usize, links: &[[u16; 6]], all_open: bool, rows: &mut [[u64; 2]])
+// Whether commodities of one class are of lorries.
+fn lorries_only(commodities: &[u16]) -> bool
+    ensures { λ r. ⌜ r ≡ ofLorries (getD (now (commodities .entry)) 0 0) ⌝ }
+{
+    if commodities.len() == 0 {
+        return false;
+    }
+    theory::of_lorries(commodities[0])
+}
+
+// Marks the tail of each link that the class is not barred from.
+fn mark_tails(
+    nodes: usize,
+    links: &[[u16; 6]],
+    lorries: bool,
+    all_open: bool,
+    rows: &mut [[u64; 2]],
+)
     requires { ⌜ (nodes ≤ 128) × (endsFit (network nodes (now links) [] []) ≡ true) × («all_open» ≡ true → AllOpen (now links)) ⌝ }
     requires { ⌜ Room nodes «all_open» (length (now rows)) × NoMarks (now rows) ⌝ }
-    ensures { λ r. ⌜ (length (now (rows .exit)) ≡ length (now (rows .entry))) × Tails nodes (now (links .entry)) (length (now (links .entry))) (now (rows .exit)) ⌝ }
+    ensures { λ r. ⌜ (length (now (rows .exit)) ≡ length (now (rows .entry))) × Tails nodes (now (links .entry)) lorries (length (now (links .entry))) (now (rows .exit)) ⌝ }
 {
     let mut l = 0;
     while l < links.len() {
-        let i = row_place(
-            nodes,
-            node(links[l][HEAD]),
-            links[l][CLOSED_POWER] % 256,
-            all_open,
-        );
-        mark(i, node(links[l][TAIL]), rows);
+        mark_tail(nodes, links, l, lorries, all_open, rows);
         l += 1;
     }
 }
 
-// Where the row of a link stands. Where all heads are open, its closed byte is not read.
+// Marks the tail of one such link in the row of its head, or in the other row of a head that is closed.
+fn mark_tail(
+    nodes: usize,
+    links: &[[u16; 6]],
+    l: usize,
+    lorries: bool,
+    all_open: bool,
+    rows: &mut [[u64; 2]],
+)
+    requires { ⌜ (nodes ≤ 128) × (endsFit (network nodes (now links) [] []) ≡ true) × («all_open» ≡ true → AllOpen (now links)) ⌝ }
+    requires { ⌜ (l < length (now links)) × Room nodes «all_open» (length (now rows)) × Tails nodes (now links) lorries l (now rows) ⌝ }
+    ensures { λ r. ⌜ (length (now (rows .exit)) ≡ length (now (rows .entry))) × Tails nodes (now (links .entry)) lorries (l + 1) (now (rows .exit)) ⌝ }
+{
+    if barred_to(links[l], lorries) {
+        return;
+    }
+    let i = row_place(
+        nodes,
+        node(links[l][HEAD]),
+        links[l][ACCESS_POWER] % 2,
+        all_open,
+    );
+    mark(i, node(links[l][TAIL]), rows);
+}
+
+// Where the row of a link stands. Where all heads are open, its closed mark is not read.
 fn row_place(nodes: usize, head: usize, closed: u16, all_open: bool) -> usize
     requires { ⌜ (nodes ≤ 128) × (head < nodes) × («all_open» ≡ true → closed ≡ 1 → ⊥) ⌝ }
     ensures { λ r. ⌜ r ≡ rowPlace nodes head closed ⌝ }

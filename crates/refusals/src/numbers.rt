@@ -1,4 +1,4 @@
-// The questions of each call, in order, over a file whose fields are decoded. Of the file itself only the closed bytes and the version are read.
+// The questions of each call, in order, over a file whose fields are decoded. Of the file itself only the closed and the barred bytes, the version and p are read.
 ghost use mathlib.Core.Path.{_≡_};
 ghost use lib.ListN.{replicate};
 ghost use Rattle.calls.specs.Questions.{budgetFits};
@@ -6,30 +6,38 @@ ghost use Rattle.calls.specs.Calls.{startNumber, tableNumber, passNumber, runNu
 ghost use Rattle.travel.specs.Links.{tableTotals};
 ghost use Rattle.refusals.specs.Parts.{PartsOf};
 
-// Start's number: the first of questions 1 to 8, 19 and 9 to 12 that refuses, or 0.
+// Start's number: the first of questions 1 to 8, 19, 23 and 9 to 12 that refuses, or 0.
 pub fn start_refusal(
     file: &[u8],
     opening: u8,
     nodes: usize,
     links: &[[u16; 6]],
-    destinations: &[u16],
+    commodities: &[u16],
     trips: &[u16],
     table: &[u32],
 ) -> u8
-    requires { ⌜ PartsOf (now file) opening nodes (now links) (now destinations) (now trips) ⌝ }
+    requires { ⌜ PartsOf (now file) opening nodes (now links) (now commodities) (now trips) ⌝ }
     ensures { λ r. ⌜ r ≡ startNumber (now (file .entry)) (now (table .entry)) ⌝ }
 {
     if opening != 0 {
         return opening;
     }
-    let closed = study::accepted_section(file, study::CLOSED);
+    let p = study::destination_field(file) as usize;
     // Links of fewer than 12 bytes have no powers of their own.
-    let all_fourth = study::link_size(file) < 12;
-    let refusal = questions::study_refusal(nodes, links, destinations, closed, trips, all_fourth);
+    let refusal = questions::study_refusal(
+        nodes,
+        links,
+        &commodities[..p],
+        study::accepted_section(file, study::CLOSED),
+        study::accepted_section(file, study::BARRED),
+        commodities,
+        trips,
+        study::link_size(file) < 12,
+    );
     if refusal != 0 {
         return refusal;
     }
-    if table.len() < destinations.len() * links.len() {
+    if table.len() < commodities.len() * links.len() {
         return 12;
     }
     0
@@ -42,17 +50,17 @@ pub fn totals_refusal(
     opening: u8,
     nodes: usize,
     links: &[[u16; 6]],
-    destinations: &[u16],
+    commodities: &[u16],
     trips: &[u16],
     table: &[u32],
     share: u32,
     totals: &mut [u64; 512],
 ) -> u8
-    requires { ⌜ PartsOf (now file) opening nodes (now links) (now destinations) (now trips) × (now totals ≡ replicate 512 0) ⌝ }
+    requires { ⌜ PartsOf (now file) opening nodes (now links) (now commodities) (now trips) × (now totals ≡ replicate 512 0) ⌝ }
     ensures { λ r. ⌜ r ≡ tableNumber (now (file .entry)) (now (table .entry)) share ⌝ }
-    ensures { λ r. ⌜ (r ≡ 0 → now (totals .exit) ≡ tableTotals (now (links .entry)) (now (destinations .entry)) (now (table .entry))) ⌝ }
+    ensures { λ r. ⌜ (r ≡ 0 → now (totals .exit) ≡ tableTotals (now (links .entry)) (now (commodities .entry)) (now (table .entry))) ⌝ }
 {
-    let refusal = start_refusal(file, opening, nodes, links, destinations, trips, table);
+    let refusal = start_refusal(file, opening, nodes, links, commodities, trips, table);
     if refusal != 0 {
         return refusal;
     }
@@ -60,7 +68,7 @@ pub fn totals_refusal(
     questions::table_refusal(
         nodes,
         links,
-        destinations,
+        commodities,
         trips,
         total,
         table,
@@ -75,19 +83,19 @@ pub fn note_refusal(
     opening: u8,
     nodes: usize,
     links: &[[u16; 6]],
-    destinations: &[u16],
+    commodities: &[u16],
     trips: &[u16],
     table: &[u32],
     share: u32,
     note: &[u16],
     totals: &mut [u64; 512],
 ) -> u8
-    requires { ⌜ PartsOf (now file) opening nodes (now links) (now destinations) (now trips) × (now totals ≡ replicate 512 0) ⌝ }
+    requires { ⌜ PartsOf (now file) opening nodes (now links) (now commodities) (now trips) × (now totals ≡ replicate 512 0) ⌝ }
     ensures { λ r. ⌜ r ≡ passNumber (now (file .entry)) (now (table .entry)) share (now (note .entry)) ⌝ }
-    ensures { λ r. ⌜ (r ≡ 0 → now (totals .exit) ≡ tableTotals (now (links .entry)) (now (destinations .entry)) (now (table .entry))) ⌝ }
+    ensures { λ r. ⌜ (r ≡ 0 → now (totals .exit) ≡ tableTotals (now (links .entry)) (now (commodities .entry)) (now (table .entry))) ⌝ }
 {
-    if note.len() <= destinations.len() * nodes {
-        let refusal = start_refusal(file, opening, nodes, links, destinations, trips, table);
+    if note.len() <= commodities.len() * nodes {
+        let refusal = start_refusal(file, opening, nodes, links, commodities, trips, table);
         if refusal != 0 {
             return refusal;
         }
@@ -98,7 +106,7 @@ pub fn note_refusal(
         opening,
         nodes,
         links,
-        destinations,
+        commodities,
         trips,
         table,
         share,
@@ -112,15 +120,15 @@ pub fn run_refusal(
     opening: u8,
     nodes: usize,
     links: &[[u16; 6]],
-    destinations: &[u16],
+    commodities: &[u16],
     trips: &[u16],
     table: &[u32],
     budget: u32,
 ) -> u8
-    requires { ⌜ PartsOf (now file) opening nodes (now links) (now destinations) (now trips) ⌝ }
+    requires { ⌜ PartsOf (now file) opening nodes (now links) (now commodities) (now trips) ⌝ }
     ensures { λ r. ⌜ r ≡ runNumber (now (file .entry)) (now (table .entry)) budget ⌝ }
 {
-    let refusal = start_refusal(file, opening, nodes, links, destinations, trips, table);
+    let refusal = start_refusal(file, opening, nodes, links, commodities, trips, table);
     if refusal != 0 {
         return refusal;
     }

@@ -39,9 +39,9 @@ struct State {
 
 fn main() {
     let mut file_space = [0u8; 65540];
-    let mut table_space = [0u32; 16400];
-    let mut note_space = [0u16; 4200];
-    let mut byte_space = [0u8; 65600];
+    let mut table_space = [0u32; 32800];
+    let mut note_space = [0u16; 8400];
+    let mut byte_space = [0u8; 131200];
     let file: &mut [u8] = &mut file_space;
     let table: &mut [u32] = &mut table_space;
     let note: &mut [u16] = &mut note_space;

@@ -87,11 +87,11 @@ fn write_accepted(file: &[u8], table: &[u32], answer: RunAnswer, out: &mut [u8])
     ensures { λ r. ⌜ Written (now (out .entry)) (listed (now (file .entry)) (now (table .entry)) answer) (now (out .exit)) r ⌝ }
 {
     let mut rows = [[0u16, 0, 0, 0, 0, 0]; 512];
-    let mut places = [0u16; 32];
-    let mut entries = [0u16; 4096];
+    let mut places = [0u16; 64];
+    let mut entries = [0u16; network::ALL_ENTRIES];
     let opening = network::decode(file, &mut rows, &mut places, &mut entries);
     let m = opening.links;
-    let flows = travel::totals(table, opening.destinations, m);
+    let flows = travel::totals(table, opening.commodities, m);
     let mut curves = [0u64; travel::ALL_LISTS];
     travel::put_powers(&mut curves);
     let mut times = [0u32; 512];

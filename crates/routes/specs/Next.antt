@@ -1,6 +1,6 @@
--- A node's next link to one destination: the first fitting link. Of the links with an open head it is found along the chain of the links out of the
--- node, which are looked at first by the last 16 bits of times and marks, for eight destinations side by side. The links into a closed destination
--- are walked along by themselves.
+-- A node's next link for one commodity, which is called a destination: the first fitting link. Of the links with an open head it is found along the
+-- chain of the links out of the node, which are looked at first by the last 16 bits of times and marks, for eight destinations side by side. The links
+-- into a closed destination are walked along by themselves. A link that the commodity's class is barred from is in neither chain, and never fits.
 use Prim.Native.Nat.{ℕ, _+_, _<_, _%_, min}
 use mathlib.Core.Path.{_≡_}
 use mathlib.Core.Bool.{Bool, false, not, _||_, _&&_}
@@ -10,7 +10,7 @@ use lib.Dec.{eqb, ltb}
 use Rattle.theory.specs.Finite.{first}
 use Rattle.theory.specs.Laws.Filled.{Filled}
 use Rattle.theory.specs.Routes.{distances, fitsNext}
-use Rattle.theory.specs.Study.{head, closed, noLink, linkMark}
+use Rattle.theory.specs.Study.{head, closed, nodeOf, ofLorries, noLink, linkMark}
 use Rattle.search.specs.Search.{routingFrom}
 use Rattle.search.specs.Chains.{Passed}
 use Rattle.search.specs.Rows.{Worked}
@@ -34,9 +34,9 @@ fittingBelow nodes links times s a j l = (ltb l a || not (eqb (closed links l) 1
 abbrev pub firstBelow : ℕ → List (List ℕ) → List ℕ → ℕ → ℕ → ℕ → ℕ
 firstBelow nodes links times s a j = linkMark (first (length links) (fittingBelow nodes links times s a j))
 
--- Link l is a link out of node j with an open head, or none, and no such link before it fits.
+-- Link l is a link out of node j with an open head, of those that the class of s is not barred from, or none, and no such link before it fits.
 abbrev pub Unfit : ℕ → List (List ℕ) → List ℕ → ℕ → ℕ → ℕ → Type 0
-Unfit nodes links times s j l = Passed links 0 j (λ i. fitting nodes links times s j i ≡ false) l
+Unfit nodes links times s j l = Passed (ofLorries s) links 0 j (λ i. fitting nodes links times s j i ≡ false) l
 
 -- The last 16 bits of the marks of the nodes, to the destinations of a group.
 pub record Lows (nodes : ℕ) (marks lows : List (List ℕ)) : Type 0 where
@@ -55,26 +55,26 @@ abbrev pub RowKept : List ℕ → List ℕ → ℕ → ℕ → List ℕ → ℕ 
 RowKept own ahead time l row₀ k row =
     Worked (λ i r. Kept (getD row₀ i 0) ((getD ahead i 0 + time) % 65536) (getD own i 0) l r) row₀ k row
 
--- Link l is a link out of node j with an open head, or none, and the last 16 bits rule out each such link before it, for destination i of a group:
--- its time plus its head's mark differs from the node's own mark.
-abbrev pub RuledOut : List (List ℕ) → List ℕ → List (List ℕ) → ℕ → ℕ → ℕ → Type 0
-RuledOut links times lows j i l =
-    Passed links 0 j (λ a. (getD (getD lows (head links a) []) i 0 + getD times a 0) % 65536 ≡ getD (getD lows j []) i 0 → ⊥) l
+-- Link l is a link out of node j with an open head, of those that the class is not barred from, or none, and the last 16 bits rule out each such link
+-- before it, for destination i of a group: its time plus its head's mark differs from the node's own mark.
+abbrev pub RuledOut : Bool → List (List ℕ) → List ℕ → List (List ℕ) → ℕ → ℕ → ℕ → Type 0
+RuledOut lorries links times lows j i l =
+    Passed lorries links 0 j (λ a. (getD (getD lows (head links a) []) i 0 + getD times a 0) % 65536 ≡ getD (getD lows j []) i 0 → ⊥) l
 
 -- The walk along these links is at link l, with link r kept, or none.
-pub record Candidate (links : List (List ℕ)) (times : List ℕ) (lows : List (List ℕ)) (j i l r : ℕ) : Type 0 where
-  pub none-yet : r ≡ noLink → RuledOut links times lows j i l
-  pub found : (r ≡ noLink → ⊥) → RuledOut links times lows j i r
+pub record Candidate (lorries : Bool) (links : List (List ℕ)) (times : List ℕ) (lows : List (List ℕ)) (j i l r : ℕ) : Type 0 where
+  pub none-yet : r ≡ noLink → RuledOut lorries links times lows j i l
+  pub found : (r ≡ noLink → ⊥) → RuledOut lorries links times lows j i r
 
 -- The same for each destination of a group.
-pub record EachCandidate (links : List (List ℕ)) (times : List ℕ) (lows : List (List ℕ)) (j l : ℕ) (row : List ℕ) : Type 0 where
+pub record EachCandidate (lorries : Bool) (links : List (List ℕ)) (times : List ℕ) (lows : List (List ℕ)) (j l : ℕ) (row : List ℕ) : Type 0 where
   pub size : length row ≡ 8
-  pub chain : Passed links 0 j (λ a. a ≡ a) l
-  pub each : (i : ℕ) → i < 8 → Candidate links times lows j i l (getD row i 0)
+  pub chain : Passed lorries links 0 j (λ a. a ≡ a) l
+  pub each : (i : ℕ) → i < 8 → Candidate lorries links times lows j i l (getD row i 0)
 
 -- The links kept for the destinations of a group, when the walk is over.
-abbrev pub Candidates : List (List ℕ) → List ℕ → List (List ℕ) → ℕ → List ℕ → Type 0
-Candidates links times lows j row = (i : ℕ) → i < 8 → RuledOut links times lows j i (getD row i 0)
+abbrev pub Candidates : Bool → List (List ℕ) → List ℕ → List (List ℕ) → ℕ → List ℕ → Type 0
+Candidates lorries links times lows j row = (i : ℕ) → i < 8 → RuledOut lorries links times lows j i (getD row i 0)
 
 -- Of two links the lower one is kept where what link l gives is the node's own, and otherwise the one that was there.
 pub record Lowered (old given own l r : ℕ) : Type 0 where
@@ -84,5 +84,5 @@ pub record Lowered (old given own l r : ℕ) : Type 0 where
 -- The walk along the links into destination s, where that is closed, is at link l: the row has for each node the first fitting link of those whose
 -- head is open or that are below l.
 pub record OwnBelow (nodes : ℕ) (links : List (List ℕ)) (times : List ℕ) (s l : ℕ) (row : List ℕ) : Type 0 where
-  pub chain : Passed links 1 (128 + s) (λ a. a ≡ a) l
+  pub chain : Passed (ofLorries s) links 1 (128 + nodeOf s) (λ a. a ≡ a) l
   pub filled : Filled (firstBelow nodes links times s l) noLink 128 nodes row

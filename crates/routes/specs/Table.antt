@@ -32,19 +32,19 @@ abbrev pub NextRow : ℕ → List (List ℕ) → List ℕ → List ℕ → List 
 NextRow nodes links destinations trips times k row =
     FullRow nodes links destinations times k row ⊎ ((row ≡ noLinks) × NoTrips nodes trips k × GroupUnused nodes destinations trips k)
 
--- A table of 32 rows, of which the first are the next links to each destination, where somebody goes to its group.
+-- A table of which the first rows are the next links to each destination, where somebody goes to its group.
 pub record Nexts (nodes : ℕ) (links : List (List ℕ)) (destinations trips times : List ℕ) (table : List (List ℕ)) : Type 0 where
-  pub size : length table ≡ 32
+  pub size : length destinations ≤ length table
   pub row : (k : ℕ) → k < length destinations → NextRow nodes links destinations trips times k (getD table k [])
 
--- A table of 32 rows, of which the first are the next links to each destination.
+-- A table of which the first rows are the next links to each destination.
 pub record AllNexts (nodes : ℕ) (links : List (List ℕ)) (destinations times : List ℕ) (table : List (List ℕ)) : Type 0 where
-  pub size : length table ≡ 32
+  pub size : length destinations ≤ length table
   pub row : (k : ℕ) → k < length destinations → FullRow nodes links destinations times k (getD table k [])
 
 -- The rows from `first` on and below k are as `Put` says of each, and the others are as they were.
 pub record RowsPut (Put : ℕ → List ℕ → Type 0) (table₀ : List (List ℕ)) (first k : ℕ) (table : List (List ℕ)) : Type 0 where
-  pub size : length table ≡ 32
+  pub size : length table ≡ length table₀
   pub put : (q : ℕ) → first ≤ q → q < k → Put q (getD table q [])
   pub rest : (q : ℕ) → (first ≤ q → q < k → ⊥) → getD table q [] ≡ getD table₀ q []
 

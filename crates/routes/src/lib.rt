@@ -1,4 +1,4 @@
-// Next links, from least times to eight destinations side by side.
+// Next links, from least times for eight commodities side by side.
 mod next;
 
 pub use next::complete_table;

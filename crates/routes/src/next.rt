@@ -1,13 +1,11 @@
-// Next links, found from the least times to eight destinations side by side.
+// Next links, found from the least times for eight commodities side by side, which are the destinations of a group.
 ghost use mathlib.Core.Path.{_≡_};
 ghost use Prim.Native.Nat.{ℕ, _+_, _*_, _≤_, _<_, _%_, min};
-ghost use mathlib.Core.Bool.{false};
 ghost use lib.ListN.{length, getD};
 ghost use Rattle.search.specs.Search.{routingFrom};
-ghost use Rattle.search.specs.Given.{AllSearchable};
+ghost use Rattle.search.specs.Given.{AllSearchable, classOf};
 ghost use Rattle.search.specs.Chains.{Chainable, Linked, chainOf};
 ghost use Rattle.search.specs.Lanes.{EachSearchable, Found};
-ghost use Rattle.search.specs.Groups.{Unused};
 ghost use Rattle.routes.specs.Next.{firstOpen, Unfit, Lows, Kept, RowKept, Candidates, Lowered};
 ghost use Rattle.routes.specs.Table.{linkMarks, Nexts, AllNexts, RowsEmpty, RowsCleared, NodePut, OpenRow, OpenPut, RowsOpen, GroupPut, NextsPut};
 use search::INTO;
@@ -20,6 +18,7 @@ use search::search;
 use theory::HEAD;
 use theory::NO_LINK;
 use theory::TAIL;
+use theory::node_of;
 
 // The last 16 bits of a number.
 fn low(x: u32) -> u16
@@ -81,16 +80,18 @@ fn keep_row(row: &mut [u16; 8], own: [u16; 8], ahead: [u16; 8], time: u16, l: u1
 }
 
 // For each destination of a group the first link out of node j, of those with an open head, that the last 16 bits of times and marks do not rule
-// out: no such link before it fits. All eight are looked at side by side, without a branch.
+// out: no such link before it fits. All eight are looked at side by side, without a branch. The chains are those of the group's class, and the group
+// is given only to say so.
 fn candidates(
     links: &[[u16; 6]],
     times: &[u32; 512],
-    out: &[u16; 768],
+    group: &[u16; 8],
+    out: &[u16; 896],
     lows: &[[u16; 8]; 128],
     j: usize,
 ) -> [u16; 8]
-    requires { ⌜ Chainable (now links) × (now out ≡ chainOf (now links) 0) × (j < 128) ⌝ }
-    ensures { λ r. ⌜ Candidates (now (links .entry)) (now (times .entry)) (now (lows .entry)) j r ⌝ }
+    requires { ⌜ Chainable (now links) × (now out ≡ chainOf (classOf (now group)) (now links) 0) × (j < 128) ⌝ }
+    ensures { λ r. ⌜ Candidates (classOf (now (group .entry))) (now (links .entry)) (now (times .entry)) (now (lows .entry)) j r ⌝ }
 {
     let own = lows[j];
     let mut row = [NO_LINK; 8];
@@ -99,7 +100,7 @@ fn candidates(
         let i = index(l);
         let ahead = lows[index(links[i][HEAD])];
         keep_row(&mut row, own, ahead, low(times[i]), l);
-        l = out[256 + i];
+        l = out[384 + i];
     }
     row
 }
@@ -111,14 +112,14 @@ fn next_link(
     links: &[[u16; 6]],
     times: &[u32; 512],
     group: &[u16; 8],
-    out: &[u16; 768],
+    out: &[u16; 896],
     marks: &[[u32; 8]; 128],
     j: usize,
     k: usize,
     from: u16,
 ) -> u16
     requires { ⌜ EachSearchable nodes (now links) (now times) (now group) × Found nodes (now links) (now times) (now group) (now marks) ⌝ }
-    requires { ⌜ (now out ≡ chainOf (now links) 0) × (j < nodes) × (k < 8) × Unfit nodes (now links) (now times) (getD (now group) k 0) j from ⌝ }
+    requires { ⌜ (now out ≡ chainOf (classOf (now group)) (now links) 0) × (j < nodes) × (k < 8) × Unfit nodes (now links) (now times) (getD (now group) k 0) j from ⌝ }
     ensures { λ r. ⌜ r ≡ firstOpen nodes (now (links .entry)) (now (times .entry)) (getD (now (group .entry)) k 0) j ⌝ }
 {
     let own = marks[j][k];
@@ -128,31 +129,31 @@ fn next_link(
         if marks[index(links[i][HEAD])][k] + times[i] == own {
             break;
         }
-        l = out[256 + i];
+        l = out[384 + i];
     }
     l
 }
 
 // Writes the next links of node j to the destinations of a group, of the links with an open head.
 fn put_node(
-    table: &mut [[u16; 128]; 32],
+    table: &mut [[u16; 128]],
     first: usize,
     past: usize,
     nodes: usize,
     links: &[[u16; 6]],
     times: &[u32; 512],
     group: &[u16; 8],
-    out: &[u16; 768],
+    out: &[u16; 896],
     marks: &[[u32; 8]; 128],
     lows: &[[u16; 8]; 128],
     j: usize,
 )
     requires { ⌜ EachSearchable nodes (now links) (now times) (now group) × Found nodes (now links) (now times) (now group) (now marks) ⌝ }
-    requires { ⌜ (now out ≡ chainOf (now links) 0) × Lows nodes (now marks) (now lows) × (j < nodes) ⌝ }
-    requires { ⌜ (first ≤ past) × (past ≤ first + 8) × (past ≤ 32) × (length (now table) ≡ 32) ⌝ }
+    requires { ⌜ (now out ≡ chainOf (classOf (now group)) (now links) 0) × Lows nodes (now marks) (now lows) × (j < nodes) ⌝ }
+    requires { ⌜ (first ≤ past) × (past ≤ first + 8) × (past ≤ 32) × (past ≤ length (now table)) ⌝ }
     ensures { λ _. ⌜ NodePut nodes (now (links .entry)) (now (times .entry)) (now (group .entry)) j (now (table .entry)) first past (now (table .exit)) ⌝ }
 {
-    let row = candidates(links, times, out, lows, j);
+    let row = candidates(links, times, group, out, lows, j);
     let mut k = first;
     while k < past {
         let i = k - first;
@@ -164,19 +165,19 @@ fn put_node(
 // Writes the next links of all nodes to the destinations of a group, which are those from `first` on and below `past`, of the links with an open
 // head.
 fn put_group(
-    table: &mut [[u16; 128]; 32],
+    table: &mut [[u16; 128]],
     first: usize,
     past: usize,
     nodes: usize,
     links: &[[u16; 6]],
     times: &[u32; 512],
     group: &[u16; 8],
-    out: &[u16; 768],
+    out: &[u16; 896],
     marks: &[[u32; 8]; 128],
 )
     requires { ⌜ EachSearchable nodes (now links) (now times) (now group) × Found nodes (now links) (now times) (now group) (now marks) ⌝ }
-    requires { ⌜ (now out ≡ chainOf (now links) 0) × (length (now table) ≡ 32) × RowsEmpty first past (now table) ⌝ }
-    requires { ⌜ (first ≤ past) × (past ≤ first + 8) × (past ≤ 32) ⌝ }
+    requires { ⌜ (now out ≡ chainOf (classOf (now group)) (now links) 0) × RowsEmpty first past (now table) ⌝ }
+    requires { ⌜ (first ≤ past) × (past ≤ first + 8) × (past ≤ 32) × (past ≤ length (now table)) ⌝ }
     ensures { λ _. ⌜ OpenPut nodes (now (links .entry)) (now (times .entry)) (now (group .entry)) nodes (now (table .entry)) first past (now (table .exit)) ⌝ }
 {
     let mut lows = [[0u16; 8]; 128];
@@ -217,39 +218,39 @@ fn put_own(
     links: &[[u16; 6]],
     times: &[u32; 512],
     group: &[u16; 8],
-    into: &[u16; 768],
+    into: &[u16; 896],
     marks: &[[u32; 8]; 128],
     k: usize,
 )
     requires { ⌜ EachSearchable nodes (now links) (now times) (now group) × Found nodes (now links) (now times) (now group) (now marks) ⌝ }
-    requires { ⌜ (now into ≡ chainOf (now links) 1) × (k < 8) × OpenRow nodes (now links) (now times) (getD (now group) k 0) nodes (now row) ⌝ }
+    requires { ⌜ (now into ≡ chainOf (classOf (now group)) (now links) 1) × (k < 8) × OpenRow nodes (now links) (now times) (getD (now group) k 0) nodes (now row) ⌝ }
     ensures { λ _. ⌜ now (row .exit) ≡ linkMarks (routingFrom nodes (now (links .entry)) (now (times .entry)) (getD (now (group .entry)) k 0)) ⌝ }
 {
-    let mut l = into[128 + index(group[k])];
+    let mut l = into[128 + node_of(group[k])];
     while l != NO_LINK {
         let i = index(l);
         let j = index(links[i][TAIL]);
         let given = marks[index(links[i][HEAD])][k] + times[i];
         row[j] = lower(row[j], given, marks[j][k], l);
-        l = into[256 + i];
+        l = into[384 + i];
     }
 }
 
 // Writes the links into those destinations of a group that are closed, beside the links with an open head.
 fn put_closed(
-    table: &mut [[u16; 128]; 32],
+    table: &mut [[u16; 128]],
     first: usize,
     past: usize,
     nodes: usize,
     links: &[[u16; 6]],
     times: &[u32; 512],
     group: &[u16; 8],
-    into: &[u16; 768],
+    into: &[u16; 896],
     marks: &[[u32; 8]; 128],
 )
     requires { ⌜ EachSearchable nodes (now links) (now times) (now group) × Found nodes (now links) (now times) (now group) (now marks) ⌝ }
-    requires { ⌜ (now into ≡ chainOf (now links) 1) × (length (now table) ≡ 32) × RowsOpen nodes (now links) (now times) (now group) first past (now table) ⌝ }
-    requires { ⌜ (first ≤ past) × (past ≤ first + 8) × (past ≤ 32) ⌝ }
+    requires { ⌜ (now into ≡ chainOf (classOf (now group)) (now links) 1) × RowsOpen nodes (now links) (now times) (now group) first past (now table) ⌝ }
+    requires { ⌜ (first ≤ past) × (past ≤ first + 8) × (past ≤ 32) × (past ≤ length (now table)) ⌝ }
     ensures { λ _. ⌜ GroupPut nodes (now (links .entry)) (now (times .entry)) (now (group .entry)) (now (table .entry)) first past (now (table .exit)) ⌝ }
 {
     let mut k = first;
@@ -269,8 +270,8 @@ fn put_closed(
 }
 
 // Sets the rows of the destinations from `first` on and below `past` to no link.
-fn clear_rows(table: &mut [[u16; 128]; 32], first: usize, past: usize)
-    requires { ⌜ (first ≤ past) × (past ≤ 32) × (length (now table) ≡ 32) ⌝ }
+fn clear_rows(table: &mut [[u16; 128]], first: usize, past: usize)
+    requires { ⌜ (first ≤ past) × (past ≤ 32) × (past ≤ length (now table)) ⌝ }
     ensures { λ _. ⌜ RowsCleared (now (table .entry)) first past (now (table .exit)) ⌝ }
 {
     let mut k = first;
@@ -282,19 +283,19 @@ fn clear_rows(table: &mut [[u16; 128]; 32], first: usize, past: usize)
 
 // Writes the next links to the destinations of a group, which are those from `first` on and below `past`. The marks are lent for the search.
 fn put_next(
-    table: &mut [[u16; 128]; 32],
+    table: &mut [[u16; 128]],
     first: usize,
     past: usize,
     nodes: usize,
     links: &[[u16; 6]],
     destinations: &[u16],
     times: &[u32; 512],
-    chains: &[[u16; 768]; 2],
+    chains: &[[u16; 896]],
     marks: &mut [[u32; 8]; 128],
 )
-    requires { ⌜ AllSearchable nodes (now links) (now destinations) (now times) × Linked (now links) (now chains) ⌝ }
+    requires { ⌜ AllSearchable nodes (now links) (now destinations) (now times) × Linked (classOf (now destinations)) (now links) (now chains) ⌝ }
     requires { ⌜ (first < length (now destinations)) × (past ≡ min (first + 8) (length (now destinations))) ⌝ }
-    requires { ⌜ (length (now table) ≡ 32) × RowsEmpty first past (now table) ⌝ }
+    requires { ⌜ (past ≤ length (now table)) × RowsEmpty first past (now table) ⌝ }
     ensures { λ _. ⌜ NextsPut nodes (now (links .entry)) (now (destinations .entry)) (now (times .entry)) (now (table .entry)) first past (now (table .exit)) ⌝ }
 {
     let group = group_of(destinations, first);
@@ -331,12 +332,13 @@ pub fn next_table(
     destinations: &[u16],
     trips: &[u16],
     times: &[u32; 512],
-    chains: &[[u16; 768]; 2],
-    table: &mut [[u16; 128]; 32],
+    chains: &[[u16; 896]],
+    table: &mut [[u16; 128]],
 )
-    requires { ⌜ AllSearchable nodes (now links) (now destinations) (now times) × Linked (now links) (now chains) ⌝ }
-    requires { ⌜ (length (now trips) ≡ length (now destinations) * nodes) × (length (now table) ≡ 32) ⌝ }
+    requires { ⌜ AllSearchable nodes (now links) (now destinations) (now times) × Linked (classOf (now destinations)) (now links) (now chains) ⌝ }
+    requires { ⌜ (length (now trips) ≡ length (now destinations) * nodes) × (length (now destinations) ≤ length (now table)) ⌝ }
     ensures { λ _. ⌜ Nexts nodes (now (links .entry)) (now (destinations .entry)) (now (trips .entry)) (now (times .entry)) (now (table .exit)) ⌝ }
+    ensures { λ _. ⌜ length (now (table .exit)) ≡ length (now (table .entry)) ⌝ }
 {
     let mut marks = [[0; 8]; 128];
     let mut first: usize = 0;
@@ -360,23 +362,6 @@ pub fn next_table(
     }
 }
 
-// Whether nobody goes to the destinations from `first` on and below `past`: false only where there are trips to one of them.
-// (`group_trips` promises the other half: it is 0 only where there are none.)
-fn no_trips(nodes: usize, trips: &[u16], first: usize, past: usize) -> bool
-    requires { ⌜ (nodes ≤ 128) × (first ≤ past) × (past ≤ 32) × (past * nodes ≤ length (now trips)) ⌝ }
-    ensures { λ r. ⌜ (r ≡ false → Unused nodes (now (trips .entry)) first past → ⊥) ⌝ }
-{
-    let end = past * nodes;
-    let mut i = first * nodes;
-    while i < end {
-        if trips[i] != 0 {
-            return false;
-        }
-        i += 1;
-    }
-    true
-}
-
 // The next links to the destinations of the groups to which nobody goes, which `next_table` leaves out.
 pub fn complete_table(
     nodes: usize,
@@ -384,18 +369,19 @@ pub fn complete_table(
     destinations: &[u16],
     trips: &[u16],
     times: &[u32; 512],
-    chains: &[[u16; 768]; 2],
-    table: &mut [[u16; 128]; 32],
+    chains: &[[u16; 896]],
+    table: &mut [[u16; 128]],
 )
-    requires { ⌜ AllSearchable nodes (now links) (now destinations) (now times) × Linked (now links) (now chains) ⌝ }
+    requires { ⌜ AllSearchable nodes (now links) (now destinations) (now times) × Linked (classOf (now destinations)) (now links) (now chains) ⌝ }
     requires { ⌜ length (now trips) ≡ length (now destinations) * nodes ⌝ }
     requires { ⌜ Nexts nodes (now links) (now destinations) (now trips) (now times) (now table) ⌝ }
     ensures { λ _. ⌜ AllNexts nodes (now (links .entry)) (now (destinations .entry)) (now (times .entry)) (now (table .exit)) ⌝ }
+    ensures { λ _. ⌜ length (now (table .exit)) ≡ length (now (table .entry)) ⌝ }
 {
     let mut first: usize = 0;
     while first < destinations.len() {
         let past = group_end(destinations.len(), first);
-        if no_trips(nodes, trips, first, past) {
+        if group_trips(nodes, trips, first, past) == 0 {
             let mut marks = [[0; 8]; 128];
             clear_rows(table, first, past);
             put_next(

@@ -1,12 +1,13 @@
--- Searches to eight destinations side by side. A table of marks has a row for each node, with a mark for each destination of a group; the
--- marks of one destination are a lane of the table.
+-- Searches for eight commodities of one class side by side. They are a group, and each is called a destination of it. A table of marks has a row for
+-- each node, with a mark for each destination of the group; the marks of one destination are a lane of the table.
 use Prim.Native.Nat.{ℕ, _+_, _≤_, _<_}
 use mathlib.Core.Path.{_≡_}
 use mathlib.Core.List.{List, []}
 use lib.ListN.{length, getD, set, replicate}
 use Rattle.theory.specs.Finite.{sum, tabulate}
+use Rattle.theory.specs.Study.{nodeOf, ofLorries}
 use Rattle.search.specs.Search.{routingFrom, unreached, marks}
-use Rattle.search.specs.Given.{Searchable}
+use Rattle.search.specs.Given.{Searchable, classOf}
 use Rattle.search.specs.Marks.{allUnreached, total, relaxed, Searching, Hands, Scanning, Scanned, Entered, Scans}
 
 -- The marks of destination i of the group.
@@ -44,9 +45,10 @@ pub record Compared (row old : List ℕ) (k r : ℕ) : Type 0 where
   pub none-lower : r ≡ 0 → (i : ℕ) → i < k → getD old i 0 ≤ getD row i 0
   pub some-lower : 0 < r → (i : ℕ) × (i < k) × (getD row i 0 < getD old i 0)
 
--- The network can be searched to each destination of the group.
-abbrev pub EachSearchable : ℕ → List (List ℕ) → List ℕ → List ℕ → Type 0
-EachSearchable nodes links times group = (i : ℕ) → i < 8 → Searchable nodes links times (getD group i 0)
+-- The network can be searched to each destination of the group, and all are of one class.
+pub record EachSearchable (nodes : ℕ) (links : List (List ℕ)) (times group : List ℕ) : Type 0 where
+  pub each : (i : ℕ) → i < 8 → Searchable nodes links times (getD group i 0)
+  pub one-class : (i : ℕ) → i < 8 → ofLorries (getD group i 0) ≡ classOf group
 
 -- No mark of the nodes below k is below the mark at the node's last scan.
 abbrev pub EachQuiet : ℕ → List (List ℕ) → List (List ℕ) → Type 0
@@ -101,7 +103,7 @@ module _ (nodes : ℕ) (links : List (List ℕ)) (times group : List ℕ) where
 -- The first k destinations of a group are marked as such, and nothing else is reached.
 pub record SetOut (group : List ℕ) (k : ℕ) (table : List (List ℕ)) : Type 0 where
   pub shaped : Shaped table
-  pub marked : (i : ℕ) → i < k → lane i table ≡ set allUnreached (getD group i 0) 0
+  pub marked : (i : ℕ) → i < k → lane i table ≡ set allUnreached (nodeOf (getD group i 0)) 0
   pub rest : (i : ℕ) → k ≤ i → i < 8 → lane i table ≡ allUnreached
 
 -- The least times to each destination of the group.

@@ -1,22 +1,22 @@
--- Least times to one destination.
+-- Least times of one commodity: the trips of cars, or of lorries, to one destination.
 use Prim.Native.Nat.{ℕ, _-_}
 use mathlib.Core.List.{List, _++_, map}
 use mathlib.Core.Option.{Option, none, some}
 use lib.ListN.{length, getD, replicate}
 use Rattle.theory.specs.Routes.{Routing, distances}
-use Rattle.theory.specs.Study.{tail, head, mayUse}
+use Rattle.theory.specs.Study.{tail, head, nodeOf, mayUse}
 
--- The routing to a node over the links of a study that may carry flow to it, at the times of a list. It is that of the study's network to a
--- destination at that node.
+-- The routing of a commodity over the links of a study that may carry it, at the times of a list. It is that of the study's network for a
+-- commodity of that number.
 unfoldable pub routingFrom : ℕ → List (List ℕ) → List ℕ → ℕ → Routing
-routingFrom nodes links times destination =
+routingFrom nodes links times commodity =
     record {
       nodes = nodes;
       links = length links;
       tail = tail links;
       head = head links;
-      usable = mayUse links destination;
-      destination = destination;
+      usable = mayUse links commodity;
+      destination = nodeOf commodity;
       time = λ l. getD times l 0;
     }
 

@@ -1,5 +1,6 @@
 // Destinations in groups of eight, and the trips to them.
 ghost use mathlib.Core.Path.{_≡_};
+ghost use mathlib.Core.Logic.{_↔_};
 ghost use Prim.Native.Nat.{ℕ, _+_, _*_, _≤_, _<_, min};
 ghost use lib.ListN.{length, getD};
 ghost use Rattle.search.specs.Groups.{ZeroBelow, Member, Unused};
@@ -34,17 +35,17 @@ pub fn group_end(p: usize, first: usize) -> usize
     if first + 8 < p { first + 8 } else { p }
 }
 
-// Whether there are trips to the destinations from `first` on and below `past`: 0 if nobody goes to any of them.
+// Whether there are trips to the destinations from `first` on and below `past`: 0 if and only if nobody goes to any of them.
 pub fn group_trips(nodes: usize, trips: &[u16], first: usize, past: usize) -> u16
     requires { ⌜ (nodes ≤ 128) × (first ≤ past) × (past ≤ 32) × (past * nodes ≤ length (now trips)) ⌝ }
-    ensures { λ r. ⌜ (r ≡ 0 → Unused nodes (now (trips .entry)) first past) ⌝ }
+    ensures { λ r. ⌜ (r ≡ 0) ↔ Unused nodes (now (trips .entry)) first past ⌝ }
 {
     any_trips(&trips[first * nodes..past * nodes])
 }
 
-// Whether there are trips among some: 0 if there are none. There is no branch, so several numbers are seen at once.
+// Whether there are trips among some: 0 if and only if there are none. There is no branch, so several numbers are seen at once.
 fn any_trips(trips: &[u16]) -> u16
-    ensures { λ r. ⌜ (r ≡ 0 → ZeroBelow (length (now (trips .entry))) (now (trips .entry))) ⌝ }
+    ensures { λ r. ⌜ (r ≡ 0) ↔ ZeroBelow (length (now (trips .entry))) (now (trips .entry)) ⌝ }
 {
     let mut any: u16 = 0;
     let mut i: usize = 0;

@@ -2,7 +2,7 @@
 ghost use mathlib.Core.Path.{_≡_};
 ghost use Prim.Native.Nat.{_+_, _*_, _≤_, _<_, _^_};
 ghost use lib.ListN.{length};
-ghost use Rattle.search.specs.Given.{AllSearchable};
+ghost use Rattle.search.specs.Given.{AllSearchable, classOf};
 ghost use Rattle.search.specs.Chains.{chainOf};
 ghost use Rattle.search.specs.Lanes.{Marked};
 ghost use Rattle.search.specs.Groups.{leastOver};
@@ -61,9 +61,9 @@ pub fn least_times(
     destinations: &[u16],
     trips: &[u16],
     times: &[u32; 512],
-    into: &[u16; 768],
+    into: &[u16; 896],
 ) -> u64
-    requires { ⌜ AllSearchable nodes (now links) (now destinations) (now times) × (now into ≡ chainOf (now links) 1) ⌝ }
+    requires { ⌜ AllSearchable nodes (now links) (now destinations) (now times) × (now into ≡ chainOf (classOf (now destinations)) (now links) 1) ⌝ }
     requires { ⌜ length (now trips) ≡ length (now destinations) * nodes ⌝ }
     ensures { λ r. ⌜ r ≡ leastOver nodes (now (links .entry)) (now (destinations .entry)) (now (trips .entry)) (now (times .entry)) ⌝ }
 {

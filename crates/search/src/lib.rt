@@ -1,4 +1,4 @@
-// Least times to eight destinations side by side, the chains of the links by which they are found, and the sum of trips × least time.
+// Least times for eight commodities side by side, the chains of the links by which they are found, and the sum of trips × least time.
 mod chains;
 mod groups;
 mod least;
@@ -8,7 +8,6 @@ mod scans;
 pub use chains::INTO;
 pub use chains::OUT;
 pub use chains::into_chain;
-pub use chains::link_chains;
 pub use chains::put_chains;
 pub use groups::group_end;
 pub use groups::group_of;

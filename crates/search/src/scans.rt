@@ -1,14 +1,16 @@
-// Least times to eight destinations side by side: a table of marks has a row for each node and a column for each destination.
+// Least times for eight commodities side by side, which are the destinations of a group: a table of marks has a row for each node and a column for
+// each destination.
 ghost use mathlib.Core.Path.{_≡_};
 ghost use Prim.Native.Nat.{ℕ, _≤_, _<_, _^_, min};
 ghost use mathlib.Core.List.{[]};
 ghost use lib.ListN.{getD, set};
-ghost use Rattle.search.specs.Given.{longest};
+ghost use Rattle.search.specs.Given.{longest, classOf};
 ghost use Rattle.search.specs.Chains.{chainOf};
 ghost use Rattle.search.specs.Lanes.{totals, RowMarked, Shaped, Marked, EachRelaxed, EachSearchable, EachSearching, EachHands, EachScanned, EachEntered, EachScans, Compared, Visited, Swept, Found};
 use crate::numbers::index;
 use theory::NO_LINK;
 use theory::TAIL;
+use theory::node_of;
 
 // A node that no link has reached: more than any distance, and with a link's time added still below 2^31.
 pub const UNREACHED: u32 = 1073741824;
@@ -43,11 +45,11 @@ fn scan(
     links: &[[u16; 6]],
     times: &[u32; 512],
     group: [u16; 8],
-    into: &[u16; 768],
+    into: &[u16; 896],
     place: usize,
     ahead: [u32; 8],
 )
-    requires { ⌜ EachSearchable nodes (now links) (now times) group × (now into ≡ chainOf (now links) 1) ⌝ }
+    requires { ⌜ EachSearchable nodes (now links) (now times) group × (now into ≡ chainOf (classOf group) (now links) 1) ⌝ }
     requires { ⌜ EachSearching nodes (now links) (now times) group (now marks) × (place < 256) × RowMarked ahead ⌝ }
     requires { ⌜ EachHands nodes (now links) (now times) group place ahead (now marks) ⌝ }
     ensures { λ _. ⌜ EachScanned nodes (now (links .entry)) (now (times .entry)) group place ahead (now (marks .entry)) (now (marks .exit)) ⌝ }
@@ -56,7 +58,7 @@ fn scan(
     while l != NO_LINK {
         let i = index(l);
         relax(marks, index(links[i][TAIL]), ahead, times[i]);
-        l = into[256 + i];
+        l = into[384 + i];
     }
 }
 
@@ -82,10 +84,10 @@ fn visit(
     links: &[[u16; 6]],
     times: &[u32; 512],
     group: [u16; 8],
-    into: &[u16; 768],
+    into: &[u16; 896],
     k: usize,
 ) -> usize
-    requires { ⌜ EachSearchable nodes (now links) (now times) group × (now into ≡ chainOf (now links) 1) ⌝ }
+    requires { ⌜ EachSearchable nodes (now links) (now times) group × (now into ≡ chainOf (classOf group) (now links) 1) ⌝ }
     requires { ⌜ EachScans nodes (now links) (now times) group (now marks) (now scanned) × (k < nodes) ⌝ }
     ensures { λ r. ⌜ Visited nodes (now (links .entry)) (now (times .entry)) group k (now (marks .entry)) (now (scanned .entry)) (now (marks .exit)) (now (scanned .exit)) r ⌝ }
 {
@@ -106,9 +108,9 @@ fn sweep_up(
     links: &[[u16; 6]],
     times: &[u32; 512],
     group: [u16; 8],
-    into: &[u16; 768],
+    into: &[u16; 896],
 ) -> usize
-    requires { ⌜ EachSearchable nodes (now links) (now times) group × (now into ≡ chainOf (now links) 1) ⌝ }
+    requires { ⌜ EachSearchable nodes (now links) (now times) group × (now into ≡ chainOf (classOf group) (now links) 1) ⌝ }
     requires { ⌜ EachScans nodes (now links) (now times) group (now marks) (now scanned) ⌝ }
     ensures { λ r. ⌜ Swept nodes (now (links .entry)) (now (times .entry)) group nodes (totals (now (scanned .entry))) (now (marks .exit)) (now (scanned .exit)) r ⌝ }
 {
@@ -129,9 +131,9 @@ fn sweep_down(
     links: &[[u16; 6]],
     times: &[u32; 512],
     group: [u16; 8],
-    into: &[u16; 768],
+    into: &[u16; 896],
 ) -> usize
-    requires { ⌜ EachSearchable nodes (now links) (now times) group × (now into ≡ chainOf (now links) 1) ⌝ }
+    requires { ⌜ EachSearchable nodes (now links) (now times) group × (now into ≡ chainOf (classOf group) (now links) 1) ⌝ }
     requires { ⌜ EachScans nodes (now links) (now times) group (now marks) (now scanned) ⌝ }
     ensures { λ r. ⌜ Swept nodes (now (links .entry)) (now (times .entry)) group 0 (totals (now (scanned .entry))) (now (marks .exit)) (now (scanned .exit)) r ⌝ }
 {
@@ -159,9 +161,9 @@ fn enter(
     links: &[[u16; 6]],
     times: &[u32; 512],
     group: [u16; 8],
-    into: &[u16; 768],
+    into: &[u16; 896],
 )
-    requires { ⌜ EachSearchable nodes (now links) (now times) group × (now into ≡ chainOf (now links) 1) ⌝ }
+    requires { ⌜ EachSearchable nodes (now links) (now times) group × (now into ≡ chainOf (classOf group) (now links) 1) ⌝ }
     requires { ⌜ EachEntered nodes (now links) (now times) group 0 (now marks) ⌝ }
     ensures { λ _. ⌜ EachEntered nodes (now (links .entry)) (now (times .entry)) group 8 (now (marks .exit)) ⌝ }
 {
@@ -169,7 +171,7 @@ fn enter(
     while k < 8 {
         let mut ahead = [UNREACHED; 8];
         ahead[k] = 0;
-        let place = 128 + index(group[k]);
+        let place = 128 + node_of(group[k]);
         scan(marks, nodes, links, times, group, into, place, ahead);
         k += 1;
     }
@@ -182,10 +184,10 @@ pub fn search(
     links: &[[u16; 6]],
     times: &[u32; 512],
     group: [u16; 8],
-    into: &[u16; 768],
+    into: &[u16; 896],
     marks: &mut [[u32; 8]; 128],
 )
-    requires { ⌜ EachSearchable nodes (now links) (now times) group × (now into ≡ chainOf (now links) 1) ⌝ }
+    requires { ⌜ EachSearchable nodes (now links) (now times) group × (now into ≡ chainOf (classOf group) (now links) 1) ⌝ }
     ensures { λ _. ⌜ Found nodes (now (links .entry)) (now (times .entry)) group (now (marks .exit)) ⌝ }
 {
     let unreached = [UNREACHED; 8];
@@ -193,7 +195,7 @@ pub fn search(
     let mut scanned = [unreached; 128];
     let mut k: usize = 0;
     while k < 8 {
-        set_out(marks, index(group[k]), k);
+        set_out(marks, node_of(group[k]), k);
         k += 1;
     }
     enter(marks, nodes, links, times, group, into);

@@ -31,13 +31,15 @@ power linkBytes linkSize link = cond (ltb linkSize 12) 4 (u16 linkBytes (linkSiz
 unfoldable pub destination : List ℕ → ℕ → ℕ
 destination destinationBytes k = u16 destinationBytes (2 * k)
 
--- Trips: for each destination in order, for each node j from 0, u16 D(j,s). Of n nodes, destination k has the entries from k * n on.
+-- Trips, and lorry trips (A.7): for each destination in order, for each node j from 0, u16 D(j,s). Of n nodes, destination k has the entries from
+-- k * n on.
 unfoldable pub trips : List ℕ → ℕ → ℕ → ℕ → ℕ
 trips tripBytes n k node = u16 tripBytes (2 * (k * n + node))
 
--- Closed (A.2): for each node a byte, 1 for a closed node, 0 for open. Where there are no such bytes, as in version 1, every node is open.
-unfoldable pub closedByte : List ℕ → ℕ → ℕ
-closedByte closedBytes node = byte closedBytes node
+-- Closed (A.2): for each node a byte, 1 for a closed node, 0 for open. Barred (A.7): for each link a byte, 1 where lorries are barred. Where there are
+-- no such bytes, as in version 1, every node is open and no link is barred.
+unfoldable pub markByte : List ℕ → ℕ → ℕ
+markByte bytes number = byte bytes number
 
 -- What a reader of a field asks of its section: that the bytes of that link, destination or entry are there.
 unfoldable pub HasLink : List ℕ → ℕ → ℕ → Type 0

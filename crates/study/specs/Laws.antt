@@ -1,21 +1,32 @@
 -- What holds of the definitions beside this file, for the crates above: lists of questions, accepted files, the parts and their fields.
-use Prim.Native.Nat.{ℕ, zero, suc, _+_, _*_, _<_, _≤_, _^_}
-use mathlib.Core.Bool.{Bool, true, false, _&&_, cond, and-eq-true-iff}
+use Prim.Native.Nat.{ℕ, zero, suc, _+_, _*_, _-_, _<_, _≤_, _^_}
+use mathlib.Core.Bool.{Bool, true, false, _&&_, cond, and-eq-true-iff, true≢false}
+use mathlib.Core.Logic.{_⊎_, inl, inr, ⊎-elim}
 use mathlib.Core.List.{List, [], _∷_, _++_}
 use mathlib.Core.Path.{_≡_, refl, sym, ap, _∙_}
 use native.Mathlib.Nat.{mul-le-mul-left, mul-le-mul-right}
+use native.Mathlib.Decide.{decLt}
+use native.Mathlib.Numerals.{add-one}
 use native.Mathlib.Omega.{arith}
 use lib.Arith.{digits-lt}
 use lib.Dec.{leb, ltb, eqb}
-use lib.ListN.{length, getD, take, drop, length-take, length-drop, List·getD-eq-default}
+use lib.ListN.{length, getD, take, drop, replicate, length-take, length-drop, List·getD-eq-default}
 use lib.Seq.{getD-take, getD-drop}
-use borrow.Author.Tests.{leb-true, ltb-true, ltb-false, eqb-true, eqb-false, eq-eqb, ne-eqb}
+use borrow.Author.Count.{below-more}
+use borrow.Author.Tests.{leb-true, ltb-true, ltb-false, lt-ltb, le-ltb, eqb-true, eqb-false, eq-eqb, ne-eqb}
 use Rattle.study.specs.Bytes.{byte, u16, u32}
-use Rattle.study.specs.Versions.{versions, formOf, closedOf}
-use Rattle.study.specs.Header.{version, nodeField, linkField, destinationField, hasSection, offset, size, Headed, closedField}
-use Rattle.study.specs.Questions.{Question, firstNo, within, lengthFits, versionKnown, countsFit, sectionEnd, sectionsApart, sectionsInOrder, sizesFit, opening, refusal}
-use Rattle.study.specs.Sections.{ifAccepted, nodes, links, destinations, closedCount, linkSize, part, linkPart, destinationPart, tripPart, closedPart}
+use Rattle.study.specs.Versions.{versions, formOf, sectionSize}
+use Rattle.study.specs.Header.{version, nodeField, linkField, destinationField, hasSection, offset, size, Headed}
+use Rattle.study.specs.Questions.{Question, firstNo, within, lengthFits, versionKnown, countsFit, sectionEnd, eachSection, sectionsApart, sectionsInOrder, sizesFit, opening, refusal}
+use Rattle.study.specs.Sections.{ifAccepted, nodes, links, destinations, lorryDestinations, linkSize, part, linkPart, destinationPart, tripPart, lorryPart}
 use Rattle.study.specs.Fields.{tail, head, freeTime, rise, capacity, destination, trips, HasLink, HasDestination, HasTrips}
+
+below-or : (a b : ℕ) → (a < b) ⊎ (b ≤ a)
+below-or a b = go (decLt a b)
+  where
+    go : Dec (a < b) → (a < b) ⊎ (b ≤ a)
+    go (yes h) = inl h
+    go (no h) = inr (omega arith)
 
 both : (a b : Bool) → a && b ≡ true → (a ≡ true) × (b ≡ true)
 both a b e = and-eq-true-iff a b .0 e
@@ -86,19 +97,20 @@ length-fits file e = within-true 32 65536 (length file) e
 -- What the table of versions says of a version.
 pub record Known (version : ℕ) : Type 0 where
   pub least : 1 ≤ version
-  pub most : version ≤ 3
+  pub most : version ≤ 4
   -- version and counts, and a pair for each section
   pub pairs : formOf version .header ≡ 8 + 8 * formOf version .sections
-  pub some-sections : (3 ≤ formOf version .sections) × (formOf version .sections ≤ 4)
+  pub some-sections : (3 ≤ formOf version .sections) × (formOf version .sections ≤ 6)
   pub link-bytes : (10 ≤ formOf version .link) × (formOf version .link ≤ 12)
 
-pub known : (v : ℕ) → 1 ≤ v → v ≤ 3 → Known v
+pub known : (v : ℕ) → 1 ≤ v → v ≤ 4 → Known v
 unfolding versions formOf
 known zero least most = absurd (omega arith)
 known (suc zero) least most = record { least = least; most = most; pairs = refl; some-sections = (omega arith, omega arith); link-bytes = (omega arith, omega arith) }
 known (suc (suc zero)) least most = record { least = least; most = most; pairs = refl; some-sections = (omega arith, omega arith); link-bytes = (omega arith, omega arith) }
 known (suc (suc (suc zero))) least most = record { least = least; most = most; pairs = refl; some-sections = (omega arith, omega arith); link-bytes = (omega arith, omega arith) }
-known (suc (suc (suc (suc v)))) least most = absurd (omega arith)
+known (suc (suc (suc (suc zero)))) least most = record { least = least; most = most; pairs = refl; some-sections = (omega arith, omega arith); link-bytes = (omega arith, omega arith) }
+known (suc (suc (suc (suc (suc v))))) least most = absurd (omega arith)
 
 -- (A.5) A link of versions 1 and 2 has no room for a power.
 pub no-powers : (v : ℕ) → v < 3 → formOf v .link < 12
@@ -108,6 +120,23 @@ no-powers (suc zero) h = omega arith
 no-powers (suc (suc zero)) h = omega arith
 no-powers (suc (suc (suc v))) h = absurd (omega arith)
 
+-- (A.7) Version 4 has lorry trips, and those before it have none.
+few-sections : (v : ℕ) → v < 4 → formOf v .sections ≤ 4
+unfolding versions formOf
+few-sections zero h = omega arith
+few-sections (suc zero) h = omega arith
+few-sections (suc (suc zero)) h = omega arith
+few-sections (suc (suc (suc zero))) h = omega arith
+few-sections (suc (suc (suc (suc v)))) h = absurd (omega arith)
+
+pub has-lorries : (file : List ℕ) → version file ≡ 4 → lorryDestinations file ≡ destinations file
+unfolding lorryDestinations hasSection versions formOf
+has-lorries file e = rw e
+
+pub no-lorries : (file : List ℕ) → version file < 4 → lorryDestinations file ≡ 0
+unfolding lorryDestinations hasSection
+no-lorries file e = rw (le-ltb 4 (formOf (version file) .sections) (few-sections (version file) e))
+
 -- A file that has its header has the pair of each of its sections.
 pub pair-there : (file : List ℕ) (section : ℕ) → Headed file → hasSection file section ≡ true → 16 + 8 * section ≤ length file
 unfolding hasSection
@@ -116,7 +145,7 @@ pair-there file section h e =
 
 pub version-known : (file : List ℕ) → versionKnown file ≡ true → Known (version file)
 unfolding versionKnown versions
-version-known file e = let range = within-true 1 3 (version file) e in known (version file) (range .0) (range .1)
+version-known file e = let range = within-true 1 4 (version file) e in known (version file) (range .0) (range .1)
 
 -- A file that questions 1 and 2 pass is one that a reader of the header asks for, once the header is there; question 4 asks that first.
 pub headed-by : (file : List ℕ) → lengthFits file ≡ true → versionKnown file ≡ true → formOf (version file) .header ≤ length file → Headed file
@@ -150,57 +179,132 @@ counts-fit file e =
       among-nodes = leb-true _ _ (nmp .1);
     }
 
+-- A test of each of the first sections says what it says of each.
+pub each-elim : (count : ℕ) (test : ℕ → Bool) → eachSection count test ≡ true → (section : ℕ) → section < count → test section ≡ true
+unfolding eachSection
+each-elim zero test e section h = absurd (omega arith)
+each-elim (suc count) test e section h =
+    let parts = both (eachSection count test) (test count) e in
+    below-more (λ i. test i ≡ true) count (each-elim count test (parts .0)) (parts .1) section (omega arith)
+
+pub each-intro : (count : ℕ) (test : ℕ → Bool) → ((section : ℕ) → section < count → test section ≡ true) → eachSection count test ≡ true
+unfolding eachSection
+each-intro zero test each = refl
+each-intro (suc count) test each = rw (each-intro count test (λ i h. each i (omega arith)), each count (omega arith))
+
+-- One section more.
+pub each-more : (count : ℕ) (test : ℕ → Bool) → eachSection count test ≡ true → test count ≡ true → eachSection (count + 1) test ≡ true
+unfolding eachSection
+each-more count test before here = rw add-one (rw (before, here))
+
+pub each-no : (count : ℕ) (test : ℕ → Bool) (section : ℕ) → section < count → test section ≡ false → eachSection count test ≡ false
+each-no count test section h unfit = by-test (eachSection count test) refl
+  where
+    by-test : (t : Bool) → eachSection count test ≡ t → eachSection count test ≡ false
+    by-test true e = absurd (true≢false (sym (each-elim count test e section h) ∙ unfit))
+    by-test false e = e
+
 pub record InOrder (file : List ℕ) : Type 0 where
   pub header : formOf (version file) .header ≤ length file
   pub first : formOf (version file) .header ≤ offset file 0
-  pub links : sectionEnd file 0 ≤ offset file 1
-  pub destinations : sectionEnd file 1 ≤ offset file 2
-  pub trips : sectionEnd file 2 ≤ offset file 3
-  pub closed : sectionEnd file 3 ≤ length file
+  pub apart : (section : ℕ) → section < formOf (version file) .sections → sectionEnd file section ≤ offset file (section + 1)
 
 pub sections-in-order : (file : List ℕ) → sectionsInOrder file ≡ true → InOrder file
 unfolding sectionsInOrder sectionsApart
 sections-in-order file e =
     let parts = both _ _ e in
     let header = both _ _ (parts .0) in
-    let upTo2 = both _ _ (parts .1) in
-    let upTo1 = both _ _ (upTo2 .0) in
-    let upTo0 = both _ _ (upTo1 .0) in
     record {
       header = leb-true _ _ (header .0);
       first = leb-true _ _ (header .1);
-      links = leb-true _ _ (upTo0 .0);
-      destinations = leb-true _ _ (upTo0 .1);
-      trips = leb-true _ _ (upTo1 .1);
-      closed = leb-true _ _ (upTo2 .1);
+      apart = λ section h. leb-true _ _ (each-elim (formOf (version file) .sections) _ (parts .1) section h);
     }
 
+-- A section that the version does not have is empty, at the end of the file.
+module _ (file : List ℕ) (section : ℕ) (past : formOf (version file) .sections ≤ section) where
+  pub section-missing : hasSection file section ≡ false
+  unfolding hasSection
+  section-missing = le-ltb section (formOf (version file) .sections) past
+
+  pub offset-past : offset file section ≡ length file
+  unfolding offset
+  offset-past = rw section-missing
+
+  pub size-past : size file section ≡ 0
+  unfolding size
+  size-past = rw section-missing
+
 -- So every section ends within the file.
-pub ends-within : (file : List ℕ) (section : ℕ) → InOrder file → section < 4 → sectionEnd file section ≤ length file
-ends-within file zero order h = omega arith
-ends-within file (suc zero) order h = omega arith
-ends-within file (suc (suc zero)) order h = omega arith
-ends-within file (suc (suc (suc zero))) order h = order .closed
-ends-within file (suc (suc (suc (suc section)))) order h = omega arith
+ends-from : (file : List ℕ) → InOrder file → (count section : ℕ) → section + count ≡ formOf (version file) .sections → offset file section ≤ length file
+ends-from file order zero section e = omega (arith, offset-past file section (omega arith))
+ends-from file order (suc count) section e =
+    omega (arith, order .apart section (omega arith), ends-from file order count (section + 1) (omega arith))
+
+pub ends-within : (file : List ℕ) (section : ℕ) → InOrder file → sectionEnd file section ≤ length file
+ends-within file section order = ⊎-elim there missing (below-or section (formOf (version file) .sections))
+  where
+    there : section < formOf (version file) .sections → sectionEnd file section ≤ length file
+    there h =
+        omega (
+          arith,
+          order .apart section h,
+          ends-from file order (formOf (version file) .sections - (section + 1)) (section + 1) (omega arith),
+        )
+
+    missing : formOf (version file) .sections ≤ section → sectionEnd file section ≤ length file
+    missing h = omega (arith, offset-past file section h, size-past file section h)
 
 pub record SizesFit (file : List ℕ) : Type 0 where
-  pub links : size file 0 ≡ formOf (version file) .link * linkField file
-  pub destinations : size file 1 ≡ 2 * destinationField file
-  pub trips : size file 2 ≡ 2 * destinationField file * nodeField file
-  pub closed : size file 3 ≡ closedField file
+  pub each-size : (section : ℕ) → section < formOf (version file) .sections →
+      size file section ≡ sectionSize (version file) (nodeField file) (linkField file) (destinationField file) section
 
 pub sizes-fit : (file : List ℕ) → sizesFit file ≡ true → SizesFit file
 unfolding sizesFit
 sizes-fit file e =
-    let all = both _ _ e in
-    let firstThree = both _ _ (all .0) in
-    let firstTwo = both _ _ (firstThree .0) in
-    record {
-      links = eqb-true _ _ (firstTwo .0);
-      destinations = eqb-true _ _ (firstTwo .1);
-      trips = eqb-true _ _ (firstThree .1);
-      closed = eqb-true _ _ (all .1);
-    }
+    record { each-size = λ section h. eqb-true _ _ (each-elim (formOf (version file) .sections) _ e section h) }
+
+-- A study without nodes, links and destinations has empty sections,
+no-sizes : (v section : ℕ) → sectionSize v 0 0 0 section ≡ 0
+unfolding sectionSize
+no-sizes v section = either (ltb section (formOf v .sections))
+  where
+    zeros : (count i : ℕ) → getD {A = ℕ} (replicate count 0) i 0 ≡ 0
+    zeros zero i = refl
+    zeros (suc count) zero = refl
+    zeros (suc count) (suc i) = zeros count i
+
+    entry : (i : ℕ) → getD (formOf v .link * 0 ∷ 0 ∷ 0 ∷ 0 ∷ 0 ∷ 0 ∷ []) i 0 ≡ 0
+    entry zero = omega arith
+    entry (suc i) = zeros 5 i
+
+    either : (t : Bool) → cond t (getD (formOf v .link * 0 ∷ 0 ∷ 0 ∷ 0 ∷ 0 ∷ 0 ∷ []) section 0) 0 ≡ 0
+    either true = entry section
+    either false = refl
+
+-- and so has a version without that section.
+pub size-none : (v n m p section : ℕ) → formOf v .sections ≤ section → sectionSize v n m p section ≡ 0
+unfolding sectionSize
+size-none v n m p section past = rw (le-ltb section (formOf v .sections) past)
+
+pub size-there : (v n m p section : ℕ) → section < formOf v .sections →
+    sectionSize v n m p section ≡ getD (formOf v .link * m ∷ 2 * p ∷ 2 * p * n ∷ n ∷ 2 * p * n ∷ m ∷ []) section 0
+unfolding sectionSize
+size-there v n m p section h = rw (lt-ltb section (formOf v .sections) h)
+
+-- The sections of trips.
+pub size-trips : (v n m p section : ℕ) → section < formOf v .sections → formOf v .sections ≤ 6 →
+    (section ≡ 0 → ⊥) → (section ≡ 1 → ⊥) → (section ≡ 3 → ⊥) → (section ≡ 5 → ⊥) → sectionSize v n m p section ≡ 2 * p * n
+size-trips v n m p section h most zero′ one three five = size-there v n m p section h ∙ entry section (omega arith) zero′ one three five
+  where
+    entry : (i : ℕ) → i < 6 → (i ≡ 0 → ⊥) → (i ≡ 1 → ⊥) → (i ≡ 3 → ⊥) → (i ≡ 5 → ⊥) →
+        getD (formOf v .link * m ∷ 2 * p ∷ 2 * p * n ∷ n ∷ 2 * p * n ∷ m ∷ []) i 0 ≡ 2 * p * n
+    entry zero b z o t f = absurd (z refl)
+    entry (suc zero) b z o t f = absurd (o refl)
+    entry (suc (suc zero)) b z o t f = refl
+    entry (suc (suc (suc zero))) b z o t f = absurd (t refl)
+    entry (suc (suc (suc (suc zero)))) b z o t f = refl
+    entry (suc (suc (suc (suc (suc zero))))) b z o t f = absurd (f refl)
+    entry (suc (suc (suc (suc (suc (suc i)))))) b z o t f = absurd (omega arith)
 
 -- ---- accepted files
 
@@ -270,10 +374,6 @@ module _ (file : List ℕ) (e : refusal file ≡ 0) where
   unfolding destinations
   destinations-field = value-accepted file (destinationField file) 0 e
 
-  pub closed-field-is : closedCount file ≡ closedField file
-  unfolding closedCount
-  closed-field-is = value-accepted file (closedField file) 0 e
-
   pub accepted : Accepted file
   unfolding opening
   accepted =
@@ -299,10 +399,19 @@ module _ (file : List ℕ) (e : refusal file ≡ 0) where
   unfolding part
   part-accepted section = value-accepted file (take (size file section) (drop (offset file section) file)) [] e
 
-  part-size : (section : ℕ) → section < 4 → length (part file section) ≡ size file section
-  part-size section h =
-      let within = ends-within file section in-order h in
+  part-size : (section : ℕ) → length (part file section) ≡ size file section
+  part-size section =
+      let within = ends-within file section in-order in
       rw (part-accepted section) (simp (length-take, length-drop) (omega arith))
+
+  -- Each part has the length that the version gives it.
+  part-sized : (section : ℕ) → length (part file section) ≡ sectionSize (version file) (nodes file) (links file) (destinations file) section
+  part-sized section =
+      part-size section
+      ∙ ⊎-elim
+      (λ h. sizes .each-size section h ∙ rw (nodes-field, links-field, destinations-field))
+      (λ h. size-past file section h ∙ sym (size-none (version file) (nodes file) (links file) (destinations file) section h))
+      (below-or section (formOf (version file) .sections))
 
 -- ---- the parts and their fields, of any file: a refused file has counts 0 and empty parts
 
@@ -336,10 +445,36 @@ module _ (file : List ℕ) where
       by-answer (λ e. rw (part-accepted file e section) (simp (length-take, length-drop) (omega arith)))
       (λ refused. rw (part-refused section refused) (omega arith))
 
+  pub part-length : (section : ℕ) → length (part file section) ≡ sectionSize (version file) (nodes file) (links file) (destinations file) section
+  part-length section =
+      by-answer (λ e. part-sized file e section)
+      (λ refused.
+      rw (part-refused section refused, nodes-refused refused, links-refused refused, destinations-refused refused)
+      (sym (no-sizes (version file) section)))
+
+  -- The first three sections are in every version.
+  first-length : (section : ℕ) → section < 3 →
+      (refusal file ≡ 0 → ⊥) ⊎ (length (part file section) ≡ getD (linkSize file * links file ∷ 2 * destinations file ∷ 2 * destinations file * nodes file ∷ []) section 0)
+  first-length section h =
+      by-answer
+      (λ e.
+      inr
+      (part-length section
+      ∙ size-there (version file) (nodes file) (links file) (destinations file) section (omega (arith, known-version file e .some-sections))
+      ∙ first-three section h))
+      inl
+    where
+      first-three : (i : ℕ) → i < 3 →
+          getD (linkSize file * links file ∷ 2 * destinations file ∷ 2 * destinations file * nodes file ∷ nodes file ∷ 2 * destinations file * nodes file ∷ links file ∷ []) i 0
+          ≡ getD (linkSize file * links file ∷ 2 * destinations file ∷ 2 * destinations file * nodes file ∷ []) i 0
+      first-three zero b = refl
+      first-three (suc zero) b = refl
+      first-three (suc (suc zero)) b = refl
+      first-three (suc (suc (suc i))) b = absurd (omega arith)
+
   pub link-length : length (linkPart file) ≡ linkSize file * links file
   link-length =
-      by-answer (λ e. part-size file e 0 (omega arith) ∙ sizes file e .links ∙ ap (λ m. linkSize file * m) (sym (links-field file e)))
-      (λ refused. rw (part-refused 0 refused, links-refused refused) (omega arith))
+      ⊎-elim (λ refused. rw (part-refused 0 refused, links-refused refused) (omega arith)) (λ e. e) (first-length 0 (omega arith))
 
   -- A link has at least ten bytes.
   pub link-bytes-least : 10 * links file ≤ length (linkPart file)
@@ -349,39 +484,29 @@ module _ (file : List ℕ) where
 
   pub destination-length : length (destinationPart file) ≡ 2 * destinations file
   destination-length =
-      by-answer (λ e. omega (arith, part-size file e 1 (omega arith), sizes file e, destinations-field file e))
-      (λ refused. omega (arith, ap length (part-refused 1 refused), destinations-refused refused))
+      ⊎-elim (λ refused. omega (arith, ap length (part-refused 1 refused), destinations-refused refused)) (λ e. e) (first-length 1 (omega arith))
 
   pub trip-length : length (tripPart file) ≡ 2 * destinations file * nodes file
   trip-length =
-      by-answer
-      (λ e. rw (destinations-field file e, nodes-field file e) (part-size file e 2 (omega arith) ∙ sizes file e .trips))
-      (λ refused. rw (part-refused 2 refused, destinations-refused refused) (omega arith))
+      ⊎-elim (λ refused. rw (part-refused 2 refused, destinations-refused refused) (omega arith)) (λ e. e) (first-length 2 (omega arith))
 
-  pub closed-length : length (closedPart file) ≡ closedCount file
-  unfolding closedCount
-  closed-length =
-      by-answer (λ e. part-size file e 3 (omega arith) ∙ sizes file e .closed ∙ sym (closed-field-is file e))
-      (λ refused. rw (part-refused 3 refused) (sym (value-refused file (closedField file) 0 refused)))
-
-  -- A version without closed bytes has none.
-  pub no-closed : hasSection file 3 ≡ false → closedPart file ≡ []
-  unfolding part size
-  no-closed e = rw e (either (eqb (refusal file) 0))
+  -- (A.7) There are lorry trips to every destination, or to none.
+  pub lorry-length : length (lorryPart file) ≡ 2 * lorryDestinations file * nodes file
+  unfolding lorryDestinations hasSection sectionSize
+  lorry-length = part-length 4 ∙ either (ltb 4 (formOf (version file) .sections))
     where
-      either : (t : Bool) → cond t (take 0 (drop (offset file 3) file)) [] ≡ []
+      either : (t : Bool) → cond t (2 * destinations file * nodes file) 0 ≡ 2 * cond t (destinations file) 0 * nodes file
+      either true = refl
+      either false = omega arith
+
+  -- A section that the version does not have is empty.
+  pub no-section : (section : ℕ) → hasSection file section ≡ false → part file section ≡ []
+  unfolding part size
+  no-section section e = rw e (either (eqb (refusal file) 0))
+    where
+      either : (t : Bool) → cond t (take 0 (drop (offset file section) file)) [] ≡ []
       either true = refl
       either false = refl
-
-  -- There is a closed byte for every node, or for none.
-  pub closed-count : closedCount file ≡ closedOf (version file) (nodes file)
-  unfolding closedCount closedField hasSection nodes
-  closed-count = swap (ltb 3 (formOf (version file) .sections)) (eqb (refusal file) 0)
-    where
-      swap : (t u : Bool) → cond u (cond t (nodeField file) 0) 0 ≡ cond t (cond u (nodeField file) 0) 0
-      swap true u = refl
-      swap false true = refl
-      swap false false = refl
 
   pub has-link : (link : ℕ) → link < links file → HasLink (linkPart file) (linkSize file) link
   unfolding HasLink
@@ -396,6 +521,10 @@ module _ (file : List ℕ) where
   pub has-trips : (k node : ℕ) → k < destinations file → node < nodes file → HasTrips (tripPart file) (nodes file) k node
   unfolding HasTrips
   has-trips k node hk hn = omega (arith, trip-length, digits-lt hk hn)
+
+  pub has-lorry-trips : (k node : ℕ) → k < lorryDestinations file → node < nodes file → HasTrips (lorryPart file) (nodes file) k node
+  unfolding HasTrips
+  has-lorry-trips k node hk hn = omega (arith, lorry-length, digits-lt hk hn)
 
 -- ---- ranges
 

@@ -1,11 +1,11 @@
 -- Document 01, 'The questions, in order': questions 1 to 5, which are put to the bytes of the file alone.
-use Prim.Native.Nat.{ℕ, _+_, _*_}
-use mathlib.Core.Bool.{Bool, _&&_, cond}
+use Prim.Native.Nat.{ℕ, zero, suc, _+_}
+use mathlib.Core.Bool.{Bool, true, _&&_, cond}
 use mathlib.Core.List.{List, [], _∷_}
 use lib.ListN.{length}
 use lib.Dec.{leb, eqb}
-use Rattle.study.specs.Versions.{versions, formOf}
-use Rattle.study.specs.Header.{version, nodeField, linkField, destinationField, offset, size, closedField}
+use Rattle.study.specs.Versions.{versions, formOf, sectionSize}
+use Rattle.study.specs.Header.{version, nodeField, linkField, destinationField, offset, size}
 
 -- A question of document 01: its number, and whether the answer is yes.
 pub record Question : Type 0 where
@@ -24,7 +24,7 @@ within least most x = leb least x && leb x most
 unfoldable pub lengthFits : List ℕ → Bool
 lengthFits file = within 32 65536 (length file)
 
--- 2. Is the version one of the table: 1, 2 (A.2) or 3 (A.5)?
+-- 2. Is the version one of the table: 1, 2 (A.2), 3 (A.5) or 4 (A.7)?
 unfoldable pub versionKnown : List ℕ → Bool
 versionKnown file = within 1 (length versions) (version file)
 
@@ -40,13 +40,14 @@ countsFit file =
 abbrev pub sectionEnd : List ℕ → ℕ → ℕ
 sectionEnd file section = offset file section + size file section
 
--- Each section ends at or before the next offset, and the last within the file.
+-- A test of each of the first sections.
+unfoldable pub eachSection : ℕ → (ℕ → Bool) → Bool
+eachSection zero test = true
+eachSection (suc count) test = eachSection count test && test count
+
+-- Each section of the version ends at or before the next offset, and the last within the file: past the last section the offset is the file's end.
 unfoldable pub sectionsApart : List ℕ → Bool
-sectionsApart file =
-    leb (sectionEnd file 0) (offset file 1)
-    && leb (sectionEnd file 1) (offset file 2)
-    && leb (sectionEnd file 2) (offset file 3)
-    && leb (sectionEnd file 3) (length file)
+sectionsApart file = eachSection (formOf (version file) .sections) (λ section. leb (sectionEnd file section) (offset file (section + 1)))
 
 -- 4. Has the file its version's header, is the first offset at least the header's size, does each section end at or before the next offset,
 -- and the last within the file?
@@ -56,13 +57,11 @@ sectionsInOrder file =
     && leb (formOf (version file) .header) (offset file 0)
     && sectionsApart file
 
--- 5. Are the lengths 10m, or 12m in version 3 (the version's bytes a link × m), 2p, 2pn and, from version 2 on, n?
+-- 5. Is each section's length that of the version: 10m, or 12m from version 3 on, 2p, 2pn, from version 2 on n, and in version 4 2pn and m?
 unfoldable pub sizesFit : List ℕ → Bool
 sizesFit file =
-    eqb (size file 0) (formOf (version file) .link * linkField file)
-    && eqb (size file 1) (2 * destinationField file)
-    && eqb (size file 2) (2 * destinationField file * nodeField file)
-    && eqb (size file 3) (closedField file)
+    eachSection (formOf (version file) .sections) (λ section.
+    eqb (size file section) (sectionSize (version file) (nodeField file) (linkField file) (destinationField file) section))
 
 -- Questions 1 to 5, in order. Every call's list of questions begins with these.
 unfoldable pub opening : List ℕ → List Question

@@ -6,7 +6,7 @@ use mathlib.Core.List.{List, []}
 use lib.ListN.{take, drop}
 use lib.Dec.{eqb}
 use Rattle.study.specs.Versions.{formOf}
-use Rattle.study.specs.Header.{version, nodeField, linkField, destinationField, closedField, offset, size}
+use Rattle.study.specs.Header.{version, nodeField, linkField, destinationField, hasSection, offset, size}
 use Rattle.study.specs.Questions.{refusal}
 
 -- A value of an accepted file, and the other value of a refused one.
@@ -23,9 +23,9 @@ links file = ifAccepted file (linkField file) 0
 unfoldable pub destinations : List ℕ → ℕ
 destinations file = ifAccepted file (destinationField file) 0
 
--- How many nodes have a closed byte: n, or none in version 1.
-unfoldable pub closedCount : List ℕ → ℕ
-closedCount file = ifAccepted file (closedField file) 0
+-- How many destinations have lorry trips (A.7): p, or none in a version without them.
+unfoldable pub lorryDestinations : List ℕ → ℕ
+lorryDestinations file = cond (hasSection file 4) (destinations file) 0
 
 -- The bytes of a link in the file's version.
 abbrev pub linkSize : List ℕ → ℕ
@@ -47,3 +47,10 @@ tripPart file = part file 2
 -- (A.2) Of a version 1 file it is empty.
 abbrev pub closedPart : List ℕ → List ℕ
 closedPart file = part file 3
+
+-- (A.7) Of a file of versions 1 to 3 both are empty.
+abbrev pub lorryPart : List ℕ → List ℕ
+lorryPart file = part file 4
+
+abbrev pub barredPart : List ℕ → List ℕ
+barredPart file = part file 5

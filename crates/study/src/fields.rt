@@ -4,7 +4,7 @@ ghost use mathlib.Core.Path.{_≡_};
 ghost use Rattle.study.specs.Bytes.{u16 as u16Of};
 ghost use Rattle.study.specs.Fields.{HasLink, HasDestination, HasTrips, freeTime};
 ghost use Rattle.study.specs.Fields.{tail as tailOf, head as headOf, rise as riseOf, capacity as capacityOf, power as powerOf};
-ghost use Rattle.study.specs.Fields.{destination as destinationOf, trips as tripsOf, closedByte};
+ghost use Rattle.study.specs.Fields.{destination as destinationOf, trips as tripsOf, markByte};
 use crate::bytes::u16_at;
 
 pub fn tail(links: &[u8], size: usize, link: usize) -> u16
@@ -68,14 +68,14 @@ pub fn trips_from(trips: &[u8], n: usize, k: usize, node: usize) -> u16
     u16_at(trips, 2 * (k * n + node))
 }
 
-// The closed byte of a node, or 0 where there is none.
-pub fn closed_byte(closed: &[u8], node: usize) -> u8
-    ensures { λ r. ⌜ r ≡ closedByte (now (closed .entry)) node ⌝ }
+// The closed byte of a node, or the barred byte of a link, or 0 where there is none.
+pub fn mark_byte(bytes: &[u8], number: usize) -> u8
+    ensures { λ r. ⌜ r ≡ markByte (now (bytes .entry)) number ⌝ }
 {
-    if closed.len() <= node {
+    if bytes.len() <= number {
         return 0;
     }
-    closed[node]
+    bytes[number]
 }
 
 // The field that stands `place` bytes on in a link's first ten.

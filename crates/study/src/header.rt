@@ -4,7 +4,7 @@ ghost use Prim.Native.Nat.{_+_, _<_, _≤_, _^_};
 ghost use mathlib.Core.Path.{_≡_};
 ghost use lib.ListN.{length};
 ghost use Rattle.study.specs.Header.{version as versionOf, nodeField, linkField, destinationField};
-ghost use Rattle.study.specs.Header.{offset as offsetOf, size as sizeOf, Headed, hasSection, closedField};
+ghost use Rattle.study.specs.Header.{offset as offsetOf, size as sizeOf, Headed, hasSection};
 ghost use Rattle.study.specs.Questions.{sectionEnd};
 use crate::bytes::u16_at;
 use crate::bytes::u32_at;
@@ -46,10 +46,10 @@ fn has_section(file: &[u8], section: usize) -> bool
     section < form_of(version(file)).sections
 }
 
-// Sections are numbered in the order of their pairs: 0 links, 1 destinations, 2 trips, 3 closed. A section that the file's version does not
-// have is empty, at the end of the file.
+// Sections are numbered in the order of their pairs: 0 links, 1 destinations, 2 trips, 3 closed, 4 lorry trips, 5 barred. A section that the
+// file's version does not have is empty, at the end of the file.
 pub fn offset(file: &[u8], section: usize) -> u64
-    requires { ⌜ Headed (now file) × (section < 4) ⌝ }
+    requires { ⌜ Headed (now file) × (section < 7) ⌝ }
     ensures { λ r. ⌜ (r ≡ offsetOf (now (file .entry)) section) × (r < 2 ^ 32) ⌝ }
 {
     if !has_section(file, section) {
@@ -59,7 +59,7 @@ pub fn offset(file: &[u8], section: usize) -> u64
 }
 
 pub fn size(file: &[u8], section: usize) -> u64
-    requires { ⌜ Headed (now file) × (section < 4) ⌝ }
+    requires { ⌜ Headed (now file) × (section < 7) ⌝ }
     ensures { λ r. ⌜ (r ≡ sizeOf (now (file .entry)) section) × (r < 2 ^ 32) ⌝ }
 {
     if !has_section(file, section) {
@@ -70,19 +70,8 @@ pub fn size(file: &[u8], section: usize) -> u64
 
 // Where a section ends, which may be past 2³².
 pub fn section_end(file: &[u8], section: usize) -> u64
-    requires { ⌜ Headed (now file) × (section < 4) ⌝ }
+    requires { ⌜ Headed (now file) × (section < 7) ⌝ }
     ensures { λ r. ⌜ r ≡ sectionEnd (now (file .entry)) section ⌝ }
 {
     offset(file, section) + size(file, section)
-}
-
-// How many nodes have a closed byte: n, or none in a version without that section.
-pub fn closed_field(file: &[u8]) -> u64
-    requires { ⌜ Headed (now file) ⌝ }
-    ensures { λ r. ⌜ r ≡ closedField (now (file .entry)) ⌝ }
-{
-    if !has_section(file, 3) {
-        return 0;
-    }
-    node_field(file)
 }

@@ -6,7 +6,6 @@ ghost use lib.ListN.{length};
 ghost use Rattle.study.specs.Header.{Headed};
 ghost use Rattle.study.specs.Questions.{lengthFits, versionKnown, countsFit, sectionsApart, sectionsInOrder, sizesFit};
 ghost use Rattle.study.specs.Questions.{within as withinOf, refusal as refusalOf};
-use crate::header::closed_field;
 use crate::header::destination_field;
 use crate::header::link_field;
 use crate::header::node_field;
@@ -16,6 +15,7 @@ use crate::header::size;
 use crate::header::version;
 use crate::versions::LATEST;
 use crate::versions::form_of;
+use crate::versions::section_size;
 
 // The number of the first of questions 1 to 5 that refuses the file, or 0.
 pub fn refusal(file: &[u8]) -> u8
@@ -81,25 +81,23 @@ fn sections_in_order(file: &[u8]) -> bool
     header <= offset(file, 0) && sections_apart(file)
 }
 
-// Does each section end at or before the next offset, and the last within the file?
+// Does each section of the version end at or before the next offset, and the last within the file?
 fn sections_apart(file: &[u8]) -> bool
     requires { ⌜ Headed (now file) ⌝ }
     ensures { λ r. ⌜ r ≡ sectionsApart (now (file .entry)) ⌝ }
 {
-    let links_end = section_end(file, 0);
-    let destinations = offset(file, 1);
-    let destinations_end = section_end(file, 1);
-    let trips = offset(file, 2);
-    let trips_end = section_end(file, 2);
-    let closed = offset(file, 3);
-    let closed_end = section_end(file, 3);
-    links_end <= destinations
-        && destinations_end <= trips
-        && trips_end <= closed
-        && closed_end <= file.len() as u64
+    let sections = form_of(version(file)).sections;
+    let mut section = 0;
+    while section < sections {
+        if offset(file, section + 1) < section_end(file, section) {
+            return false;
+        }
+        section += 1;
+    }
+    true
 }
 
-// 5. Are the lengths 10m, or 12m in version 3, 2p, 2pn and, from version 2 on, n?
+// 5. Is each section's length that of the version?
 fn sizes_fit(file: &[u8]) -> bool
     requires { ⌜ Headed (now file) ⌝ }
     ensures { λ r. ⌜ r ≡ sizesFit (now (file .entry)) ⌝ }
@@ -107,13 +105,15 @@ fn sizes_fit(file: &[u8]) -> bool
     let n = node_field(file);
     let m = link_field(file);
     let p = destination_field(file);
-    let link = form_of(version(file)).link;
-    let closed_bytes = closed_field(file);
-    let links = size(file, 0);
-    let destinations = size(file, 1);
-    let trips = size(file, 2);
-    let closed = size(file, 3);
-    links == link * m && destinations == 2 * p && trips == 2 * p * n && closed == closed_bytes
+    let sections = form_of(version(file)).sections;
+    let mut section = 0;
+    while section < sections {
+        if size(file, section) != section_size(version(file), n, m, p, section) {
+            return false;
+        }
+        section += 1;
+    }
+    true
 }
 
 fn within(least: u64, most: u64, x: u64) -> bool

@@ -4,7 +4,7 @@ ghost use Prim.Native.Nat.{_+_, _*_, _<_};
 ghost use mathlib.Core.Path.{_≡_};
 ghost use Rattle.study.specs.Bytes.{u16 as u16Of};
 ghost use Rattle.study.specs.Questions.{refusal as refusalOf};
-ghost use Rattle.study.specs.Sections.{ifAccepted, nodes, linkSize, part, linkPart, destinationPart, tripPart, closedPart};
+ghost use Rattle.study.specs.Sections.{ifAccepted, nodes, linkSize, part, linkPart, destinationPart, tripPart, closedPart, lorryPart, barredPart};
 ghost use Rattle.study.specs.Sections.{links as linksOf, destinations as destinationsOf};
 use crate::bytes::u16_at;
 use crate::header::offset;
@@ -43,6 +43,10 @@ pub const TRIPS: usize = 2;
 
 pub const CLOSED: usize = 3;
 
+pub const LORRY_TRIPS: usize = 4;
+
+pub const BARRED: usize = 5;
+
 pub fn links(file: &[u8]) -> &[u8]
     ensures { λ r. ⌜ now r ≡ linkPart (now (file .entry)) ⌝ }
 {
@@ -68,6 +72,20 @@ pub fn closed(file: &[u8]) -> &[u8]
     section(file, CLOSED)
 }
 
+// Laid out as the trips. Of a file of versions 1 to 3 this part and the next are empty.
+pub fn lorry_trips(file: &[u8]) -> &[u8]
+    ensures { λ r. ⌜ now r ≡ lorryPart (now (file .entry)) ⌝ }
+{
+    section(file, LORRY_TRIPS)
+}
+
+// A byte for each link.
+pub fn barred(file: &[u8]) -> &[u8]
+    ensures { λ r. ⌜ now r ≡ barredPart (now (file .entry)) ⌝ }
+{
+    section(file, BARRED)
+}
+
 // n, m and p stand one after the other in the header, from byte 2 on.
 fn count(file: &[u8], number: usize) -> usize
     requires { ⌜ number < 3 ⌝ }
@@ -80,7 +98,7 @@ fn count(file: &[u8], number: usize) -> usize
 }
 
 fn section(file: &[u8], number: usize) -> &[u8]
-    requires { ⌜ number < 4 ⌝ }
+    requires { ⌜ number < 6 ⌝ }
     ensures { λ r. ⌜ now r ≡ part (now (file .entry)) number ⌝ }
 {
     if refusal(file) != 0 {
@@ -100,7 +118,7 @@ pub fn link_size(file: &[u8]) -> usize
 // The bytes from the section's offset on, as many as its length says, of a file that is known to be accepted: a caller that has put the
 // questions itself does not put them again for each part.
 pub fn accepted_section(file: &[u8], number: usize) -> &[u8]
-    requires { ⌜ (refusalOf (now file) ≡ 0) × (number < 4) ⌝ }
+    requires { ⌜ (refusalOf (now file) ≡ 0) × (number < 6) ⌝ }
     ensures { λ r. ⌜ now r ≡ part (now (file .entry)) number ⌝ }
 {
     let start = offset(file, number) as usize;

@@ -8,8 +8,8 @@ pub fn all(file: &[u8]) {
     destination(file, 0);
     trips(file, 0, 0);
     trips(file, 0, 1);
-    closed(file, 0);
-    closed(file, 1);
+    marks(file, 0);
+    marks(file, 1);
 }
 
 // Where the counts say that a link, a destination or an entry is there, its bytes are.
@@ -59,10 +59,14 @@ fn trips(file: &[u8], k: usize, node: usize) {
     }
 }
 
-// A study of version 1 has no closed bytes, and 0 is read of every node.
-fn closed(file: &[u8], node: usize) {
-    if node < study::node_count(file) {
-        let byte = study::closed_byte(study::closed(file), node) as u64;
-        print(b"closed byte of node #: #\n", &[node as u64, byte]);
+// Where a version has no closed or barred bytes, 0 is read of every node and of every link.
+fn marks(file: &[u8], number: usize) {
+    if number < study::node_count(file) {
+        let byte = study::mark_byte(study::closed(file), number) as u64;
+        print(b"closed byte of node #: #\n", &[number as u64, byte]);
+    }
+    if number < study::link_count(file) {
+        let byte = study::mark_byte(study::barred(file), number) as u64;
+        print(b"barred byte of link #: #\n", &[number as u64, byte]);
     }
 }

@@ -2,7 +2,8 @@
 // studies, as the lines of standard input say (in the words of `case_lines`):
 //
 //     file HEADER LABEL                    prints what is answered of a file
-//     closed HEADER OFFSET LENGTH LABEL    the same of a file with a fourth pair, and its fields
+//     closed HEADER PAIR LABEL             the same of a file with a fourth pair, and its fields
+//     lorries HEADER THREE-PAIRS LABEL     the same of a file with six pairs
 //     study STUDY LABEL                    prints what is answered of a study, and its fields
 //
 // Lines that write past byte 32 come after those that rely on the marks there.
@@ -65,8 +66,10 @@ fn read(word: u8, file: &mut [u8]) -> usize
         return read_study(file);
     }
     let size = read_header(file);
-    if word == b'c' {
-        read_numbers(file, 32, 40, 4);
+    match word {
+        b'c' => read_numbers(file, 32, 40, 4),
+        b'l' => read_numbers(file, 32, 56, 4),
+        _ => {}
     }
     size
 }

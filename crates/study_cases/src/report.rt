@@ -32,6 +32,8 @@ fn sections(file: &[u8]) {
     section(b", destinations # bytes", study::destinations(file));
     section(b", trips # bytes", study::trips(file));
     section(b", closed # bytes", study::closed(file));
+    section(b", lorry trips # bytes", study::lorry_trips(file));
+    section(b", barred # bytes", study::barred(file));
 }
 
 // A section's length, and its first and last byte if it has any.

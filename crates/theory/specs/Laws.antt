@@ -8,6 +8,7 @@ pub mod Parts
 pub mod Conserving
 pub mod Potentials
 pub mod Permission
+pub mod Classes
 -- paths, distances, next links and loadings:
 pub mod Paths
 pub mod Rounds
@@ -33,5 +34,6 @@ pub mod Notes
 pub mod Descent
 pub mod Runs
 pub mod Local
+pub mod Totals
 pub mod Padded
 pub mod Filled

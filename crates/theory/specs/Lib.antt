@@ -7,6 +7,7 @@ pub mod Routes
 pub mod Cost
 pub mod Moves
 pub mod Study
+pub mod Classes
 pub mod Notes
 pub mod Marks
 pub mod Laws

@@ -1,4 +1,4 @@
--- A network as document 01 and its source have it, without bytes. The trips to one destination are a commodity.
+-- A network as document 01 and its source have it, without bytes. The trips to one destination, of cars or of lorries (A.7), are a commodity.
 use Prim.Native.Nat.{ℕ, suc, _≤_, _<_}
 use mathlib.Core.Bool.{Bool}
 use Rattle.theory.specs.Finite.{sum}

@@ -16,9 +16,9 @@ mostTime = 16383 * 257
 abbrev pub mostFlow : ℕ
 mostFlow = 1024 * 65535
 
--- No total of a table that nobody judged yet is more than 32 numbers of 32 bits.
+-- No total of a table that nobody judged yet is more than 64 numbers of 32 bits.
 abbrev pub mostTotal : ℕ
-mostTotal = 32 * 4294967295
+mostTotal = 64 * 4294967295
 
 -- The fields of a link, which is a row, are those that question 7 accepts.
 pub record LinkFits (link : List ℕ) : Type 0 where

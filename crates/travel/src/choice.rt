@@ -11,7 +11,7 @@ use crate::reciprocals::step_by;
 use crate::steps::time_at;
 use crate::table::LOAD;
 use crate::table::TOTAL;
-use theory::CLOSED_POWER;
+use theory::ACCESS_POWER;
 
 // What decides whether j qualifies: W × the sum of Y × time, and the sum of S × time.
 struct Sums {
@@ -144,7 +144,7 @@ fn sums_at(links: &[[u16; 6]], flows: &[[u64; 512]; 2], share: u32, j: u32, curv
         let s = flows[TOTAL][l];
         let y = flows[LOAD][l];
         let step = step_by(curves[l], by_share, s + j as u64 * y);
-        let list = list_start(links[l][CLOSED_POWER] / 256, curves.len());
+        let list = list_start(links[l][ACCESS_POWER] / 256, curves.len());
         let link = time_at(links[l], list, step, curves);
         loaded += y * link.time;
         spent += s * link.time;

@@ -12,8 +12,8 @@ use crate::powers::ONE_LIST;
 use crate::powers::list_start;
 use crate::steps::step_of;
 use crate::steps::time_at;
+use theory::ACCESS_POWER;
 use theory::CAPACITY;
-use theory::CLOSED_POWER;
 use theory::FREE_TIME;
 use theory::RISE;
 
@@ -60,7 +60,7 @@ fn cost_by(
     let mut over = 0;
     let mut l = 0;
     while l < links.len() {
-        let list = list_start(links[l][CLOSED_POWER] / 256, places);
+        let list = list_start(links[l][ACCESS_POWER] / 256, places);
         let link = link_cost(links[l], list, share, flows[l], curves);
         cost += link.area;
         over += link.over as u32;

@@ -6,8 +6,8 @@ ghost use Rattle.theory.specs.Flows.{step};
 ghost use Rattle.travel.specs.Links.{padded, timed, listTime};
 ghost use Rattle.travel.specs.Ranges.{LinksFit, ListAt, LinkPowers, ShareFits, Within, Clear, TimesFit, mostFlow, mostTime};
 use crate::powers::list_start;
+use theory::ACCESS_POWER;
 use theory::CAPACITY;
-use theory::CLOSED_POWER;
 use theory::FREE_TIME;
 use theory::RISE;
 
@@ -68,7 +68,7 @@ pub fn times(
 {
     let mut l = 0;
     while l < links.len() {
-        let list = list_start(links[l][CLOSED_POWER] / 256, curves.len());
+        let list = list_start(links[l][ACCESS_POWER] / 256, curves.len());
         let link = link_time(links[l], list, share, flows[l], curves);
         times[l] = link.time as u32;
         l += 1;

@@ -1,4 +1,4 @@
-// S: each link's total over the destinations, and question 15 of the totals.
+// S: each link's total over the commodities, and question 15 of the totals.
 ghost use Prim.Native.Nat.{_*_, _≤_};
 ghost use mathlib.Core.Path.{_≡_};
 ghost use lib.ListN.{length, replicate};
@@ -13,7 +13,7 @@ pub const LOAD: usize = 1;
 
 // The totals of a table of p rows, each of m flows.
 pub fn totals(table: &[u32], p: usize, m: usize) -> [u64; 512]
-    requires { ⌜ (p ≤ 32) × (m ≤ 512) × (p * m ≤ length (now table)) ⌝ }
+    requires { ⌜ (p ≤ 64) × (m ≤ 512) × (p * m ≤ length (now table)) ⌝ }
     ensures { λ r. ⌜ (r ≡ padded m (linkTotal p m (now (table .entry)))) × Within 512 mostTotal r ⌝ }
 {
     let mut sums = [0u64; 512];
@@ -23,7 +23,7 @@ pub fn totals(table: &[u32], p: usize, m: usize) -> [u64; 512]
 
 // Writes the same into an array of zeros.
 pub fn write_totals(table: &[u32], p: usize, m: usize, sums: &mut [u64; 512])
-    requires { ⌜ (p ≤ 32) × (m ≤ 512) × (p * m ≤ length (now table)) × (now sums ≡ replicate 512 0) ⌝ }
+    requires { ⌜ (p ≤ 64) × (m ≤ 512) × (p * m ≤ length (now table)) × (now sums ≡ replicate 512 0) ⌝ }
     ensures { λ _. ⌜ (now (sums .exit) ≡ padded m (linkTotal p m (now (table .entry)))) × Within 512 mostTotal (now (sums .exit)) ⌝ }
 {
     let mut k = 0;
@@ -34,9 +34,9 @@ pub fn write_totals(table: &[u32], p: usize, m: usize, sums: &mut [u64; 512])
     }
 }
 
-// Adds a row of m flows to the sums. A sum is of 31 rows at most before.
+// Adds a row of m flows to the sums. A sum is of 63 rows at most before.
 fn add_row(row: &[u32], m: usize, sums: &mut [u64; 512])
-    requires { ⌜ (m ≤ 512) × (m ≤ length (now row)) × (length (now sums) ≡ 512) × Within m (31 * 4294967295) (now sums) ⌝ }
+    requires { ⌜ (m ≤ 512) × (m ≤ length (now row)) × (length (now sums) ≡ 512) × Within m (63 * 4294967295) (now sums) ⌝ }
     ensures { λ r. ⌜ RowAdded m (now (row .entry)) (now (sums .entry)) (now (sums .exit)) ⌝ }
 {
     let mut l = 0;

@@ -3,6 +3,7 @@
 
 use ilstrovan::NO_LINK;
 use second::draft::{Dice, Versioned};
+use second::network::Class;
 
 /// Why taking back is refused, after questions 1 to 20.
 #[derive(Clone, Copy, Debug, PartialEq, Eq)]
@@ -10,6 +11,7 @@ pub enum Why {
     NoLink,
     LinkOfAnotherNode,
     ClosedNode,
+    BarredLink,
     Round,
     WholeShare,
     TooLittleFlow,
@@ -18,23 +20,43 @@ pub enum Why {
 }
 
 impl Why {
-    pub const COUNT: usize = 8;
+    pub const COUNT: usize = 9;
+
+    pub const ALL: [Why; Why::COUNT] = [
+        Why::NoLink,
+        Why::LinkOfAnotherNode,
+        Why::ClosedNode,
+        Why::BarredLink,
+        Why::Round,
+        Why::WholeShare,
+        Why::TooLittleFlow,
+        Why::OddShare,
+        Why::OddFlow,
+    ];
 
     /// The question's number.
     pub fn number(self) -> u8 {
         match self {
-            Why::NoLink | Why::LinkOfAnotherNode | Why::ClosedNode | Why::Round => 21,
             Why::WholeShare | Why::TooLittleFlow | Why::OddShare | Why::OddFlow => 22,
+            _ => 21,
         }
     }
 }
 
-/// The links from a node to the destination at a position, as a note has them.
-pub fn way(study: &Versioned, note: &[u16], position: usize, from: u16) -> Result<Vec<usize>, Why> {
+/// The class and the destination of a row. Tables and notes have a row for each
+/// destination, those of cars first.
+fn row_of(study: &Versioned, row: usize) -> (Class, u16) {
+    let destinations = &study.draft.destinations;
+    let count = destinations.len();
+    (Class::ALL[row / count], destinations[row % count])
+}
+
+/// The links from a node to the destination of a row, as a note has them.
+pub fn way(study: &Versioned, note: &[u16], row: usize, from: u16) -> Result<Vec<usize>, Why> {
     let draft = &study.draft;
     let nodes = usize::from(draft.nodes);
-    let destination = draft.destinations[position];
-    let next_links = &note[1 + position * nodes..][..nodes];
+    let (class, destination) = row_of(study, row);
+    let next_links = &note[1 + row * nodes..][..nodes];
     let (mut node, mut links) = (from, vec![]);
     while node != destination {
         let link = usize::from(next_links[usize::from(node)]);
@@ -45,6 +67,9 @@ pub fn way(study: &Versioned, note: &[u16], position: usize, from: u16) -> Resul
         if !study.may_carry(link, destination) {
             return Err(Why::ClosedNode);
         }
+        if class == Class::Lorries && study.is_barred(link) {
+            return Err(Why::BarredLink);
+        }
         if links.len() == nodes {
             return Err(Why::Round);
         }
@@ -54,22 +79,22 @@ pub fn way(study: &Versioned, note: &[u16], position: usize, from: u16) -> Resul
     Ok(links)
 }
 
-/// Every node with trips, with the position of their destination and their count.
+/// Every node with trips, with their row and their count.
 fn trips(study: &Versioned) -> Vec<(usize, u16, u16)> {
-    let rows = study.draft.trips.iter().enumerate();
-    let all = rows.flat_map(|(position, row)| {
-        let counts = (0..).zip(row);
-        counts.map(move |(node, &count)| (position, node, count))
+    let rows = study.rows().into_iter().enumerate();
+    let all = rows.flat_map(|(row, trips)| {
+        let counts = (0..).zip(trips);
+        counts.map(move |(node, count)| (row, node, count))
     });
     all.filter(|&(_, _, count)| count > 0).collect()
 }
 
 /// The loading of a note, by place in a table.
 fn loading(study: &Versioned, note: &[u16]) -> Result<Vec<u64>, Why> {
-    let mut loading = vec![0; study.draft.table_length()];
-    for (position, node, count) in trips(study) {
-        for link in way(study, note, position, node)? {
-            loading[position * study.draft.links.len() + link] += u64::from(count);
+    let mut loading = vec![0; study.table_length()];
+    for (row, node, count) in trips(study) {
+        for link in way(study, note, row, node)? {
+            loading[row * study.draft.links.len() + link] += u64::from(count);
         }
     }
     Ok(loading)
@@ -84,7 +109,7 @@ pub fn defined(
     note: &[u16],
 ) -> Result<(Vec<u32>, u32), Why> {
     let mut left = table.to_vec();
-    let flows = &mut left[..study.draft.table_length()];
+    let flows = &mut left[..study.table_length()];
     let step = u32::from(note[0]);
     if step == 0 {
         halve(flows, share)?;
@@ -116,7 +141,7 @@ fn halve(flows: &mut [u32], share: u32) -> Result<(), Why> {
 
 /// The note of a doubling.
 pub fn doubling(study: &Versioned) -> Vec<u16> {
-    let mut note = vec![NO_LINK; study.draft.note_length()];
+    let mut note = vec![NO_LINK; study.note_length()];
     note[0] = 0;
     note
 }
@@ -154,15 +179,15 @@ pub fn damaged(dice: &mut Dice, study: &Versioned, note: &[u16], share: u32) -> 
     let nodes = usize::from(study.draft.nodes);
     let trips = trips(study);
     for _ in 0..dice.between(1, 3) {
-        let (position, node) = if trips.is_empty() || dice.once_in(6) {
-            let position = dice.index(study.draft.destinations.len());
-            (position, dice.index(nodes) as u16)
+        let (row, node) = if trips.is_empty() || dice.once_in(6) {
+            let row = dice.index(study.rows().len());
+            (row, dice.index(nodes) as u16)
         } else {
-            let (position, node, _) = dice.pick(&trips);
-            (position, along(dice, study, &other, position, node))
+            let (row, node, _) = dice.pick(&trips);
+            (row, along(dice, study, &other, row, node))
         };
-        let link = another_link(dice, study, &other, position, node);
-        other[1 + position * nodes + usize::from(node)] = link;
+        let link = another_link(dice, study, &other, row, node);
+        other[1 + row * nodes + usize::from(node)] = link;
     }
     if dice.once_in(6) {
         other[0] = any_step(dice, share, note[0]);
@@ -171,38 +196,32 @@ pub fn damaged(dice: &mut Dice, study: &Versioned, note: &[u16], share: u32) -> 
 }
 
 /// A node on the way from here by a note, this one or a later one.
-fn along(dice: &mut Dice, study: &Versioned, note: &[u16], position: usize, node: u16) -> u16 {
-    match way(study, note, position, node) {
+fn along(dice: &mut Dice, study: &Versioned, note: &[u16], row: usize, node: u16) -> u16 {
+    match way(study, note, row, node) {
         Ok(links) if !links.is_empty() => study.draft.links[dice.pick(&links)][0],
         _ => node,
     }
 }
 
 /// What a damaged note has for a node: a link out of another node, none that there
-/// is, one into a closed node, one back to where its own way comes from, or any
-/// link out of it.
-fn another_link(
-    dice: &mut Dice,
-    study: &Versioned,
-    note: &[u16],
-    position: usize,
-    node: u16,
-) -> u16 {
+/// is, one that may not carry its flow, one back to where its own way comes from,
+/// or any link out of it.
+fn another_link(dice: &mut Dice, study: &Versioned, note: &[u16], row: usize, node: u16) -> u16 {
     let draft = &study.draft;
-    let destination = draft.destinations[position];
+    let (class, destination) = row_of(study, row);
     let links = |fits: &dyn Fn(usize) -> bool| -> Vec<usize> {
         let all = 0..draft.links.len();
         all.filter(|&link| fits(link)).collect()
     };
     let own = |link: usize| draft.links[link][0] == node;
     let back = |link: usize| {
-        let way = way(study, note, position, draft.links[link][1]);
+        let way = way(study, note, row, draft.links[link][1]);
         way.is_ok_and(|way| way.iter().any(|&link| own(link)))
     };
     let chosen = match dice.below(8) {
         0 => links(&|link| !own(link)),
         1 => vec![],
-        2 => links(&|link| own(link) && !study.may_carry(link, destination)),
+        2 => links(&|link| own(link) && !study.may_carry_class(class, link, destination)),
         3 | 4 => links(&|link| own(link) && back(link)),
         _ => links(&own),
     };
@@ -227,17 +246,17 @@ pub fn shift(dice: &mut Dice, study: &Versioned, table: &mut [u32], note: &[u16]
     if trips.is_empty() {
         return;
     }
-    let (position, node, _) = dice.pick(&trips);
+    let (row, node, _) = dice.pick(&trips);
     let (one, other) = (study.some_note(dice, 1), study.some_note(dice, 1));
-    let from = way(study, note, position, node).or_else(|_| way(study, &one, position, node));
-    let to = way(study, &other, position, node);
+    let from = way(study, note, row, node).or_else(|_| way(study, &one, row, node));
+    let to = way(study, &other, row, node);
     let (Ok(from), Ok(to)) = (from, to) else {
         return;
     };
     let parts = dice.between(1, 2) as u32;
-    let row = &mut table[position * study.draft.links.len()..];
-    if from.iter().all(|&link| row[link] >= parts) {
-        from.iter().for_each(|&link| row[link] -= parts);
-        to.iter().for_each(|&link| row[link] += parts);
+    let flows = &mut table[row * study.draft.links.len()..];
+    if from.iter().all(|&link| flows[link] >= parts) {
+        from.iter().for_each(|&link| flows[link] -= parts);
+        to.iter().for_each(|&link| flows[link] += parts);
     }
 }

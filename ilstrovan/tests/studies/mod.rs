@@ -91,9 +91,18 @@ pub fn large_closed(dice: &mut Dice) -> Versioned {
     plan.with_zones(dice, wide * high, zones, links)
 }
 
+/// The study with every node open and no link barred.
+pub fn open(study: &Versioned) -> Versioned {
+    Versioned {
+        closed: None,
+        barred: None,
+        ..study.clone()
+    }
+}
+
 /// A note that holds a pattern: one time in twelve too short.
 pub fn blank_note(dice: &mut Dice, study: &Versioned) -> Vec<u16> {
-    let enough = study.draft.note_length();
+    let enough = study.note_length();
     let length = match dice.below(24) {
         0 => dice.index(enough),
         1 => enough - 1,

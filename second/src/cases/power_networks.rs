@@ -1,6 +1,6 @@
 //! Networks with powers at random, and at the limits.
 
-use super::{List, paper};
+use super::{List, largest, paper};
 use crate::draft::{Dice, Plan, Versioned, grid};
 
 /// A small or middling study with powers, of several kinds.
@@ -60,11 +60,11 @@ pub(super) fn random_studies(list: &mut List) {
 }
 
 /// Tables that nobody's passes have made.
-fn made_tables(list: &mut List, dice: &mut Dice, study: &Versioned, file: &[u8]) {
+pub(super) fn made_tables(list: &mut List, dice: &mut Dice, study: &Versioned, file: &[u8]) {
     let share = dice.pick(&[1, 3, 10, 64, 513, 1_000, 1_024]);
     let mut table = study.wandering_table(dice, share);
     list.judge(file, &table, share);
-    let amount = dice.pick(&[1, share, share * study.draft.total() as u32 / 3]);
+    let amount = dice.pick(&[1, share, share * study.total() as u32 / 3]);
     if study.add_cycle(dice, &mut table, amount) {
         list.audit(file, table.clone(), share);
     }
@@ -106,21 +106,7 @@ pub(super) fn long_runs(list: &mut List) {
 /// power and one with powers 1 and 3 only.
 pub(super) fn full_limits(list: &mut List) {
     let mut dice = Dice::new(28);
-    let plan = Plan {
-        nodes: (128, 128),
-        links: (512, 512),
-        destinations: 32,
-        time: 300,
-        capacity: 250,
-        trips: 30,
-        tenths: 9,
-    };
-    let mut links = grid(&mut dice, 16, 8, 512, 300, 250);
-    links.resize_with(512, || [dice.below(64) as u16, 127, 900, 9, 9]);
-    let mut draft = plan.with_links(&mut dice, 128, links);
-    while draft.destinations.len() < 32 {
-        draft = plan.with_links(&mut dice, 128, draft.links);
-    }
+    let draft = largest(&mut dice, 250);
     let mixed = draft.clone().closing_some(&mut dice, 1);
     let mixed = mixed.with_powers((0..512).map(|_| dice.between(1, 4) as u16).collect());
     let odd = draft.with_powers((0..512).map(|_| dice.pick(&[1, 3])).collect());

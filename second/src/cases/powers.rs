@@ -190,12 +190,12 @@ pub(super) fn twins(list: &mut List) {
 
 impl List {
     /// All calls but taking back for one study, tables by a start and passes.
-    fn all_calls(&mut self, study: &Versioned) {
+    pub(super) fn all_calls(&mut self, study: &Versioned) {
         let file = study.file();
         let links = study.draft.links.len();
         self.check(&file);
         self.pack(&file, vec![1; study.packed_length() + 1]);
-        self.start(&file, vec![2; study.draft.table_length() + 1]);
+        self.start(&file, vec![2; study.table_length() + 1]);
         let mut share = 1;
         for _ in 0..3 {
             self.pass_on(&file, &mut share);

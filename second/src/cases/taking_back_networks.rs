@@ -1,15 +1,15 @@
 //! Networks on which moves are made and taken back: destinations without trips,
 //! nodes without a path, studies at random, damaged notes, and the limits.
 
-use super::{List, patterned_note, side_by_side};
+use super::{List, largest, patterned_note, side_by_side};
 use crate::draft::{Dice, Draft, DraftLink, Plan, Versioned, grid};
 use crate::least_times::NO_LINK;
 
 impl List {
     /// A run over the table that was left last, two moves of where it ends, and
     /// both of them back. Hands back the share of the run.
-    fn moves_and_back(&mut self, study: &Versioned, budget: u32) -> u32 {
-        let (file, length) = (study.file(), study.draft.note_length());
+    pub(super) fn moves_and_back(&mut self, study: &Versioned, budget: u32) -> u32 {
+        let (file, length) = (study.file(), study.note_length());
         let mut share = self.run_on(&file, budget, 0);
         let first = self.note_on(&file, &mut share, length);
         self.note_on(&file, &mut share, length);
@@ -18,6 +18,18 @@ impl List {
         self.take_back_on(&file, &mut share, Some(&first));
         self.audit_on(&file, share);
         share
+    }
+
+    /// A move of the table that was left last, and its note taken back with the
+    /// last number that is looked at wrong, and one number too short.
+    pub(super) fn last_number_of_a_note(&mut self, study: &Versioned, mut share: u32) {
+        let (file, length) = (study.file(), study.note_length());
+        let mut note = self.note_on(&file, &mut share, length);
+        let trips: Vec<u16> = study.rows().concat();
+        let last = trips.iter().rposition(|&count| count > 0);
+        note[1 + last.expect("there are trips")] = NO_LINK;
+        self.take_back_on(&file, &mut share.clone(), Some(&note));
+        self.take_back_on(&file, &mut share, Some(&note[..length - 1]));
     }
 }
 
@@ -107,7 +119,7 @@ pub(super) fn nodes_without_a_path(list: &mut List) {
 }
 
 /// A small or middling study of any version.
-fn some_study(dice: &mut Dice, turn: usize) -> Versioned {
+pub(super) fn some_study(dice: &mut Dice, turn: usize) -> Versioned {
     let plan = Plan::small(dice);
     let (wide, high) = (dice.between(2, 4) as u16, dice.between(2, 3) as u16);
     let crowd = Plan {
@@ -139,31 +151,36 @@ pub(super) fn random_studies(list: &mut List) {
     let mut dice = Dice::new(30);
     for turn in 0..10 {
         let study = some_study(&mut dice, turn);
-        let (file, length) = (study.file(), study.draft.note_length());
-        let table = vec![dice.any_u32(); study.draft.table_length() + turn % 2];
-        list.run(&file, table, 1 + turn as u32, 0);
-        let mut share = list.run_on(&file, 12, 0);
-        for _ in 0..3 {
-            list.note_on(&file, &mut share, length + turn % 3);
-            if list.player.note[0] > 0 {
-                break;
-            }
+        moves_of_study(list, &mut dice, &study, turn);
+    }
+}
+
+/// Moves of a study taken back by the notes that they left, and by others.
+pub(super) fn moves_of_study(list: &mut List, dice: &mut Dice, study: &Versioned, turn: usize) {
+    let (file, length) = (study.file(), study.note_length());
+    let table = vec![dice.any_u32(); study.table_length() + turn % 2];
+    list.run(&file, table, 1 + turn as u32, 0);
+    let mut share = list.run_on(&file, 12, 0);
+    for _ in 0..3 {
+        list.note_on(&file, &mut share, length + turn % 3);
+        if list.player.note[0] > 0 {
+            break;
         }
-        let (table, note) = (list.player.table.clone(), list.player.note.clone());
-        let reached = share;
-        list.take_back_on(&file, &mut share, None);
-        list.audit_on(&file, share);
-        for _ in 0..4 {
-            let damaged = damaged_note(&mut dice, &study, &note);
-            list.take_back(&file, &table, reached, &damaged);
-        }
+    }
+    let (table, note) = (list.player.table.clone(), list.player.note.clone());
+    let reached = share;
+    list.take_back_on(&file, &mut share, None);
+    list.audit_on(&file, share);
+    for _ in 0..4 {
+        let damaged = damaged_note(dice, study, &note);
+        list.take_back(&file, &table, reached, &damaged);
     }
 }
 
 /// A note with one or two numbers changed, mostly those of nodes with trips.
 fn damaged_note(dice: &mut Dice, study: &Versioned, note: &[u16]) -> Vec<u16> {
     let draft = &study.draft;
-    let trips: Vec<u16> = draft.trips.concat();
+    let trips: Vec<u16> = study.rows().concat();
     let mut other = note.to_vec();
     for _ in 0..dice.between(1, 2) {
         let mut place = dice.index(trips.len());
@@ -196,26 +213,36 @@ pub(super) fn made_notes(list: &mut List) {
     let mut dice = Dice::new(31);
     for turn in 0..9 {
         let study = some_study(&mut dice, turn);
-        let file = study.file();
-        let share = dice.pick(&[1, 2, 9, 500]);
-        let step = dice.pick(&[1, 2, 64, 65, 524]);
-        let note = study.some_note(&mut dice, step);
-        let mut table = study.wandering_table(&mut dice, share);
-        let before = table.clone();
-        study.add_noted(&note, &mut table);
-        let grown = share + u32::from(step);
+        made_notes_of_study(list, &mut dice, &study, turn);
+    }
+}
+
+/// The same for one study.
+pub(super) fn made_notes_of_study(
+    list: &mut List,
+    dice: &mut Dice,
+    study: &Versioned,
+    turn: usize,
+) {
+    let file = study.file();
+    let share = dice.pick(&[1, 2, 9, 500]);
+    let step = dice.pick(&[1, 2, 64, 65, 524]);
+    let note = study.some_note(dice, step);
+    let mut table = study.wandering_table(dice, share);
+    let before = table.clone();
+    study.add_noted(&note, &mut table);
+    let grown = share + u32::from(step);
+    list.take_back(&file, &table, grown, &note);
+    list.audit_on(&file, share);
+    // One part of a trip too few of some flow, another note, another share.
+    if study.add_cycle(dice, &mut table, 1) {
         list.take_back(&file, &table, grown, &note);
-        list.audit_on(&file, share);
-        // One part of a trip too few of some flow, another note, another share.
-        if study.add_cycle(&mut dice, &mut table, 1) {
-            list.take_back(&file, &table, grown, &note);
-        }
-        let other = study.some_note(&mut dice, step);
-        list.take_back(&file, &table, grown, &other);
-        if turn % 4 == 0 {
-            list.take_back(&file, &before, share, &note);
-            list.pass_with(&file, &before, share, &note);
-        }
+    }
+    let other = study.some_note(dice, step);
+    list.take_back(&file, &table, grown, &other);
+    if turn.is_multiple_of(4) {
+        list.take_back(&file, &before, share, &note);
+        list.pass_with(&file, &before, share, &note);
     }
 }
 
@@ -297,7 +324,7 @@ pub(super) fn single_limits(list: &mut List) {
             _ => draft.into(),
         };
         let mut share = list.moves_and_back(&study, 9);
-        list.note_on(&study.file(), &mut share, study.draft.note_length() - 1);
+        list.note_on(&study.file(), &mut share, study.note_length() - 1);
     }
 }
 
@@ -315,21 +342,7 @@ pub(super) fn most_links(list: &mut List) {
 /// Studies of every version with 128 nodes, 512 links and 32 destinations.
 pub(super) fn full_limits(list: &mut List) {
     let mut dice = Dice::new(33);
-    let plan = Plan {
-        nodes: (128, 128),
-        links: (512, 512),
-        destinations: 32,
-        time: 300,
-        capacity: 250,
-        trips: 30,
-        tenths: 9,
-    };
-    let mut links = grid(&mut dice, 16, 8, 512, 300, 250);
-    links.resize_with(512, || [dice.below(64) as u16, 127, 900, 9, 9]);
-    let mut draft = plan.with_links(&mut dice, 128, links);
-    while draft.destinations.len() < 32 {
-        draft = plan.with_links(&mut dice, 128, draft.links);
-    }
+    let draft = largest(&mut dice, 250);
     let mut partly_idle = draft.clone();
     partly_idle.trips[3..27]
         .iter_mut()
@@ -342,14 +355,7 @@ pub(super) fn full_limits(list: &mut List) {
         partly_idle.closing_some(&mut dice, 1),
         draft.with_some_powers(&mut dice),
     ] {
-        let mut share = list.moves_and_back(&study, 25);
-        // The last number of the note that is looked at.
-        let file = study.file();
-        let mut note = list.note_on(&file, &mut share, 4_097);
-        let trips: Vec<u16> = study.draft.trips.concat();
-        let last = trips.iter().rposition(|&count| count > 0);
-        note[1 + last.expect("there are trips")] = NO_LINK;
-        list.take_back_on(&file, &mut share.clone(), Some(&note));
-        list.take_back_on(&file, &mut share, Some(&note[..4_096]));
+        let share = list.moves_and_back(&study, 25);
+        list.last_number_of_a_note(&study, share);
     }
 }

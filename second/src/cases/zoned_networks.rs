@@ -1,6 +1,6 @@
 //! Networks with closed nodes at random, and at the limits.
 
-use super::{List, paper};
+use super::{List, largest, paper};
 use crate::draft::{Dice, Draft, Plan, Versioned, grid};
 
 /// A small or middling study with closed nodes.
@@ -123,7 +123,7 @@ pub(super) fn twins(list: &mut List) {
 }
 
 /// Two studies with closed nodes, 128 nodes, 512 links and 32 destinations.
-fn largest(dice: &mut Dice) -> [Versioned; 2] {
+fn largest_two(dice: &mut Dice) -> [Versioned; 2] {
     let plan = Plan {
         nodes: (128, 128),
         links: (512, 512),
@@ -138,13 +138,7 @@ fn largest(dice: &mut Dice) -> [Versioned; 2] {
     let mut zones = plan.with_zones(dice, 96, 32, links);
     zones.draft.links.resize(512, [0, 95, 900, 9, 9]);
     // A grid 16 by 8 with some nodes closed, the last one among them.
-    let mut links = grid(dice, 16, 8, 512, 300, 300);
-    links.resize_with(512, || [dice.below(64) as u16, 127, 900, 9, 9]);
-    let mut draft = plan.with_links(dice, 128, links);
-    while draft.destinations.len() < 32 {
-        draft = plan.with_links(dice, 128, draft.links);
-    }
-    let mut closed = draft.closing_some(dice, 1);
+    let mut closed = largest(dice, 300).closing_some(dice, 1);
     if let Some(last) = closed.closed.as_mut().and_then(|bytes| bytes.last_mut()) {
         *last = 1;
     }
@@ -154,7 +148,7 @@ fn largest(dice: &mut Dice) -> [Versioned; 2] {
 
 /// Closed nodes with 128 nodes, 512 links and 32 destinations.
 pub(super) fn full_limits(list: &mut List) {
-    let studies = largest(&mut Dice::new(24));
+    let studies = largest_two(&mut Dice::new(24));
     for study in &studies {
         let file = study.file();
         list.check(&file);

@@ -1,8 +1,11 @@
 //! Drafts with a version: 1 with neither closed bytes nor powers, 2 with closed
-//! bytes only, 3 with powers.
+//! bytes only, 3 with powers, 4 with lorry trips or barred bytes.
 
-use super::{Dice, Draft, DraftLink, Plan, bytes, layout_of};
-use crate::format::{CLOSED_VERSION, Layout, POWER_VERSION, VERSION};
+use super::{Dice, Draft, DraftLink, Plan, bytes, drop_trips_without, layout_of};
+use crate::format::{
+    CLOSED_VERSION, LORRY_VERSION, Layout, POWER_LINK_BYTES, POWER_VERSION, VERSION,
+};
+use crate::network::Class;
 use crate::staircase::LARGEST_POWER;
 
 /// A study in the making with its version; it need not be an acceptable one.
@@ -10,12 +13,18 @@ use crate::staircase::LARGEST_POWER;
 pub struct Versioned {
     /// What the study has in every version.
     pub draft: Draft,
-    /// By node, 1 for closed and 0 for open; none in version 1. Version 3
-    /// without them has every node open.
+    /// By node, 1 for closed and 0 for open; none in version 1. Versions 3 and
+    /// 4 without them have every node open.
     pub closed: Option<Vec<u8>>,
     /// Powers by link; none in versions 1 and 2. A link after the last of them
     /// has power 4.
     pub powers: Option<Vec<u16>>,
+    /// For each destination, lorry trips by node; none before version 4.
+    /// Version 4 without them has lorry trips of 0.
+    pub lorries: Option<Vec<Vec<u16>>>,
+    /// By link, 1 for barred to lorries and 0 for not; none before version 4.
+    /// Version 4 without them has no barred link.
+    pub barred: Option<Vec<u8>>,
 }
 
 /// A study of version 1.
@@ -25,6 +34,8 @@ impl From<Draft> for Versioned {
             draft,
             closed: None,
             powers: None,
+            lorries: None,
+            barred: None,
         }
     }
 }
@@ -107,13 +118,14 @@ impl Versioned {
     /// The version's number.
     pub fn version(&self) -> u16 {
         match (&self.closed, &self.powers) {
+            _ if self.lorries.is_some() || self.barred.is_some() => LORRY_VERSION,
             (_, Some(_)) => POWER_VERSION,
             (Some(_), None) => CLOSED_VERSION,
             (None, None) => VERSION,
         }
     }
 
-    fn layout(&self) -> &'static Layout {
+    pub(super) fn layout(&self) -> &'static Layout {
         layout_of(self.version())
     }
 
@@ -147,16 +159,29 @@ impl Versioned {
 
     /// The sections of this version.
     fn sections(&self) -> Vec<Vec<u8>> {
-        let mut sections = self.draft.sections().to_vec();
-        sections.extend(self.closed.clone());
-        if self.powers.is_some() {
-            let links = self.draft.links.iter().enumerate();
-            let links = links.map(|(number, link)| [bytes(link), bytes(&[self.power(number)])]);
-            sections[0] = links.flatten().flatten().collect();
-            let open = vec![0; usize::from(self.draft.nodes)];
-            sections.resize(self.layout().sections, open);
+        let [mut links, destinations, trips] = self.draft.sections();
+        if self.layout().link_bytes == POWER_LINK_BYTES {
+            links = self.links_with_powers();
         }
+        let open = || vec![0; usize::from(self.draft.nodes)];
+        let unbarred = || vec![0; self.draft.links.len()];
+        let mut sections = vec![
+            links,
+            destinations,
+            trips,
+            self.closed.clone().unwrap_or_else(open),
+            bytes(self.trips_of(Class::Lorries).iter().flatten()),
+            self.barred.clone().unwrap_or_else(unbarred),
+        ];
+        sections.truncate(self.layout().sections);
         sections
+    }
+
+    /// The section of links with a power each.
+    fn links_with_powers(&self) -> Vec<u8> {
+        let links = self.draft.links.iter().enumerate();
+        let links = links.map(|(number, link)| [bytes(link), bytes(&[self.power(number)])]);
+        links.flatten().flatten().collect()
     }
 
     /// A link's power.
@@ -171,52 +196,95 @@ impl Versioned {
         closed.get(usize::from(node)) == Some(&1)
     }
 
-    /// Whether a link may carry flow to a destination.
+    /// Whether a link may carry cars to a destination.
     pub fn may_carry(&self, link: usize, destination: u16) -> bool {
-        let head = self.draft.links[link][1];
-        head == destination || !self.is_closed(head)
+        self.may_carry_class(Class::Cars, link, destination)
     }
 
-    /// For each node, the fewest links of a path to a destination; none where
-    /// there is no path.
+    /// Whether a link may carry a class's flow to a destination.
+    pub fn may_carry_class(&self, class: Class, link: usize, destination: u16) -> bool {
+        let head = self.draft.links[link][1];
+        let barred = class == Class::Lorries && self.is_barred(link);
+        !barred && (head == destination || !self.is_closed(head))
+    }
+
+    /// For each node, the fewest links of a path of cars to a destination; none
+    /// where there is no path.
     pub fn hops(&self, destination: u16) -> Vec<Option<usize>> {
-        self.draft
-            .hops_by(destination, |link| self.may_carry(link, destination))
+        self.hops_of(Class::Cars, destination)
+    }
+
+    /// The same for a class.
+    pub fn hops_of(&self, class: Class, destination: u16) -> Vec<Option<usize>> {
+        self.draft.hops_by(destination, |link| {
+            self.may_carry_class(class, link, destination)
+        })
     }
 
     /// Takes away the trips that have no path and those of a destination to
     /// itself.
     pub fn drop_pathless_trips(&mut self) {
         for position in 0..self.draft.destinations.len() {
-            let hops = self.hops(self.draft.destinations[position]);
-            self.draft.drop_trips_without(position, &hops);
+            let destination = self.draft.destinations[position];
+            let hops = self.hops_of(Class::Cars, destination);
+            drop_trips_without(&mut self.draft.trips[position], &hops);
+            let hops = self.hops_of(Class::Lorries, destination);
+            if let Some(lorries) = &mut self.lorries {
+                drop_trips_without(&mut lorries[position], &hops);
+            }
         }
     }
 
     /// A conserving table of this share, by links that may carry its flows.
-    /// The draft's own table of that name takes every node for open.
+    /// The draft's own table of that name takes every node for open, and has
+    /// cars only.
     pub fn wandering_table(&self, dice: &mut Dice, share: u32) -> Vec<u32> {
-        self.draft
-            .wandering_table_by(dice, share, |link, destination| {
-                self.may_carry(link, destination)
-            })
+        self.wandering_table_by(dice, share, |class, link, destination| {
+            self.may_carry_class(class, link, destination)
+        })
+    }
+
+    /// A conserving table of this share, by any links, whether they may carry
+    /// its flows or not.
+    pub fn table_by_any_links(&self, dice: &mut Dice, share: u32) -> Vec<u32> {
+        self.wandering_table_by(dice, share, |_, _, _| true)
+    }
+
+    /// A conserving table by links that are permitted for their class and
+    /// destination.
+    fn wandering_table_by(
+        &self,
+        dice: &mut Dice,
+        share: u32,
+        permitted: impl Fn(Class, usize, u16) -> bool,
+    ) -> Vec<u32> {
+        let mut table = Vec::new();
+        for class in self.classes() {
+            let draft = self.draft_of(class);
+            table.extend(draft.wandering_table_by(dice, share, |link, destination| {
+                permitted(class, link, destination)
+            }));
+        }
+        table
     }
 
     /// Lets `amount` go round a cycle of links that may carry it, for some
-    /// destination. False when no cycle was found.
+    /// class and destination. False when no cycle was found.
     pub fn add_cycle(&self, dice: &mut Dice, table: &mut [u32], amount: u32) -> bool {
         let links = &self.draft.links;
+        let destinations = &self.draft.destinations;
         for _ in 0..8 {
-            let position = dice.index(self.draft.destinations.len());
-            let destination = self.draft.destinations[position];
-            let permitted = |link| self.may_carry(link, destination);
+            let row = dice.index(self.layout().classes * destinations.len());
+            let class = Class::ALL[row / destinations.len()];
+            let destination = destinations[row % destinations.len()];
+            let permitted = |link| self.may_carry_class(class, link, destination);
             let first = dice.index(links.len());
             let [tail, head, ..] = links[first];
             let hops = self.draft.hops_by(tail, permitted);
             let way = self.draft.wander(dice, head, &hops, permitted);
             if let Some(way) = way.filter(|_| permitted(first)) {
                 for link in way.into_iter().chain([first]) {
-                    let flow = &mut table[position * links.len() + link];
+                    let flow = &mut table[row * links.len() + link];
                     *flow = flow.saturating_add(amount);
                 }
                 return true;

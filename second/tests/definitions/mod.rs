@@ -1,4 +1,4 @@
-//! The definitions of document 01 and of requests A.1, A.2 and A.4 to A.6 of
+//! The definitions of document 01 and of requests A.1, A.2 and A.4 to A.7 of
 //! document 02, word for word and by brute force, in whole numbers of 128 bits
 //! with a sign.
 
@@ -17,9 +17,17 @@ struct Link {
     q: Whole,
 }
 
+/// "a second trip table": lorries.
+#[derive(Clone, Copy, PartialEq, Eq)]
+enum Class {
+    Cars,
+    Lorries,
+}
+
 /// "Header, 32 bytes ... Links ... Destinations ... Trips"; "A version 2 study
 /// has a 40-byte header and a fourth pair after trips"; "A version 3 study is
-/// version 2 with 12-byte links".
+/// version 2 with 12-byte links"; "Version 4 is version 3 with a 56-byte header
+/// and two more pairs".
 struct Study {
     version: Whole,
     n: Whole,
@@ -27,23 +35,44 @@ struct Study {
     p: usize,
     links: Vec<Link>,
     destinations: Vec<Whole>,
-    /// "for each destination s in order, for each node j from 0, u16 D(j,s)"
+    /// "for each destination s in order, for each node j from 0, u16 D(j,s)";
+    /// "lorry trips, laid out as trips": by row.
     trips: Vec<Vec<Whole>>,
     /// "n bytes, 1 for a closed node, 0 for open"; "Version 1 has every node
     /// open."
     closed: Vec<u8>,
+    /// "m bytes, 1 where lorries are barred"
+    barred: Vec<u8>,
     total: Whole,
 }
 
 impl Study {
+    /// "cars first and lorries after": the rows of trips, of a table and of a
+    /// note, each with its class and destination.
+    fn rows(&self) -> Vec<(Class, Whole)> {
+        let classes = match self.version {
+            4 => vec![Class::Cars, Class::Lorries],
+            _ => vec![Class::Cars],
+        };
+        let mut rows = Vec::new();
+        for class in classes {
+            for &s in &self.destinations {
+                rows.push((class, s));
+            }
+        }
+        rows
+    }
+
     /// "A link whose head is closed may carry only flow to that head."
-    fn may_carry(&self, l: usize, s: Whole) -> bool {
+    /// "Lorry paths, lorry next links ... keep off barred links."
+    fn may_carry(&self, l: usize, class: Class, s: Whole) -> bool {
         let head = self.links[l].head;
-        self.closed[head as usize] == 0 || head == s
+        let barred = class == Class::Lorries && self.barred[l] == 1;
+        !barred && (self.closed[head as usize] == 0 || head == s)
     }
 }
 
-/// A table: for each position of a destination, for each link, Wths.
+/// A table: for each row, for each link, Wths.
 type Table = Vec<Vec<Whole>>;
 
 fn u16_at(bytes: &[u8], place: usize) -> Whole {
@@ -54,12 +83,13 @@ fn u32_at(bytes: &[u8], place: usize) -> Whole {
     u16_at(bytes, place) + 65_536 * u16_at(bytes, place + 2)
 }
 
-/// "a 40-byte header and a fourth pair after trips": bytes of the header and
-/// number of pairs.
+/// "a 40-byte header and a fourth pair after trips"; "a 56-byte header and two
+/// more pairs": bytes of the header and number of pairs.
 fn header(version: Whole) -> (usize, usize) {
     match version {
         1 => (32, 3),
         2 | 3 => (40, 4),
+        4 => (56, 6),
         _ => unreachable!("question 2"),
     }
 }
@@ -67,7 +97,15 @@ fn header(version: Whole) -> (usize, usize) {
 /// "Links, 10 bytes each, five u16"; "12-byte links; the sixth u16 is the power
 /// q".
 fn link_bytes(version: Whole) -> usize {
-    if version == 3 { 12 } else { 10 }
+    if version >= 3 { 12 } else { 10 }
+}
+
+/// "Are the lengths 10m, 2p and 2pn?" "the fourth length is n (question 5)";
+/// "Question 5 reads 12m"; "Their lengths are 2pn and m (question 5)"
+fn lengths(version: Whole, n: usize, m: usize, p: usize) -> Vec<usize> {
+    let all = [link_bytes(version) * m, 2 * p, 2 * p * n, n, 2 * p * n, m];
+    let (_, pairs) = header(version);
+    all[..pairs].to_vec()
 }
 
 /// Questions 1 to 5. Hands back version, n, m, p and the sections.
@@ -79,7 +117,7 @@ fn sections(file: &[u8]) -> Result<([Whole; 4], Vec<&[u8]>), u8> {
     // 2. Is the version 1? "Question 2 admits version 2, and later each version
     //    that a request brings."
     let version = u16_at(file, 0);
-    if !(version == 1 || version == 2 || version == 3) {
+    if !(version == 1 || version == 2 || version == 3 || version == 4) {
         return Err(2);
     }
     // 3. Is n 2 to 128, m 1 to 512, p 1 to 32, and p at most n?
@@ -87,13 +125,15 @@ fn sections(file: &[u8]) -> Result<([Whole; 4], Vec<&[u8]>), u8> {
     if !((2..=128).contains(&n) && (1..=512).contains(&m) && (1..=32).contains(&p) && p <= n) {
         return Err(3);
     }
-    // 4. "a version 2 file under 40 bytes fails question 4"
+    // 4. "a version 2 file under 40 bytes fails question 4"; "a version 4 file
+    //    under 56 bytes fails question 4"
     let (header, pairs) = header(version);
     if file.len() < header {
         return Err(4);
     }
-    // 4. Is the first offset at least 32 (40 in versions 2 and 3), does each
-    //    section end at or before the next offset, and the last within the file?
+    // 4. Is the first offset at least 32 (40 in versions 2 and 3, 56 in version
+    //    4), does each section end at or before the next offset, and the last
+    //    within the file?
     let offset: Vec<Whole> = (0..pairs).map(|k| u32_at(file, 8 + 8 * k)).collect();
     let length: Vec<Whole> = (0..pairs).map(|k| u32_at(file, 12 + 8 * k)).collect();
     let in_order = (1..pairs).all(|k| offset[k - 1] + length[k - 1] <= offset[k]);
@@ -101,13 +141,20 @@ fn sections(file: &[u8]) -> Result<([Whole; 4], Vec<&[u8]>), u8> {
     if !(offset[0] >= header as Whole && in_order && last <= file.len() as Whole) {
         return Err(4);
     }
-    // 5. Are the lengths 10m, 2p and 2pn? "the fourth length is n (question 5)";
-    //    "Question 5 reads 12m"
-    if length != [link_bytes(version) as Whole * m, 2 * p, 2 * p * n, n][..pairs] {
+    // 5. Are the lengths 10m, 2p and 2pn?
+    let wanted = lengths(version, n as usize, m as usize, p as usize);
+    if (0..pairs).any(|k| length[k] != wanted[k] as Whole) {
         return Err(5);
     }
     let section = |k: usize| &file[offset[k] as usize..(offset[k] + length[k]) as usize];
     Ok(([version, n, m, p], (0..pairs).map(section).collect()))
+}
+
+/// "for each destination s in order, for each node j from 0, u16 D(j,s)"
+fn trip_table(section: &[u8], n: usize) -> Vec<Vec<Whole>> {
+    let rows = section.chunks(2 * n);
+    rows.map(|row| (0..n).map(|j| u16_at(row, 2 * j)).collect())
+        .collect()
 }
 
 /// The study that the file has, without questions 6 to 11.
@@ -122,7 +169,7 @@ fn unasked(file: &[u8]) -> Result<Study, u8> {
             b: u16_at(section[0], bytes * l + 6),
             c: u16_at(section[0], bytes * l + 8),
             q: match version {
-                3 => u16_at(section[0], bytes * l + 10),
+                3 | 4 => u16_at(section[0], bytes * l + 10),
                 _ => 4,
             },
         })
@@ -130,16 +177,17 @@ fn unasked(file: &[u8]) -> Result<Study, u8> {
     let destinations = (0..p as usize)
         .map(|position| u16_at(section[1], 2 * position))
         .collect();
-    let trips: Vec<Vec<Whole>> = (0..p as usize)
-        .map(|position| {
-            (0..n as usize)
-                .map(|j| u16_at(section[2], 2 * (position * n as usize + j)))
-                .collect()
-        })
-        .collect();
+    let mut trips = trip_table(section[2], n as usize);
+    if version == 4 {
+        trips.extend(trip_table(section[4], n as usize));
+    }
     let closed = match version {
         1 => vec![0; n as usize],
         _ => section[3].to_vec(),
+    };
+    let barred = match version {
+        4 => section[5].to_vec(),
+        _ => vec![0; m as usize],
     };
     Ok(Study {
         version,
@@ -151,10 +199,11 @@ fn unasked(file: &[u8]) -> Result<Study, u8> {
         total: trips.iter().flatten().sum(),
         trips,
         closed,
+        barred,
     })
 }
 
-/// Questions 1 to 11, with 19 after 8.
+/// Questions 1 to 11, with 19 and 23 after 8.
 fn study(file: &[u8]) -> Result<Study, u8> {
     let study = unasked(file)?;
     let n = study.n;
@@ -185,9 +234,14 @@ fn study(file: &[u8]) -> Result<Study, u8> {
     if study.closed.iter().any(|&byte| byte > 1) {
         return Err(19);
     }
-    // 9. Is D(s,s) zero for every destination?
-    for (position, &s) in destinations.iter().enumerate() {
-        if study.trips[position][s as usize] != 0 {
+    // "23, a barred byte above 1, after 19"
+    if study.barred.iter().any(|&byte| byte > 1) {
+        return Err(23);
+    }
+    // 9. Is D(s,s) zero for every destination? "Questions 9, 10, 11 and 16
+    //    speak to both tables, 10 of their sum."
+    for (row, (_, s)) in study.rows().into_iter().enumerate() {
+        if study.trips[row][s as usize] != 0 {
             return Err(9);
         }
     }
@@ -203,18 +257,19 @@ fn study(file: &[u8]) -> Result<Study, u8> {
 }
 
 /// "Does every node with trips to s have a path to s?" "Paths ... obey this."
+/// "question 11 for lorries ... keep off barred links"
 fn paths_exist(study: &Study) -> bool {
-    for (position, &s) in study.destinations.iter().enumerate() {
+    for (row, (class, s)) in study.rows().into_iter().enumerate() {
         let mut has_path = vec![false; study.n as usize];
         has_path[s as usize] = true;
         for _ in 0..study.n {
             for (l, link) in study.links.iter().enumerate() {
-                if has_path[link.head as usize] && study.may_carry(l, s) {
+                if has_path[link.head as usize] && study.may_carry(l, class, s) {
                     has_path[link.tail as usize] = true;
                 }
             }
         }
-        for (&trips, &has_path) in study.trips[position].iter().zip(&has_path) {
+        for (&trips, &has_path) in study.trips[row].iter().zip(&has_path) {
             if trips > 0 && !has_path {
                 return false;
             }
@@ -223,48 +278,49 @@ fn paths_exist(study: &Study) -> bool {
     true
 }
 
-/// "at place (position of s) × m + l"
+/// "at place (position of s) × m + l"; "The flow table holds cars first and
+/// lorries after"
 fn take(study: &Study, numbers: &[u32]) -> Table {
-    (0..study.p)
-        .map(|position| {
+    (0..study.rows().len())
+        .map(|row| {
             (0..study.m)
-                .map(|l| Whole::from(numbers[position * study.m + l]))
+                .map(|l| Whole::from(numbers[row * study.m + l]))
                 .collect()
         })
         .collect()
 }
 
 fn give(study: &Study, table: &Table, numbers: &mut [u32]) {
-    for position in 0..study.p {
-        for l in 0..study.m {
-            numbers[position * study.m + l] = u32::try_from(table[position][l]).unwrap();
+    for (row, flows) in table.iter().enumerate() {
+        for (l, &flow) in flows.iter().enumerate() {
+            numbers[row * study.m + l] = u32::try_from(flow).unwrap();
         }
     }
 }
 
-/// "S is a link's total over destinations."
+/// "S is a link's total over destinations." "S is the total of both."
 fn totals(study: &Study, table: &Table) -> Vec<Whole> {
     (0..study.m)
-        .map(|l| (0..study.p).map(|position| table[position][l]).sum())
+        .map(|l| table.iter().map(|flows| flows[l]).sum())
         .collect()
 }
 
 /// "It conserves when for each s and each node j other than s: flow to s
 /// out of j = flow to s into j + W × D(j,s)".
 fn conserves(study: &Study, table: &Table, w: Whole) -> bool {
-    for (position, &s) in study.destinations.iter().enumerate() {
+    for (row, (_, s)) in study.rows().into_iter().enumerate() {
         for j in 0..study.n {
             if j != s {
                 let (mut out, mut into) = (0, 0);
                 for (l, link) in study.links.iter().enumerate() {
                     if link.tail == j {
-                        out += table[position][l];
+                        out += table[row][l];
                     }
                     if link.head == j {
-                        into += table[position][l];
+                        into += table[row][l];
                     }
                 }
-                if out != into + w * study.trips[position][j as usize] {
+                if out != into + w * study.trips[row][j as usize] {
                     return false;
                 }
             }
@@ -311,15 +367,16 @@ fn over(study: &Study, table: &Table, w: Whole) -> u32 {
 
 /// "The distance from j to s is the least sum of link times over paths, 0
 /// at s itself. A node without a path has no distance": by rounds over
-/// the links that paths to s may have, until a round changes nothing.
-fn distances(study: &Study, times: &[Whole], s: Whole) -> Vec<Option<Whole>> {
+/// the links that paths of the class to s may have, until a round changes
+/// nothing.
+fn distances(study: &Study, times: &[Whole], class: Class, s: Whole) -> Vec<Option<Whole>> {
     let mut distance: Vec<Option<Whole>> = vec![None; study.n as usize];
     distance[s as usize] = Some(0);
     loop {
         let mut changed = false;
         for (l, link) in study.links.iter().enumerate() {
             if let Some(beyond) = distance[link.head as usize]
-                && study.may_carry(l, s)
+                && study.may_carry(l, class, s)
             {
                 let offer = times[l] + beyond;
                 let own = &mut distance[link.tail as usize];
@@ -337,12 +394,12 @@ fn distances(study: &Study, times: &[Whole], s: Whole) -> Vec<Option<Whole>> {
 
 /// "A node's next link is the lowest-numbered link out of it whose time
 /// plus its head's distance equals its own distance." "a destination has
-/// none" "next links ... obey this"
+/// none" "next links ... obey this" "lorry next links ... keep off barred links"
 fn next_link(
     study: &Study,
     times: &[Whole],
     distance: &[Option<Whole>],
-    s: Whole,
+    (class, s): (Class, Whole),
     j: Whole,
 ) -> Option<usize> {
     if j == s {
@@ -352,39 +409,40 @@ fn next_link(
     (0..study.m).find(|&l| {
         let link = &study.links[l];
         link.tail == j
-            && study.may_carry(l, s)
+            && study.may_carry(l, class, s)
             && distance[link.head as usize].is_some_and(|d| times[l] + d == own)
     })
 }
 
-/// "Next links are kept by destination and by node"
+/// "Next links are kept by destination and by node", and by class.
 type NextLinks = Vec<Vec<Option<usize>>>;
 
 fn next_links(study: &Study, times: &[Whole]) -> NextLinks {
-    let destinations = study.destinations.iter();
-    destinations
-        .map(|&s| {
-            let distance = distances(study, times, s);
-            (0..study.n)
-                .map(|j| next_link(study, times, &distance, s, j))
-                .collect()
-        })
-        .collect()
+    let rows = study.rows().into_iter();
+    rows.map(|(class, s)| {
+        let distance = distances(study, times, class, s);
+        (0..study.n)
+            .map(|j| next_link(study, times, &distance, (class, s), j))
+            .collect()
+    })
+    .collect()
 }
 
 /// "The loading Y sends all D(j,s) along next links".
 fn loading(study: &Study, next: &NextLinks) -> Table {
-    let mut y = vec![vec![0; study.m]; study.p];
-    for (position, &s) in study.destinations.iter().enumerate() {
+    let mut y = Vec::new();
+    for (row, (_, s)) in study.rows().into_iter().enumerate() {
+        let mut flows = vec![0; study.m];
         for j in 0..study.n as usize {
-            let trips = study.trips[position][j];
+            let trips = study.trips[row][j];
             let mut node = j;
             while trips > 0 && node as Whole != s {
-                let l = next[position][node].unwrap();
-                y[position][l] += trips;
+                let l = next[row][node].unwrap();
+                flows[l] += trips;
                 node = study.links[l].head as usize;
             }
         }
+        y.push(flows);
     }
     y
 }
@@ -407,13 +465,14 @@ fn cost(study: &Study, table: &Table, w: Whole) -> Whole {
 }
 
 /// "Gap = sum of t·S over links, less W times the sum of D(j,s) × distance."
+/// "Gap and rivals take both classes together."
 fn gap(study: &Study, table: &Table, w: Whole) -> Whole {
     let totals = totals(study, table);
     let times = times(study, &totals, w);
     let mut gap: Whole = (0..study.m).map(|l| times[l] * totals[l]).sum();
-    for (position, &s) in study.destinations.iter().enumerate() {
-        let distance = distances(study, &times, s);
-        for (&trips, distance) in study.trips[position].iter().zip(distance) {
+    for (row, (class, s)) in study.rows().into_iter().enumerate() {
+        let distance = distances(study, &times, class, s);
+        for (&trips, distance) in study.trips[row].iter().zip(distance) {
             if trips > 0 {
                 gap -= w * trips * distance.unwrap();
             }
@@ -432,7 +491,8 @@ fn started(study: &Study) -> Table {
 struct Moved {
     table: Table,
     w: Whole,
-    /// "the note: j, then p·n next links"
+    /// "the note: j, then p·n next links"; "In version 4 the note of A.6 holds
+    /// both classes, cars first"
     j: Whole,
     next: NextLinks,
 }
@@ -453,10 +513,10 @@ fn moved(study: &Study, table: &Table, w: Whole) -> Option<Moved> {
         if sum <= 0 {
             // "If there is one, the table becomes table + j·Y and W
             // becomes W + j."
-            let table = (0..study.p)
-                .map(|position| {
+            let table = (0..table.len())
+                .map(|row| {
                     (0..study.m)
-                        .map(|l| table[position][l] + j * y_table[position][l])
+                        .map(|l| table[row][l] + j * y_table[row][l])
                         .collect()
                 })
                 .collect();
@@ -476,7 +536,7 @@ fn moved(study: &Study, table: &Table, w: Whole) -> Option<Moved> {
             table: doubled,
             w: 2 * w,
             j: 0,
-            next: vec![vec![None; study.n as usize]; study.p],
+            next: vec![vec![None; study.n as usize]; table.len()],
         });
     }
     None
@@ -485,10 +545,9 @@ fn moved(study: &Study, table: &Table, w: Whole) -> Option<Moved> {
 /// "j, then p·n next links as u16, destination by destination, 65,535 for none"
 fn give_note(study: &Study, moved: &Moved, note: &mut [u16]) {
     note[0] = u16::try_from(moved.j).unwrap();
-    for position in 0..study.p {
-        for node in 0..study.n as usize {
-            let next = moved.next[position][node];
-            note[1 + position * study.n as usize + node] =
+    for (row, next) in moved.next.iter().enumerate() {
+        for (node, next) in next.iter().enumerate() {
+            note[1 + row * study.n as usize + node] =
                 next.map_or(65_535, |l| u16::try_from(l).unwrap());
         }
     }
@@ -499,24 +558,24 @@ fn give_note(study: &Study, moved: &Moved, note: &mut [u16]) {
 /// the note's links of all nodes that such walks pass.
 fn question_21(study: &Study, note: &[u16]) -> Result<NextLinks, u8> {
     let n = study.n as usize;
-    let mut next = vec![vec![None; n]; study.p];
-    for (position, &s) in study.destinations.iter().enumerate() {
+    let mut next = vec![vec![None; n]; study.rows().len()];
+    for (row, (class, s)) in study.rows().into_iter().enumerate() {
         for j in 0..n {
-            if study.trips[position][j] == 0 {
+            if study.trips[row][j] == 0 {
                 continue;
             }
             let mut node = j;
             let mut steps = 0;
             while node as Whole != s {
-                let l = usize::from(note[1 + position * n + node]);
+                let l = usize::from(note[1 + row * n + node]);
                 if steps == n
                     || l >= study.m
                     || study.links[l].tail != node as Whole
-                    || !study.may_carry(l, s)
+                    || !study.may_carry(l, class, s)
                 {
                     return Err(21);
                 }
-                next[position][node] = Some(l);
+                next[row][node] = Some(l);
                 node = study.links[l].head as usize;
                 steps += 1;
             }
@@ -546,12 +605,12 @@ fn taken_back(study: &Study, table: &Table, w: Whole, note: &[u16]) -> Result<(T
         return Err(22);
     }
     let mut left = table.clone();
-    for position in 0..study.p {
+    for row in 0..table.len() {
         for l in 0..study.m {
-            if table[position][l] < j * y[position][l] {
+            if table[row][l] < j * y[row][l] {
                 return Err(22);
             }
-            left[position][l] -= j * y[position][l];
+            left[row][l] -= j * y[row][l];
         }
     }
     Ok((left, w - j))
@@ -573,10 +632,11 @@ fn table(study: &Study, numbers: &[u32], share: u32) -> Result<Table, u8> {
     if !conserves(study, &table, w) {
         return Err(16);
     }
-    // "20, a table with flow on a link that may not carry it, after 16"
-    for (position, &s) in study.destinations.iter().enumerate() {
-        for (l, &flow) in table[position].iter().enumerate() {
-            if flow > 0 && !study.may_carry(l, s) {
+    // "20, a table with flow on a link that may not carry it, after 16"; "A
+    // table with lorries on a barred link is refusal 20."
+    for (row, (class, s)) in study.rows().into_iter().enumerate() {
+        for (l, &flow) in table[row].iter().enumerate() {
+            if flow > 0 && !study.may_carry(l, class, s) {
                 return Err(20);
             }
         }
@@ -584,17 +644,21 @@ fn table(study: &Study, numbers: &[u32], share: u32) -> Result<Table, u8> {
     Ok(table)
 }
 
-/// 12. Does the flow table hold at least p·m numbers of 32 bits?
+/// 12. Does the flow table hold at least p·m numbers of 32 bits? "for version 4
+///     2·p·m numbers wherever document 01 says p·m"
 fn question_12(study: &Study, numbers: &[u32]) -> Result<(), u8> {
-    if numbers.len() < study.p * study.m {
+    let p = study.p * if study.version == 4 { 2 } else { 1 };
+    if numbers.len() < p * study.m {
         return Err(12);
     }
     Ok(())
 }
 
-/// "For pass and taking back, question 12 also wants 1 + p·n numbers there"
+/// "For pass and taking back, question 12 also wants 1 + p·n numbers there"; "in
+/// 1 + 2·p·n numbers"
 fn question_12_of_the_note(study: &Study, note: &[u16]) -> Result<(), u8> {
-    if note.len() < 1 + study.p * study.n as usize {
+    let p = study.p * if study.version == 4 { 2 } else { 1 };
+    if note.len() < 1 + p * study.n as usize {
         return Err(12);
     }
     Ok(())
@@ -648,14 +712,15 @@ impl Calls for Literal {
         // "question 17 wants that version's whole packed size"
         let (n, m, p) = (study.n as usize, study.m, study.p);
         let (header, pairs) = header(study.version);
-        let lengths = &[link_bytes(study.version) * m, 2 * p, 2 * p * n, n][..pairs];
+        let lengths = lengths(study.version, n, m, p);
         if output.len() < header + lengths.iter().sum::<usize>() {
             return 17;
         }
         // "writes an accepted study with no gaps, sections in order from
         // offset 32, and leaves later bytes untouched"; "Pack keeps a file's
         // version, starts the sections at the end of its header, writes the
-        // new section last"
+        // new section last"; "two more pairs, packed in this order after the
+        // closed bytes: lorry trips ... and m bytes"
         let mut packed = Vec::new();
         let two = |packed: &mut Vec<u8>, number: Whole| {
             packed.extend([(number % 256) as u8, (number / 256) as u8]);
@@ -674,18 +739,24 @@ impl Calls for Literal {
             for number in [link.tail, link.head, link.a, link.b, link.c] {
                 two(&mut packed, number);
             }
-            if study.version == 3 {
+            if study.version >= 3 {
                 two(&mut packed, link.q);
             }
         }
         for &s in &study.destinations {
             two(&mut packed, s);
         }
-        for &trips in study.trips.iter().flatten() {
+        for &trips in study.trips[..p].iter().flatten() {
             two(&mut packed, trips);
         }
         if study.version >= 2 {
             packed.extend(&study.closed);
+        }
+        if study.version == 4 {
+            for &trips in study.trips[p..].iter().flatten() {
+                two(&mut packed, trips);
+            }
+            packed.extend(&study.barred);
         }
         output[..packed.len()].copy_from_slice(&packed);
         0

@@ -13,7 +13,7 @@ use crate::source::{Problem, Source};
 use crate::words::{count, range};
 
 /// The columns of a row.
-const COLUMNS: [&str; 10] = [
+pub const COLUMNS: [&str; 10] = [
     "init node",
     "term node",
     "capacity",
@@ -66,7 +66,7 @@ pub fn read(source: &Source, options: &Options, ledger: &mut Ledger) -> Result<N
     }
 
     let closing = first_open.filter(|&(_, first)| first > 1);
-    let version = links.version(closing.is_some());
+    let version = links.version(closing.is_some(), options.lorries.is_some());
     let mut notes = Vec::from_iter(closing.map(|first| closed_note(source, first, version)));
     notes.extend(links.power_note(source, version));
     notes.extend(left_out);
@@ -102,11 +102,13 @@ impl Links {
         }
     }
 
-    /// The first version that has a place for them, and for closed nodes if
-    /// there are any.
-    fn version(&self, closed: bool) -> Version {
+    /// The first version that has a place for them, and for closed nodes and
+    /// lorries if there are any.
+    fn version(&self, closed: bool, lorries: bool) -> Version {
         Version::first(|version| {
-            (version.has_powers() || self.power.is_none()) && (version.has_closed() || !closed)
+            (version.has_powers() || self.power.is_none())
+                && (version.has_closed() || !closed)
+                && (version.has_lorries() || !lorries)
         })
     }
 
@@ -119,8 +121,9 @@ impl Links {
         self.links
     }
 
+    /// Tells which power makes the version, where lorries do not make it.
     fn power_note(&self, source: &Source, version: Version) -> Option<String> {
-        let (line, power) = self.power?;
+        let (line, power) = self.power.filter(|_| !version.has_lorries())?;
         let note = format!("power {power}, which makes a version {version} study");
         Some(source.remark(line, note))
     }
@@ -148,7 +151,7 @@ fn closed_note(source: &Source, (line, first): (usize, u16), version: Version) -
         _ => format!("nodes 1 to {} are closed", first - 1),
     };
     let makes = if version.has_powers() {
-        String::new() // Powers make the version.
+        String::new() // Powers or lorries make the version.
     } else {
         format!(", which makes a version {version} study")
     };

@@ -15,12 +15,20 @@ pub enum Kind {
     Rise,
     /// Capacities of links.
     Capacity,
-    /// Trips from a node to a destination.
+    /// Car trips from a node to a destination.
     Trips,
+    /// Lorry trips from a node to a destination.
+    LorryTrips,
 }
 
 impl Kind {
-    const ALL: [Kind; 4] = [Kind::FreeTime, Kind::Rise, Kind::Capacity, Kind::Trips];
+    const ALL: [Kind; 5] = [
+        Kind::FreeTime,
+        Kind::Rise,
+        Kind::Capacity,
+        Kind::Trips,
+        Kind::LorryTrips,
+    ];
 
     fn name(self) -> &'static str {
         match self {
@@ -28,6 +36,7 @@ impl Kind {
             Kind::Rise => "rises",
             Kind::Capacity => "capacities",
             Kind::Trips => "trips",
+            Kind::LorryTrips => "lorry trips",
         }
     }
 
@@ -35,7 +44,7 @@ impl Kind {
     pub fn unit(self) -> &'static str {
         match self {
             Kind::FreeTime | Kind::Rise => "hundredths of a minute",
-            Kind::Capacity | Kind::Trips => "trips",
+            Kind::Capacity | Kind::Trips | Kind::LorryTrips => "trips",
         }
     }
 }
@@ -85,37 +94,41 @@ impl Ledger {
             return vec!["no figure was rounded".to_owned()];
         }
         let mut lines = vec!["rounded to the nearest whole number, halves up:".to_owned()];
-        for kind in Kind::ALL {
-            let tally = &self.tallies[kind as usize];
-            let (rounded, figures) = (grouped(tally.rounded), grouped(tally.figures));
-            let name = kind.name();
-            lines.push(match &tally.largest {
-                None => format!("  {name}: {rounded} of {figures}"),
-                Some((most, figure)) => format!(
-                    "  {name}: {rounded} of {figures}, by {most} {} at most ({figure})",
-                    kind.unit()
-                ),
-            });
+        lines.extend(Kind::ALL.into_iter().filter_map(|kind| self.largest(kind)));
+        lines.extend(Kind::ALL.into_iter().flat_map(|kind| self.vanished(kind)));
+        lines
+    }
+
+    /// How many figures of a kind were rounded, and the largest rounding.
+    /// Studies without lorries say nothing of lorry trips.
+    fn largest(&self, kind: Kind) -> Option<String> {
+        let tally = &self.tallies[kind as usize];
+        if tally.figures == 0 && kind == Kind::LorryTrips {
+            return None;
         }
-        for kind in Kind::ALL {
-            let vanished = &self.tallies[kind as usize].vanished;
-            if vanished.is_empty() {
-                continue;
-            }
-            let figures = count(vanished.len() as u64, "figure");
-            lines.push(format!(
-                "not 0 but rounded to 0, {}: {figures}",
-                kind.name()
-            ));
-            lines.extend(
-                vanished
-                    .iter()
-                    .take(LISTED)
-                    .map(|figure| format!("  {figure}")),
-            );
-            if vanished.len() > LISTED {
-                lines.push(format!("  and {} more", vanished.len() - LISTED));
-            }
+        let (rounded, figures) = (grouped(tally.rounded), grouped(tally.figures));
+        let name = kind.name();
+        Some(match &tally.largest {
+            None => format!("  {name}: {rounded} of {figures}"),
+            Some((most, figure)) => format!(
+                "  {name}: {rounded} of {figures}, by {most} {} at most ({figure})",
+                kind.unit()
+            ),
+        })
+    }
+
+    /// The figures of a kind that are not 0 and became 0, in lines.
+    fn vanished(&self, kind: Kind) -> Vec<String> {
+        let vanished = &self.tallies[kind as usize].vanished;
+        if vanished.is_empty() {
+            return Vec::new();
+        }
+        let (name, figures) = (kind.name(), count(vanished.len() as u64, "figure"));
+        let mut lines = vec![format!("not 0 but rounded to 0, {name}: {figures}")];
+        let listed = vanished.iter().take(LISTED);
+        lines.extend(listed.map(|figure| format!("  {figure}")));
+        if vanished.len() > LISTED {
+            lines.push(format!("  and {} more", vanished.len() - LISTED));
         }
         lines
     }

@@ -1,13 +1,41 @@
-//! The trips file: flows from each origin to its destinations.
+//! A trips file: flows from each origin to its destinations.
 
+use super::demand::Demand;
 use super::metadata;
-use super::net::Network;
 use super::rounding::{Kind, Ledger};
-use super::{Options, figure, too_long};
+use super::{figure, too_long};
 use crate::exact::{Figure, Fraction};
-use crate::format::{DESTINATIONS, Destination, MOST_TRIPS, TRIPS};
+use crate::format::{Class, MOST_TRIPS, TRIPS};
 use crate::source::{Problem, Source};
 use crate::words::{grouped, range};
+
+/// A trips file, and how its flows are converted.
+#[derive(Clone, Copy)]
+pub struct TripsFile<'a> {
+    /// The file.
+    pub source: &'a Source,
+    /// The class of its trips.
+    pub class: Class,
+    /// Car units of one of its vehicles.
+    pub car_units: Fraction,
+    /// Car units that make one trip.
+    pub vehicles_per_trip: Fraction,
+}
+
+impl TripsFile<'_> {
+    /// A flow in trips, if that has not too many digits.
+    fn trips(&self, flow: Fraction) -> Option<Fraction> {
+        flow.times(self.car_units)?
+            .divided_by(self.vehicles_per_trip)
+    }
+
+    fn kind(&self) -> Kind {
+        match self.class {
+            Class::Cars => Kind::Trips,
+            Class::Lorries => Kind::LorryTrips,
+        }
+    }
+}
 
 /// Trips from one node to another, and the line they stand on.
 #[derive(Clone, Copy)]
@@ -16,16 +44,34 @@ struct Cell {
     line: usize,
 }
 
-/// What the trips file says.
-pub struct Table {
+/// What a trips file says.
+pub struct Table<'a> {
+    /// The file.
+    pub source: &'a Source,
+    /// The class of its trips.
+    pub class: Class,
     nodes: u16,
     /// By destination and origin, counted from 0.
     cells: Vec<Option<Cell>>,
+    /// All its trips.
+    pub trips: u64,
     /// What rounding made of the total, if it changed it.
     pub drift: Option<String>,
 }
 
-impl Table {
+impl<'a> Table<'a> {
+    /// No trips yet.
+    fn empty(file: TripsFile<'a>, nodes: u16) -> Self {
+        Table {
+            source: file.source,
+            class: file.class,
+            nodes,
+            cells: vec![None; usize::from(nodes) * usize::from(nodes)],
+            trips: 0,
+            drift: None,
+        }
+    }
+
     fn place(&self, origin: u16, destination: u16) -> usize {
         usize::from(destination) * usize::from(self.nodes) + usize::from(origin)
     }
@@ -35,54 +81,31 @@ impl Table {
         self.cells[self.place(origin, destination)].map_or(1, |cell| cell.line)
     }
 
-    /// The nodes that receive trips, with these trips.
-    pub fn destinations(&self) -> Vec<Destination> {
-        (0..)
-            .zip(self.cells.chunks_exact(usize::from(self.nodes)))
-            .map(|(node, cells)| Destination {
-                node,
-                trips: cells
-                    .iter()
-                    .map(|cell| cell.map_or(0, |cell| cell.trips))
-                    .collect(),
-            })
-            .filter(|destination| destination.total() > 0)
-            .collect()
+    /// The trips to a node, by origin; nodes count from 0.
+    pub fn trips_to(&self, destination: u16) -> Vec<u16> {
+        let cells = &self.cells[self.place(0, destination)..self.place(0, destination + 1)];
+        let trips = cells.iter().map(|cell| cell.map_or(0, |cell| cell.trips));
+        trips.collect()
     }
 }
 
-/// Reads the trips file.
-pub fn read(
-    source: &Source,
-    network: &Network,
-    options: &Options,
+/// Reads a trips file; `demand` are those before it.
+pub fn read<'a>(
+    file: TripsFile<'a>,
+    demand: &mut Demand,
     ledger: &mut Ledger,
-) -> Result<Table, Problem> {
-    let nodes = network.nodes;
+) -> Result<Table<'a>, Problem> {
+    let source = file.source;
     let (metadata, rows) = metadata::split(source)?;
-    let zones = metadata.number("NUMBER OF ZONES", &(1..=nodes))?;
-    if let (Some((line, ours)), Some(theirs)) = (zones, network.zones)
-        && ours != theirs
-    {
-        let what = format!("<NUMBER OF ZONES> {ours}, but the net file has {theirs}");
-        return Err(source.problem(line, what));
-    }
-    let zones = zones.map(|(_, zones)| zones).or(network.zones);
-    let zones = 1..=zones.unwrap_or(nodes);
+    let zones = demand.zones(source, &metadata)?;
     let stated = metadata.figure("TOTAL OD FLOW")?;
 
     let mut tally = Tally {
-        source,
-        options,
-        table: Table {
-            nodes,
-            cells: vec![None; usize::from(nodes) * usize::from(nodes)],
-            drift: None,
-        },
+        file,
+        table: Table::empty(file, demand.nodes()),
+        demand,
         flow: Fraction::ZERO,
-        trips: 0,
         passed: None,
-        receiving: vec![false; usize::from(nodes)],
     };
     let mut origin = None;
     for (line, row) in rows {
@@ -101,7 +124,7 @@ pub fn read(
                 source.problem(line, what)
             })?;
             let destination = source.whole(line, "destination", destination, &zones)?;
-            tally.add(line, origin, destination, flow, ledger)?;
+            tally.add(line, (origin, destination), flow, ledger)?;
         }
     }
     tally.finish(stated)
@@ -114,31 +137,27 @@ fn split_pair(pair: &str) -> Option<(&str, &str)> {
 }
 
 /// The table in the making.
-struct Tally<'a> {
-    source: &'a Source,
-    options: &'a Options,
-    table: Table,
+struct Tally<'a, 'd, 'n> {
+    file: TripsFile<'a>,
+    /// The trips of the files before.
+    demand: &'d mut Demand<'n>,
+    table: Table<'a>,
     /// All flows, in vehicles.
     flow: Fraction,
-    /// All trips.
-    trips: u64,
     /// The line on which the trips pass their limit.
     passed: Option<usize>,
-    /// The nodes that receive trips.
-    receiving: Vec<bool>,
 }
 
-impl Tally<'_> {
-    /// Adds a pair; nodes count from 1.
+impl<'a> Tally<'a, '_, '_> {
+    /// Adds a pair of origin and destination, which count from 1.
     fn add(
         &mut self,
         line: usize,
-        origin: u16,
-        destination: u16,
+        (origin, destination): (u16, u16),
         text: &str,
         ledger: &mut Ledger,
     ) -> Result<(), Problem> {
-        let source = self.source;
+        let source = self.file.source;
         let name = format!("origin {origin} to {destination}: flow");
         let flow = figure(source, line, &name, text)?.value;
         if origin == destination && !flow.is_zero() {
@@ -155,42 +174,49 @@ impl Tally<'_> {
             return Err(source.problem(line, what));
         }
 
-        let figure = format!("{name} {text}");
-        let exact = flow
-            .divided_by(self.options.vehicles_per_trip)
-            .ok_or_else(|| too_long(source, line, &figure))?;
-        let rounded = ledger.round(Kind::Trips, exact, || source.remark(line, figure.as_str()));
-        let trips = u16::try_from(rounded).map_err(|_| {
-            let limits = range(&TRIPS);
-            source.problem(line, format!("{figure} is {exact} trips, limit {limits}"))
-        })?;
+        let trips = self.trips(line, flow, &format!("{name} {text}"), ledger)?;
         self.table.cells[place] = Some(Cell { trips, line });
-
         self.flow = self
             .flow
             .plus(flow)
             .ok_or_else(|| too_long(source, line, "the sum of flows"))?;
-        self.trips += u64::from(trips);
-        if self.trips > u64::from(MOST_TRIPS) {
+        self.table.trips += u64::from(trips);
+        if self.in_all() > u64::from(MOST_TRIPS) {
             self.passed.get_or_insert(line);
         }
         if trips > 0 {
-            self.receiving[usize::from(destination - 1)] = true;
-            let receiving = self.receiving.iter().filter(|&&yes| yes).count();
-            let most = usize::from(*DESTINATIONS.end());
-            if receiving > most {
-                let what = format!(
-                    "destination {destination} is number {receiving} to receive trips, \
-                     limit {most} destinations"
-                );
-                return Err(source.problem(line, what));
-            }
+            let received = self.demand.receives(destination);
+            received.map_err(|what| source.problem(line, what))?;
         }
         Ok(())
     }
 
+    /// A flow in whole trips; `figure` names it.
+    fn trips(
+        &self,
+        line: usize,
+        flow: Fraction,
+        figure: &str,
+        ledger: &mut Ledger,
+    ) -> Result<u16, Problem> {
+        let source = self.file.source;
+        let exact = self.file.trips(flow);
+        let exact = exact.ok_or_else(|| too_long(source, line, figure))?;
+        let rounded = ledger.round(self.file.kind(), exact, || source.remark(line, figure));
+        u16::try_from(rounded).map_err(|_| {
+            let limits = range(&TRIPS);
+            source.problem(line, format!("{figure} is {exact} trips, limit {limits}"))
+        })
+    }
+
+    /// All trips, those of the files before included.
+    fn in_all(&self) -> u64 {
+        self.demand.trips + self.table.trips
+    }
+
     /// Holds the whole against its limits; `stated` is the metadata's total.
-    fn finish(mut self, stated: Option<(usize, Figure)>) -> Result<Table, Problem> {
+    fn finish(mut self, stated: Option<(usize, Figure)>) -> Result<Table<'a>, Problem> {
+        let source = self.file.source;
         if let Some((line, stated)) = stated
             && !agree(self.flow, stated)
         {
@@ -198,26 +224,31 @@ impl Tally<'_> {
                 "<TOTAL OD FLOW> {}, but the flows add up to {}",
                 stated.value, self.flow
             );
-            return Err(self.source.problem(line, what));
+            return Err(source.problem(line, what));
         }
         if let Some(line) = self.passed {
-            let what = format!(
-                "{} trips in all, passing the limit {} here (more vehicles a trip make fewer)",
-                grouped(self.trips),
-                grouped(MOST_TRIPS)
-            );
-            return Err(self.source.problem(line, what));
+            return Err(source.problem(line, self.too_many()));
         }
-        if self.trips == 0 {
-            let what = "0 trips in all, limit 1 or more: a study has a destination";
-            return Err(self.source.problem(self.source.last_line(), what));
-        }
-        let exact = self.flow.divided_by(self.options.vehicles_per_trip);
-        if let Some(exact) = exact.filter(|&exact| exact != Fraction::whole(self.trips)) {
-            let trips = grouped(self.trips);
-            self.table.drift = Some(format!("trips in all: {exact}, with rounding {trips}"));
+        let (trips, class) = (self.table.trips, self.table.class);
+        let exact = self.file.trips(self.flow);
+        if let Some(exact) = exact.filter(|&exact| exact != Fraction::whole(trips)) {
+            let (name, trips) = (class.trip(), grouped(trips));
+            self.table.drift = Some(format!("{name}s in all: {exact}, with rounding {trips}"));
         }
         Ok(self.table)
+    }
+
+    /// Tells that the trips pass their limit.
+    fn too_many(&self) -> String {
+        let with = match self.demand.trips {
+            0 => String::new(),
+            cars => format!(", {} of them in the trips file", grouped(cars)),
+        };
+        format!(
+            "{} trips in all{with}, passing the limit {} here (more vehicles a trip make fewer)",
+            grouped(self.in_all()),
+            grouped(MOST_TRIPS)
+        )
     }
 }
 

@@ -122,6 +122,60 @@ pub const POWERS_FILE: [u8; 102] = [
     0, 1, 0, 0,
 ];
 
+/// The town with powers in version 4, with lorries, which are barred from link
+/// 2, as text.
+pub const LORRIES: &str = "\
+# Times in hundredths of a minute, capacities in trips.
+# Nodes and links count from 0.
+# Lorry trips count in car units.
+study 4
+nodes 4
+links 5
+destinations 1
+
+closed 1
+
+barred 2
+
+#    number  tail  head   free   rise  capacity  power
+link      0     0     1      5     20         2      1
+link      1     1     2      5      0         1      4
+link      2     0     3     10     30         1      2
+link      3     3     2     10      7         3      3
+link      4     0     3     12      0         9      4
+
+destination 2  # 8 trips (5 lorry trips)
+  from 0: 2
+  from 1: 1
+  lorries from 0: 4
+  lorries from 3: 1
+
+total: 8 trips (5 lorry trips)
+check: accepted
+";
+
+/// The town with lorries, as a file.
+#[rustfmt::skip]
+pub const LORRIES_FILE: [u8; 143] = [
+    4, 0, 4, 0, 5, 0, 1, 0,
+    56, 0, 0, 0, 60, 0, 0, 0,
+    116, 0, 0, 0, 2, 0, 0, 0,
+    118, 0, 0, 0, 8, 0, 0, 0,
+    126, 0, 0, 0, 4, 0, 0, 0,
+    130, 0, 0, 0, 8, 0, 0, 0,
+    138, 0, 0, 0, 5, 0, 0, 0,
+    0, 0, 1, 0, 5, 0, 20, 0, 2, 0, 1, 0,
+    1, 0, 2, 0, 5, 0, 0, 0, 1, 0, 4, 0,
+    0, 0, 3, 0, 10, 0, 30, 0, 1, 0, 2, 0,
+    3, 0, 2, 0, 10, 0, 7, 0, 3, 0, 3, 0,
+    0, 0, 3, 0, 12, 0, 0, 0, 9, 0, 4, 0,
+    2, 0,
+    2, 0, 1, 0, 0, 0, 0, 0,
+    0, 1, 0, 0,
+    4, 0, 0, 0, 0, 0, 1, 0,
+    0, 0, 1, 0, 0,
+];
+
 /// What a run of the program came to.
 #[derive(Debug)]
 pub struct Outcome {

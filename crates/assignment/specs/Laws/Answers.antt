@@ -30,10 +30,10 @@ pub run-opened : (file table : List ℕ) (budget : ℕ) → runNumber file table
 run-opened file table budget e =
     check-passed file (start-both file table (run-both file table budget e .0) .0) .described .opened
 
-module _ (file table : List ℕ) {opening n : ℕ} {linkList : List (List ℕ)} {nodeList entries : List ℕ}
-    (parts : PartsOf file opening n linkList nodeList entries) where
+module _ (file table : List ℕ) {opening n : ℕ} {linkList : List (List ℕ)} {commodityList entries : List ℕ}
+    (parts : PartsOf file opening n linkList commodityList entries) where
   abbrev g : Network
-  g = network n linkList nodeList entries
+  g = network n linkList commodityList entries
 
   -- What an accepted start leaves.
   pub start-leaves : (after : List ℕ) → startNumber file table ≡ 0 → after ≡ overwritten (started g .table) table → after ≡ startTable file table

@@ -285,10 +285,10 @@ pub begun-running : (file before : List ℕ) (budget excess : ℕ) {table : List
 begun-running file before budget excess begun = rw (begun .started) (run-begins file before budget excess (begun .accepted))
 
 -- The parts of the file of an accepted run.
-module _ {file : List ℕ} {n : ℕ} {linkList : List (List ℕ)} {nodeList entries : List ℕ} (parts : PartsOf file 0 n linkList nodeList entries)
+module _ {file : List ℕ} {n : ℕ} {linkList : List (List ℕ)} {commodityList entries : List ℕ} (parts : PartsOf file 0 n linkList commodityList entries)
     (before : List ℕ) (budget excess : ℕ) (accepted : runNumber file before budget ≡ 0) where
   abbrev d : Study
-  d = studyOf n linkList nodeList entries
+  d = studyOf n linkList commodityList entries
 
   pub run-ready : Ready d
   run-ready = rw (study-is parts) (ready file (run-study file before budget excess accepted))
@@ -315,7 +315,7 @@ module _ {file : List ℕ} {n : ℕ} {linkList : List (List ℕ)} {nodeList entr
 
     -- and a turn goes by the network of the parts, which is the file's.
     module _ {at : Standing} {r : Turn} {after : List ℕ} (share-was : at .share ≡ share) (limit-at : at .limit ≡ limit)
-        (last-is : at .last ≡ eqb (i + 1) budget) (turned : Turned (network n linkList nodeList entries) table at r after) where
+        (last-is : at .last ≡ eqb (i + 1) budget) (turned : Turned (network n linkList commodityList entries) table at r after) where
       taken : r .step ≡ stepOf (networkOf file) table share limit (eqb (i + 1) budget)
       taken = rw (← network-is parts, ← share-was, ← limit-at, ← last-is) (turned .step-is)
 
@@ -332,8 +332,8 @@ module _ {file : List ℕ} {n : ℕ} {linkList : List (List ℕ)} {nodeList entr
         still-judgeable =
             rw (turn-same file before budget excess accepted limit limit-was i table share running (r .step) after taken left stays) turn-judgeable
 
-        pub turn-ends : {cost′ over′ : ℕ} {answer : RunAnswer} → cost′ ≡ cost (network n linkList nodeList entries) share after →
-            over′ ≡ over (network n linkList nodeList entries) share after →
+        pub turn-ends : {cost′ over′ : ℕ} {answer : RunAnswer} → cost′ ≡ cost (network n linkList commodityList entries) share after →
+            over′ ≡ over (network n linkList commodityList entries) share after →
             answer ≡ endedAnswer (r .step) (i + 1) share (r .gap) cost′ over′ →
             (answer ≡ runAnswer file before budget excess) × (after ≡ runTable file before budget excess)
         turn-ends {cost′} {over′} {answer} cost-is over-is e = (

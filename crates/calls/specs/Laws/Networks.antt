@@ -1,26 +1,29 @@
 -- What the questions say of numbers, tables and the network that a study describes.
-use Prim.Native.Nat.{ℕ, zero, suc, _+_, _*_, _/_, _^_, _-_, _≤_, _<_}
+use Prim.Native.Nat.{ℕ, suc, _+_, _*_, _/_, _%_, _≤_, _<_}
 use native.Mathlib.Nat.{le-trans}
 use native.Mathlib.Omega.{arith}
-use mathlib.Core.Path.{_≡_, refl, sym, _∙_}
+use mathlib.Core.Path.{_≡_, sym, _∙_, ap}
 use mathlib.Core.Bool.{Bool, true, false, not, _&&_}
 use mathlib.Core.List.{List, []}
 use lib.ListN.{length, getD}
 use lib.Dec.{leb, ltb, eqb}
-use borrow.Author.Tests.{lt-ltb, ltb-true, leb-true, le-leb, eqb-true, eqb-false, not-true}
+use mathlib.Core.Logic.{_↔_}
+use borrow.Author.Tests.{lt-ltb, ltb-true, leb-true, le-leb, eqb-true, eqb-false, eq-eqb, ne-eqb, not-true}
 use Rattle.study.specs.Questions.{within}
-use Rattle.study.specs.Sections.{links, linkSize, linkPart, closedPart}
-use Rattle.study.specs.Fields.{closedByte, power as powerOf}
+use Rattle.study.specs.Sections.{links, linkSize, linkPart, closedPart, barredPart}
+use Rattle.study.specs.Fields.{head as headOf, power as powerOf, markByte}
 use Rattle.study.specs.Laws.{within-true}
 use Rattle.theory.specs.Finite.{all}
 use Rattle.theory.specs.Network.{Network, Sound, totalTrips}
 use Rattle.theory.specs.Moves.{tableSize}
-use Rattle.theory.specs.Study.{head, freeTime, rise, capacity, closed, power, AllFourth, network}
+use Rattle.theory.specs.Study.{head, freeTime, rise, capacity, closed, barred, power, AllFourth, network}
+use Rattle.theory.specs.Laws.Cases.{on-equal}
 use Rattle.theory.specs.Laws.Finite.{length-tabulate, getD-tabulate, all-elim, and-left, and-right, both}
 use Rattle.theory.specs.Laws.Times.{stepTime-least, stepTime-mono}
-use Rattle.calls.specs.Study.{asByte, linkRow, linkRows, networkOf}
-use Rattle.calls.specs.Questions.{endsFit, timesFit, destinationsFit, noTripsWithin, totalFits, tableHolds, budgetFits, shareFits}
+use Rattle.calls.specs.Study.{asByte, asMark, linkRow, linkRows, networkOf}
+use Rattle.calls.specs.Questions.{endsFit, timesFit, noTripsWithin, totalFits, tableHolds, budgetFits, shareFits}
 use Rattle.calls.specs.Laws.Questions.{Described}
+use Rattle.calls.specs.Laws.Commodities.{commodity-node}
 
 not-equal : (a b : ℕ) → not (eqb a b) ≡ true → a ≡ b → ⊥
 not-equal a b e = eqb-false a b (not-true (eqb a b) e)
@@ -28,20 +31,58 @@ not-equal a b e = eqb-false a b (not-true (eqb a b) e)
 -- There is a row for each link.
 pub links-length : (file : List ℕ) → length (linkRows file) ≡ links file
 unfolding linkRows
-links-length file = length-tabulate (links file) (linkRow (linkPart file) (linkSize file) (closedPart file))
+links-length file = length-tabulate (links file) (linkRow (linkPart file) (linkSize file) (closedPart file) (barredPart file))
 
--- The last column of a link's row tells the closed byte of its head and its power, each as a byte.
-pub closed-head : (file : List ℕ) (l : ℕ) → l < length (linkRows file) → closed (linkRows file) l ≡ asByte (closedByte (closedPart file) (head (linkRows file) l))
-unfolding linkRows linkRow
-closed-head file l below =
-    rw (getD-tabulate (links file) (linkRow (linkPart file) (linkSize file) (closedPart file)) [] l (omega (arith, links-length file)))
-    (omega arith)
+-- A mark is 1 exactly where its byte is.
+pub mark-exactly : (x : ℕ) → (asMark x ≡ 1) ↔ (x ≡ 1)
+mark-exactly x = (λ e. on-equal x 1 (λ same. same) (λ other. absurd (omega (arith, rw (ne-eqb x 1 other) at e))), λ e. rw (eq-eqb x 1 e))
 
-pub power-read : (file : List ℕ) (l : ℕ) → l < length (linkRows file) → power (linkRows file) l ≡ asByte (powerOf (linkPart file) (linkSize file) l)
-unfolding linkRows linkRow
-power-read file l below =
-    rw (getD-tabulate (links file) (linkRow (linkPart file) (linkSize file) (closedPart file)) [] l (omega (arith, links-length file)))
-    (omega arith)
+pub mark-most : (x : ℕ) → asMark x ≤ 1
+mark-most x = on-equal x 1 (λ e. rw (eq-eqb x 1 e) (omega arith)) (λ e. rw (ne-eqb x 1 e) (omega arith))
+
+-- The parts of a number that has a power and two marks.
+module _ (q b c : ℕ) (b-mark : b ≤ 1) (c-mark : c ≤ 1) where
+  closed-part : (256 * q + 2 * b + c) % 2 ≡ c
+  closed-part = omega arith
+
+  barred-part : (256 * q + 2 * b + c) / 2 % 2 ≡ b
+  barred-part = omega arith
+
+  power-part : (256 * q + 2 * b + c) / 256 ≡ q
+  power-part = omega arith
+
+-- The last column of a link's row tells the closed byte of its head and its barred byte, each as a mark, and its power as a byte.
+module _ (file : List ℕ) (l : ℕ) (below : l < length (linkRows file)) where
+  abbrev row : List ℕ
+  row = linkRow (linkPart file) (linkSize file) (closedPart file) (barredPart file) l
+
+  row-is : getD (linkRows file) l [] ≡ row
+  unfolding linkRows
+  row-is = getD-tabulate (links file) (linkRow (linkPart file) (linkSize file) (closedPart file) (barredPart file)) [] l (omega (arith, links-length file))
+
+  abbrev shut : ℕ
+  shut = asMark (markByte (closedPart file) (headOf (linkPart file) (linkSize file) l))
+
+  abbrev bar : ℕ
+  bar = asMark (markByte (barredPart file) l)
+
+  abbrev q : ℕ
+  q = asByte (powerOf (linkPart file) (linkSize file) l)
+
+  pub barred-link : barred (linkRows file) l ≡ asMark (markByte (barredPart file) l)
+  unfolding linkRow
+  barred-link = ap (λ xs. getD xs 5 0 / 2 % 2) row-is ∙ barred-part q bar shut (mark-most (markByte (barredPart file) l)) (mark-most (markByte (closedPart file) (headOf (linkPart file) (linkSize file) l)))
+
+  pub closed-head : closed (linkRows file) l ≡ asMark (markByte (closedPart file) (head (linkRows file) l))
+  unfolding linkRow
+  closed-head =
+      ap (λ xs. getD xs 5 0 % 2) row-is
+      ∙ closed-part q bar shut (mark-most (markByte (barredPart file) l)) (mark-most (markByte (closedPart file) (headOf (linkPart file) (linkSize file) l)))
+      ∙ ap (λ xs. asMark (markByte (closedPart file) (getD xs 1 0))) (sym row-is)
+
+  pub power-read : power (linkRows file) l ≡ asByte (powerOf (linkPart file) (linkSize file) l)
+  unfolding linkRow
+  power-read = ap (λ xs. getD xs 5 0 / 256) row-is ∙ power-part q bar shut (mark-most (markByte (barredPart file) l)) (mark-most (markByte (closedPart file) (headOf (linkPart file) (linkSize file) l)))
 
 -- In versions whose links have fewer than 12 bytes it is 4.
 pub fourth-powers : (file : List ℕ) → linkSize file < 12 → AllFourth (linkRows file)
@@ -121,16 +162,8 @@ module _ (file : List ℕ) (h : Described file) where
   ends-fit l p = ends-of _ _ _ (all-elim (networkOf file .links) _ (h .ends) l p)
 
   pub destination-node : (k : ℕ) → k < networkOf file .commodities → networkOf file .destination k < networkOf file .nodes
-  unfolding destinationsFit
-  destination-node k p =
-      let g = networkOf file in
-      ltb-true _ _
-      (all-elim (g .commodities) (λ i. ltb (g .destination i) (g .nodes))
-      (and-left (all (g .commodities) (λ i. ltb (g .destination i) (g .nodes)))
-      (all (g .commodities - 1) (λ i. ltb (g .destination i) (g .destination (i + 1))))
-      (h .ascending))
-      k
-      p)
+  unfolding networkOf network
+  destination-node = commodity-node file h
 
   -- Question 9: no trips begin at their destination.
   pub no-trips-within : (k : ℕ) → k < networkOf file .commodities → networkOf file .trips k (networkOf file .destination k) ≡ 0

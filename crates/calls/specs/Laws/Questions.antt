@@ -6,24 +6,25 @@ use mathlib.Core.Bool.{Bool, true, false, _&&_, cond}
 use mathlib.Core.List.{List, [], _∷_, _++_}
 use lib.Dec.{eqb}
 use borrow.Author.Tests.{eqb-false}
-use Rattle.study.specs.Sections.{nodes, closedPart}
+use Rattle.study.specs.Sections.{nodes, closedPart, barredPart}
 use Rattle.study.specs.Questions.{Question, firstNo, opening, refusal}
 use Rattle.study.specs.Laws.{numbered, numbered-append, firstNo-append, firstNo-both, all-yes, no-refusal, AllYes, opening-both, after-opening, opening-numbered}
 use Rattle.theory.specs.Flows.{totalsFit, conserves, permits}
 use Rattle.theory.specs.Moves.{Shared}
 use Rattle.theory.specs.Notes.{noteLeads, canTakeBack}
-use Rattle.calls.specs.Study.{linkRows, destinationNodes, tripEntries, networkOf}
-use Rattle.calls.specs.Questions.{endsFit, timesFit, destinationsFit, closedFit, noTripsWithin, totalFits, tripsReach, tableHolds, noteHolds, budgetFits, shareFits, outputHolds, pageHolds}
+use Rattle.calls.specs.Study.{linkRows, destinationNodes, commodities, tripEntries, networkOf}
+use Rattle.calls.specs.Questions.{endsFit, timesFit, destinationsFit, marksFit, noTripsWithin, totalFits, tripsReach, tableHolds, noteHolds, budgetFits, shareFits, outputHolds, pageHolds}
 use Rattle.calls.specs.Questions.{ask, studyQuestions, shareQuestions, checkQuestions, packQuestions, startQuestions, runQuestions, tableQuestions, pageQuestions, noteQuestions, passQuestions, takeBackQuestions}
 use Rattle.calls.specs.Calls.{checkNumber, packNumber, startNumber, runNumber, tableNumber, pageNumber, passNumber, takeBackNumber}
 
--- A study that passes questions 1 to 10, 19 among them.
+-- A study that passes questions 1 to 10, 19 and 23 among them.
 pub record Described (file : List ℕ) : Type 0 where
   pub opened : refusal file ≡ 0
   pub ends : endsFit (networkOf file) ≡ true
   pub fields : timesFit (linkRows file) ≡ true
-  pub ascending : destinationsFit (networkOf file) ≡ true
-  pub closed-fit : closedFit (closedPart file) ≡ true
+  pub ascending : destinationsFit (nodes file) (destinationNodes file) ≡ true
+  pub closed-fit : marksFit (closedPart file) ≡ true
+  pub barred-fit : marksFit (barredPart file) ≡ true
   pub none-within : noTripsWithin (networkOf file) ≡ true
   pub few : totalFits (networkOf file) ≡ true
 
@@ -39,9 +40,10 @@ pub record SharePassed (file table : List ℕ) (share : ℕ) : Type 0 where
   pub conserving : conserves (networkOf file) share table ≡ true
   pub permitting : permits (networkOf file) table ≡ true
 
--- Questions 6 to 11 of a file, with 19.
+-- Questions 6 to 11 of a file, with 19 and 23.
 abbrev questionsOf : List ℕ → List Question
-questionsOf file = studyQuestions (nodes file) (linkRows file) (destinationNodes file) (closedPart file) (tripEntries file)
+questionsOf file =
+    studyQuestions (nodes file) (linkRows file) (destinationNodes file) (closedPart file) (barredPart file) (commodities file) (tripEntries file)
 
 check-numbered : (file : List ℕ) → numbered (checkQuestions file) ≡ true
 unfolding checkQuestions studyQuestions
@@ -71,10 +73,11 @@ check-passed file e =
             fields = yes′ .1 .0;
             ascending = yes′ .1 .1 .0;
             closed-fit = yes′ .1 .1 .1 .0;
-            none-within = yes′ .1 .1 .1 .1 .0;
-            few = yes′ .1 .1 .1 .1 .1 .0;
+            barred-fit = yes′ .1 .1 .1 .1 .0;
+            none-within = yes′ .1 .1 .1 .1 .1 .0;
+            few = yes′ .1 .1 .1 .1 .1 .1 .0;
           };
-      reaching = yes′ .1 .1 .1 .1 .1 .1 .0;
+      reaching = yes′ .1 .1 .1 .1 .1 .1 .1 .0;
     }
 
 -- Of a study that passes questions 1 to 10, check's number is 0 or 11, by question 11 alone.
@@ -82,7 +85,7 @@ pub described-check : (file : List ℕ) → Described file → checkNumber file 
 unfolding checkNumber checkQuestions studyQuestions networkOf
 described-check file h =
     rw (after-opening file (questionsOf file), h .opened)
-    (rw (h .ends, h .fields, h .ascending, h .closed-fit, h .none-within, h .few))
+    (rw (h .ends, h .fields, h .ascending, h .closed-fit, h .barred-fit, h .none-within, h .few))
 
 pub passed-check : (file : List ℕ) → Passed file → checkNumber file ≡ 0
 passed-check file h = rw (described-check file (h .described), h .reaching)

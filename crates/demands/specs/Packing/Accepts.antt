@@ -1,14 +1,15 @@
 -- Questions 1 to 5 the other way round: what they ask, as facts about the numbers of a file, is enough for the file to be accepted.
-use Prim.Native.Nat.{ℕ, _≤_}
+use Prim.Native.Nat.{ℕ, _+_, _≤_}
 use mathlib.Core.Path.{_≡_}
 use mathlib.Core.Bool.{true}
 use mathlib.Core.List.{List}
+use lib.Dec.{leb}
 use lib.ListN.{length}
 use borrow.Author.Tests.{le-leb, eq-eqb}
-use Rattle.study.specs.Header.{version}
-use Rattle.study.specs.Versions.{versions}
-use Rattle.study.specs.Questions.{lengthFits, versionKnown, countsFit, sectionsApart, sectionsInOrder, sizesFit, opening, refusal}
-use Rattle.study.specs.Laws.{Known, CountsFit, InOrder, SizesFit, no-refusal}
+use Rattle.study.specs.Header.{version, offset}
+use Rattle.study.specs.Versions.{versions, formOf}
+use Rattle.study.specs.Questions.{lengthFits, versionKnown, countsFit, sectionEnd, sectionsApart, sectionsInOrder, sizesFit, opening, refusal}
+use Rattle.study.specs.Laws.{Known, CountsFit, InOrder, SizesFit, each-intro, no-refusal}
 
 module _ (file : List ℕ) where
   length-yes : 32 ≤ length file → length file ≤ 65536 → lengthFits file ≡ true
@@ -38,15 +39,12 @@ module _ (file : List ℕ) where
       rw (
         le-leb _ _ (o .header),
         le-leb _ _ (o .first),
-        le-leb _ _ (o .links),
-        le-leb _ _ (o .destinations),
-        le-leb _ _ (o .trips),
-        le-leb _ _ (o .closed),
+        each-intro (formOf (version file) .sections) (λ section. leb (sectionEnd file section) (offset file (section + 1))) (λ section h. le-leb _ _ (o .apart section h)),
       )
 
   sizes-yes : SizesFit file → sizesFit file ≡ true
   unfolding sizesFit
-  sizes-yes s = rw (eq-eqb _ _ (s .links), eq-eqb _ _ (s .destinations), eq-eqb _ _ (s .trips), eq-eqb _ _ (s .closed))
+  sizes-yes s = each-intro (formOf (version file) .sections) _ (λ section h. eq-eqb _ _ (s .each-size section h))
 
   pub accepts : 32 ≤ length file → length file ≤ 65536 → Known (version file) → CountsFit file → InOrder file → SizesFit file → refusal file ≡ 0
   unfolding refusal opening

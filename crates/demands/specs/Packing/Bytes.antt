@@ -1,11 +1,14 @@
--- Numbers written as bytes and read back, wherever they stand in a list of bytes.
-use Prim.Native.Nat.{ℕ, _+_, _/_, _%_, _<_, _^_}
+-- Numbers written as bytes and read back, wherever they stand in a list of bytes, and parts of such a list.
+use Prim.Native.Nat.{ℕ, zero, suc, _+_, _/_, _%_, _<_, _^_}
 use native.Mathlib.Omega.{arith}
-use mathlib.Core.Path.{_≡_, refl}
-use mathlib.Core.List.{List, _++_, append-assoc}
+use mathlib.Core.Path.{_≡_, sym, _∙_, ap}
+use mathlib.Core.List.{List, [], _++_, append-assoc, append-nil}
+use mathlib.Core.Logic.{⊎-elim}
 use lib.ListN.{length, take, drop, length-append}
 use lib.Seq.{getD-append-seam, getD-append-add, take-append-seam, drop-append-seam}
 use Rattle.study.specs.Bytes.{u16, u32}
+use Rattle.theory.specs.Finite.{rows}
+use Rattle.theory.specs.Laws.Finite.{below-suc}
 use Rattle.calls.specs.Pack.{bytes16, bytes32}
 use Rattle.calls.specs.Laws.Pack.{length16}
 
@@ -34,3 +37,13 @@ u32-at front x after h = omega (arith, low, high)
 -- A part that stands between two others is what is found at its place, of its length.
 pub part-at : (front middle after : List ℕ) → take (length middle) (drop (length front) (front ++ middle ++ after)) ≡ middle
 part-at front middle after = rw (append-assoc, drop-append-seam, take-append-seam)
+
+-- One of several rows, one after the other, stands after the rows before it.
+pub rows-split : (count : ℕ) (row : ℕ → List ℕ) (k : ℕ) → k < count → (later : List ℕ) × (rows count row ≡ rows k row ++ row k ++ later)
+unfolding rows
+rows-split zero row k h = absurd (omega arith)
+rows-split (suc count) row k h =
+    ⊎-elim
+    (λ below. let (later, split) = rows-split count row k below in (later ++ row count, ap (λ list. list ++ row count) split ∙ append-assoc (rows k row ++ row k) later (row count)))
+    (λ here. ([], rw here (sym (append-nil (rows count row ++ row count)))))
+    (below-suc count k h)

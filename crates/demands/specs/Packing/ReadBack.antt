@@ -1,167 +1,132 @@
 -- What the file layer answers of a packed file, with any later bytes: it accepts it, and its counts and parts are those of the file that
 -- was packed.
-use Prim.Native.Nat.{ℕ, _+_, _*_, _≤_}
+use Prim.Native.Nat.{ℕ, zero, suc, _+_, _≤_, _<_}
 use native.Mathlib.Omega.{arith}
-use mathlib.Core.Path.{_≡_, refl, sym, _∙_, ap}
-use mathlib.Core.Bool.{Bool, true, false, cond}
+use native.Mathlib.Numerals.{add-one}
+use mathlib.Core.Path.{_≡_, sym, _∙_, ap}
 use mathlib.Core.List.{List, _++_, append-assoc}
-use lib.Dec.{ltb}
+use mathlib.Core.Logic.{⊎-elim}
 use lib.ListN.{length, length-append}
-use Rattle.study.specs.Versions.{formOf}
-use Rattle.study.specs.Header.{version, hasSection, offset, size}
-use Rattle.study.specs.Questions.{opening, refusal}
-use Rattle.study.specs.Sections.{nodes, links, destinations, part, linkPart, destinationPart, tripPart, closedPart}
-use Rattle.study.specs.Laws.{Known, CountsFit, InOrder, SizesFit, all-yes, opening-numbered, sizes-fit, in-order, accepted}
-use Rattle.study.specs.Laws.{nodes-field, links-field, destinations-field, closed-field-is, part-accepted, link-length, destination-length, trip-length, closed-length, closed-count, no-closed}
+use Rattle.study.specs.Versions.{formOf, sectionSize}
+use Rattle.study.specs.Header.{version, offset, size}
+use Rattle.study.specs.Questions.{sectionEnd, opening, refusal}
+use Rattle.study.specs.Sections.{nodes, links, destinations, part}
+use Rattle.study.specs.Laws.{Known, CountsFit, InOrder, SizesFit, all-yes, opening-numbered, sizes-fit, in-order, accepted, section-missing, offset-past}
+use Rattle.study.specs.Laws.{nodes-field, links-field, destinations-field, part-accepted, part-length, no-section}
+use Rattle.theory.specs.Finite.{sum, rows}
+use Rattle.theory.specs.Laws.Finite.{order}
 use Rattle.calls.specs.Questions.{packedSize}
-use Rattle.calls.specs.Pack.{packedHeader, packed}
-use Rattle.demands.specs.Packing.Bytes.{part-at}
-use Rattle.calls.specs.Laws.Pack.{header-length}
-use Rattle.theory.specs.Laws.Cases.{on-test}
+use Rattle.calls.specs.Pack.{sectionPlace, packedHeader, packed}
+use Rattle.calls.specs.Laws.Pack.{place-first, place-more, place-end, study-long, packed-length}
+use Rattle.demands.specs.Packing.Bytes.{part-at, rows-split}
 use Rattle.demands.specs.Packing.Header.{Header, header-reads}
 use Rattle.demands.specs.Packing.Accepts.{accepts}
 
--- The bytes of the packed file before each section, and their number.
+-- The header of a packed file, and where a section begins in it.
 abbrev header : List ℕ → List ℕ
 header file = packedHeader (version file) (nodes file) (links file) (destinations file)
 
-module _ (file : List ℕ) (known : Known (version file)) where
-  -- The version's header, and its bytes a link times the links.
-  abbrev headerBytes : ℕ
-  headerBytes = formOf (version file) .header
-
-  abbrev linkBytes : ℕ
-  linkBytes = formOf (version file) .link * links file
-
-  before-links : length (header file) ≡ headerBytes
-  before-links = header-length (version file) (nodes file) (links file) (destinations file) (known .least) (known .most)
-
-  links-long : length (linkPart file) ≡ linkBytes
-  links-long = link-length file
-
-  before-destinations : length (header file ++ linkPart file) ≡ headerBytes + linkBytes
-  before-destinations = rw (length-append, before-links, links-long)
-
-  before-trips : length (header file ++ linkPart file ++ destinationPart file) ≡ headerBytes + linkBytes + 2 * destinations file
-  before-trips = rw (length-append, before-destinations, destination-length)
-
-  before-closed : length (header file ++ linkPart file ++ destinationPart file ++ tripPart file) ≡ headerBytes + linkBytes + 2 * destinations file + 2 * destinations file * nodes file
-  before-closed = rw (length-append, before-trips, trip-length)
-
-  -- The packed file has the packed size.
-  pub packed-length : length (packed file) ≡ packedSize file
-  unfolding packed packedSize
-  packed-length = rw (length-append, before-closed, closed-length)
+abbrev place : List ℕ → ℕ → ℕ
+place file section = sectionPlace (version file) (nodes file) (links file) (destinations file) section
 
 -- The sections of an accepted file stand one after the other within the file, so packing never makes it longer.
 pub packed-shorter : (file : List ℕ) → refusal file ≡ 0 → packedSize file ≤ length file
-unfolding packedSize opening refusal
+unfolding sectionPlace sum opening refusal
 packed-shorter file e =
-    let sizes = sizes-fit file (all-yes (opening file) (opening-numbered file) e .1 .1 .1 .1 .0) in
-    let order = in-order file e in
-    rw (nodes-field file e, links-field file e, destinations-field file e, closed-field-is file e) (omega arith)
+    omega (arith, place-end file, before (formOf (version file) .sections) (omega arith), offset-past file (formOf (version file) .sections) (omega arith))
+  where
+    fits : SizesFit file
+    fits = sizes-fit file (all-yes (opening file) (opening-numbered file) e .1 .1 .1 .1 .0)
 
--- The closed bytes, if there are any, come after a place and end within the file.
-closed-within : (t : Bool) (place n end more : ℕ) → end ≡ place + cond t n 0 + more → (place ≤ cond t place end) × (cond t place end + cond t n 0 ≤ end)
-closed-within true place n end more e = (omega arith, omega arith)
-closed-within false place n end more e = (omega arith, omega arith)
+    sized : (section : ℕ) → section < formOf (version file) .sections → size file section ≡ sectionSize (version file) (nodes file) (links file) (destinations file) section
+    sized section h = fits .each-size section h ∙ rw (nodes-field file e, links-field file e, destinations-field file e)
+
+    before : (section : ℕ) → section ≤ formOf (version file) .sections → place file section ≤ offset file section
+    before zero h = omega (arith, in-order file e .first)
+    before (suc section) h =
+        let next : offset file (section + 1) ≡ offset file (suc section) = ap (offset file) (add-one section) in
+        omega (arith, before section (omega arith), in-order file e .apart section (omega arith), sized section (omega arith))
 
 module _ (file rest : List ℕ) (e : refusal file ≡ 0) (fits : length (packed file ++ rest) ≤ 65536) where
+  abbrev whole : List ℕ
+  whole = packed file ++ rest
+
   known : Known (version file)
   known = accepted file e .version-known
 
-  reads : Header (version file) (nodes file) (links file) (destinations file) (packed file ++ rest)
+  reads : Header (version file) (nodes file) (links file) (destinations file) whole
   unfolding packed
   reads =
       let limits = accepted file e in
       simp append-assoc (header-reads _ _ _ _ _ known (limits .nodes-most) (limits .links-most) (limits .destinations-most))
 
-  pub packed-version : version (packed file ++ rest) ≡ version file
+  pub packed-version : version whole ≡ version file
   packed-version = reads .version-field
 
-  whole-length : length (packed file ++ rest) ≡ packedSize file + length rest
+  same-sections : formOf (version whole) .sections ≡ formOf (version file) .sections
+  same-sections = ap (λ v. formOf v .sections) packed-version
+
+  whole-length : length whole ≡ packedSize file + length rest
   whole-length = rw (length-append, packed-length file known)
 
-  packed-in-order : InOrder (packed file ++ rest)
+  -- Each section ends where the next one begins, and the last at the packed size.
+  apart : (section : ℕ) → section < formOf (version file) .sections → sectionEnd whole section ≤ offset whole (section + 1)
+  apart section h =
+      let next = place-more (version file) (nodes file) (links file) (destinations file) section (reads .section-offset section h) (reads .section-size section h) in
+      ⊎-elim (λ more. omega (arith, next, reads .section-offset (section + 1) more))
+      (λ last.
+      let is-last : section + 1 ≡ formOf (version file) .sections = omega arith in
+      omega (arith, next, ap (place file) is-last, place-end file, whole-length, offset-past whole (section + 1) (omega (arith, same-sections))))
+      (order (section + 1) (formOf (version file) .sections))
+
+  packed-in-order : InOrder whole
   unfolding packedSize
   packed-in-order =
-      let r = reads in
-      let header-is : formOf (version (packed file ++ rest)) .header ≡ headerBytes file known = ap (λ v. formOf v .header) packed-version in
-      let place = headerBytes file known + linkBytes file known + 2 * destinations file + 2 * destinations file * nodes file in
-      let apart = closed-within (ltb 3 (formOf (version file) .sections)) place (nodes file) (length (packed file ++ rest)) (length rest) (omega (arith, whole-length, closed-count file)) in
+      let header-is : formOf (version whole) .header ≡ formOf (version file) .header = ap (λ v. formOf v .header) packed-version in
+      let first = place-first (version file) (nodes file) (links file) (destinations file) in
       record {
         header = omega (arith, whole-length);
-        first = omega arith;
-        links = omega arith;
-        destinations = omega arith;
-        trips = omega arith;
-        closed = omega arith;
+        first = omega (arith, reads .section-offset 0 (omega (arith, known .some-sections)));
+        apart = λ section h. apart section (omega (arith, same-sections));
       }
 
   -- Questions 1 to 5 pass.
-  pub packed-accepted : refusal (packed file ++ rest) ≡ 0
-  unfolding packedSize
+  pub packed-accepted : refusal whole ≡ 0
   packed-accepted =
       let limits = accepted file e in
       let r = reads in
       let order = packed-in-order in
-      let counts : CountsFit (packed file ++ rest) = omega arith in
-      let sizes : SizesFit (packed file ++ rest) =
-      record {
-        links = rw (r .version-field, r .link-field) (r .link-size);
-        destinations = omega arith;
-        trips = rw (r .node-field, r .destination-field) (r .trip-size);
-        closed = r .closed-size ∙ sym (r .closed-field);
-      } in
-      accepts (packed file ++ rest) (omega (arith, whole-length, known .pairs, known .some-sections)) fits (rw (r .version-field) known) counts order sizes
+      let counts : CountsFit whole = omega arith in
+      let sizes : SizesFit whole =
+      record { each-size = λ section h. r .section-size section (omega (arith, same-sections)) ∙ rw (r .version-field, r .node-field, r .link-field, r .destination-field) } in
+      let header-there = rw (r .version-field) at (order .header) in
+      accepts whole (omega (arith, header-there, known .pairs, known .some-sections)) fits (rw (r .version-field) known) counts order sizes
 
-  pub packed-nodes : nodes (packed file ++ rest) ≡ nodes file
-  packed-nodes = nodes-field (packed file ++ rest) packed-accepted ∙ reads .node-field
+  pub packed-nodes : nodes whole ≡ nodes file
+  packed-nodes = nodes-field whole packed-accepted ∙ reads .node-field
 
-  pub packed-links : links (packed file ++ rest) ≡ links file
-  packed-links = links-field (packed file ++ rest) packed-accepted ∙ reads .link-field
+  pub packed-links : links whole ≡ links file
+  packed-links = links-field whole packed-accepted ∙ reads .link-field
 
-  pub packed-destinations : destinations (packed file ++ rest) ≡ destinations file
-  packed-destinations = destinations-field (packed file ++ rest) packed-accepted ∙ reads .destination-field
+  pub packed-destinations : destinations whole ≡ destinations file
+  packed-destinations = destinations-field whole packed-accepted ∙ reads .destination-field
 
-  -- A section that stands where the header says, of the length that it says, is the part that is handed back.
-  section-reads : (section : ℕ) (front middle after : List ℕ) → packed file ++ rest ≡ front ++ middle ++ after → offset (packed file ++ rest) section ≡ length front → size (packed file ++ rest) section ≡ length middle → part (packed file ++ rest) section ≡ middle
-  section-reads section front middle after split place long =
-      rw (part-accepted (packed file ++ rest) packed-accepted section, place, long, split) (part-at front middle after)
-
-  pub packed-link-part : linkPart (packed file ++ rest) ≡ linkPart file
+  -- A section stands where the header says, of the length that it says, after the header and the sections before it. One that the version does
+  -- not have is empty in both files.
+  pub packed-part : (section : ℕ) → part whole section ≡ part file section
   unfolding packed
-  packed-link-part =
-      let r = reads in
-      section-reads 0 (header file) (linkPart file) (destinationPart file ++ (tripPart file ++ (closedPart file ++ rest))) (simp append-assoc)
-      (omega (arith, before-links file known))
-      (omega (arith, links-long file known))
-
-  pub packed-destination-part : destinationPart (packed file ++ rest) ≡ destinationPart file
-  unfolding packed
-  packed-destination-part =
-      let r = reads in
-      section-reads 1 (header file ++ linkPart file) (destinationPart file) (tripPart file ++ (closedPart file ++ rest)) (simp append-assoc)
-      (omega (arith, before-destinations file known))
-      (omega (arith, destination-length file))
-
-  pub packed-trip-part : tripPart (packed file ++ rest) ≡ tripPart file
-  unfolding packed
-  packed-trip-part =
-      let r = reads in
-      section-reads 2 (header file ++ linkPart file ++ destinationPart file) (tripPart file) (closedPart file ++ rest) (simp append-assoc)
-      (omega (arith, before-trips file known))
-      (omega (arith, trip-length file))
-
-  pub packed-closed-part : closedPart (packed file ++ rest) ≡ closedPart file
-  unfolding packed hasSection
-  packed-closed-part = on-test (ltb 3 (formOf (version file) .sections)) there none
+  packed-part section = ⊎-elim there none (order section (formOf (version file) .sections))
     where
-      there : ltb 3 (formOf (version file) .sections) ≡ true → closedPart (packed file ++ rest) ≡ closedPart file
-      there t =
-          section-reads 3 (header file ++ linkPart file ++ destinationPart file ++ tripPart file) (closedPart file) rest refl
-          (rw t at (reads .closed-offset) ∙ sym (before-closed file known))
-          (reads .closed-size ∙ sym (closed-length file ∙ closed-count file))
+      there : section < formOf (version file) .sections → part whole section ≡ part file section
+      there h =
+          let (later, split) = rows-split (formOf (version file) .sections) (part file) section h in
+          let front = header file ++ rows section (part file) in
+          let whole-is : whole ≡ front ++ part file section ++ (later ++ rest) = rw split (simp append-assoc) in
+          let at : offset whole section ≡ length front = reads .section-offset section h ∙ sym (study-long file known section) in
+          let long : size whole section ≡ length (part file section) = reads .section-size section h ∙ sym (part-length file section) in
+          rw (part-accepted whole packed-accepted section, at, long, whole-is) (part-at front (part file section) (later ++ rest))
 
-      none : ltb 3 (formOf (version file) .sections) ≡ false → closedPart (packed file ++ rest) ≡ closedPart file
-      none t = no-closed (packed file ++ rest) (ap (λ v. ltb 3 (formOf v .sections)) packed-version ∙ t) ∙ sym (no-closed file t)
+      none : formOf (version file) .sections ≤ section → part whole section ≡ part file section
+      none h =
+          no-section whole section (section-missing whole section (omega (arith, same-sections)))
+          ∙ sym (no-section file section (section-missing file section h))

@@ -1,32 +1,29 @@
 -- Two files that the file layer answers alike describe one study: every field, the network and every call's answer are the same.
 use Prim.Native.Nat.{ℕ, zero, suc}
-use mathlib.Core.Path.{_≡_, refl, sym, _∙_, ap}
+use mathlib.Core.Path.{_≡_, refl, ap}
 use mathlib.Core.List.{List}
-use lib.ListN.{length}
 use Rattle.study.specs.Versions.{formOf}
-use Rattle.study.specs.Header.{version}
+use Rattle.study.specs.Header.{version, hasSection}
 use Rattle.study.specs.Questions.{refusal}
-use Rattle.study.specs.Sections.{nodes, links, destinations, closedCount, linkSize, linkPart, destinationPart, tripPart, closedPart}
+use Rattle.study.specs.Sections.{nodes, links, destinations, lorryDestinations, linkSize, part, linkPart, destinationPart, tripPart, lorryPart}
 use Rattle.study.specs.Fields.{destination, trips}
-use Rattle.study.specs.Laws.{after-opening, closed-length}
-use Rattle.calls.specs.Study.{linkRows, destinationNodes, tripEntries, networkOf}
+use Rattle.study.specs.Laws.{after-opening}
+use Rattle.theory.specs.Laws.Finite.{rows-cong}
+use Rattle.calls.specs.Study.{linkRows, destinationNodes, commodities, tripEntries, networkOf}
 use Rattle.calls.specs.Questions.{packedSize, outputHolds, checkQuestions}
 use Rattle.calls.specs.Pack.{packed}
 use Rattle.calls.specs.Laws.Questions.{pack-number, start-number, table-number, pass-number, take-back-number, run-number}
 use Rattle.calls.specs.Calls.{checkNumber, packNumber, packOutput, startNumber, startTable, tableNumber, auditAnswer, runNumber, runAnswer, runTable}
 use Rattle.calls.specs.Calls.{passNumber, passAnswer, passTable, passNote, takeBackNumber, takeBackAnswer, takeBackTable}
 
--- The file layer answers the same of both files: the refusal of questions 1 to 5, the version, n, m and p, and the parts.
+-- The file layer answers the same of both files: the refusal of questions 1 to 5, the version, n, m and p, and the part of every section.
 pub record SameStudy (a b : List ℕ) : Type 0 where
   pub same-refusal : refusal a ≡ refusal b
   pub same-version : version a ≡ version b
   pub same-nodes : nodes a ≡ nodes b
   pub same-links : links a ≡ links b
   pub same-destinations : destinations a ≡ destinations b
-  pub same-link-part : linkPart a ≡ linkPart b
-  pub same-destination-part : destinationPart a ≡ destinationPart b
-  pub same-trip-part : tripPart a ≡ tripPart b
-  pub same-closed-part : closedPart a ≡ closedPart b
+  pub same-part : (section : ℕ) → part a section ≡ part b section
 
 module _ {a b : List ℕ} (same : SameStudy a b) where
   same-link-size : linkSize a ≡ linkSize b
@@ -34,29 +31,40 @@ module _ {a b : List ℕ} (same : SameStudy a b) where
 
   -- tail, head, freeTime, rise, capacity and power of a link
   pub same-link-field : (field : List ℕ → ℕ → ℕ → ℕ) (link : ℕ) → field (linkPart a) (linkSize a) link ≡ field (linkPart b) (linkSize b) link
-  same-link-field field link = rw (same-link-size, same .same-link-part)
+  same-link-field field link = rw (same-link-size, same .same-part 0)
 
   pub same-destination : (k : ℕ) → destination (destinationPart a) k ≡ destination (destinationPart b) k
-  same-destination k = rw (same .same-destination-part)
+  same-destination k = rw (same .same-part 1)
 
   pub same-trips : (k node : ℕ) → trips (tripPart a) (nodes a) k node ≡ trips (tripPart b) (nodes b) k node
-  same-trips k node = rw (same .same-trip-part, same .same-nodes)
+  same-trips k node = rw (same .same-part 2, same .same-nodes)
+
+  pub same-lorry-trips : (k node : ℕ) → trips (lorryPart a) (nodes a) k node ≡ trips (lorryPart b) (nodes b) k node
+  same-lorry-trips k node = rw (same .same-part 4, same .same-nodes)
+
+  pub same-lorry-destinations : lorryDestinations a ≡ lorryDestinations b
+  unfolding lorryDestinations hasSection
+  same-lorry-destinations = rw (same .same-version, same .same-destinations)
 
   pub same-rows : linkRows a ≡ linkRows b
   unfolding linkRows
-  same-rows = rw (same-link-size, same .same-links, same .same-link-part, same .same-closed-part)
+  same-rows = rw (same-link-size, same .same-links, same .same-part 0, same .same-part 3, same .same-part 5)
 
   pub same-destination-nodes : destinationNodes a ≡ destinationNodes b
   unfolding destinationNodes
-  same-destination-nodes = rw (same .same-destinations, same .same-destination-part)
+  same-destination-nodes = rw (same .same-destinations, same .same-part 1)
+
+  pub same-commodities : commodities a ≡ commodities b
+  unfolding commodities
+  same-commodities = rw (same-destination-nodes, same-lorry-destinations, same .same-part 1)
 
   pub same-entries : tripEntries a ≡ tripEntries b
   unfolding tripEntries
-  same-entries = rw (same .same-destinations, same .same-nodes, same .same-trip-part)
+  same-entries = rw (same .same-destinations, same-lorry-destinations, same .same-nodes, same .same-part 2, same .same-part 4)
 
   pub same-network : networkOf a ≡ networkOf b
   unfolding networkOf
-  same-network = rw (same .same-nodes, same-rows, same-destination-nodes, same-entries)
+  same-network = rw (same .same-nodes, same-rows, same-commodities, same-entries)
 
   pub same-packed : packed a ≡ packed b
   unfolding packed
@@ -66,24 +74,17 @@ module _ {a b : List ℕ} (same : SameStudy a b) where
         same .same-nodes,
         same .same-links,
         same .same-destinations,
-        same .same-link-part,
-        same .same-destination-part,
-        same .same-trip-part,
-        same .same-closed-part,
+        rows-cong (formOf (version b) .sections) (part a) (part b) (λ section h. same .same-part section),
       )
-
-  -- As many closed bytes, since the part has as many.
-  same-closed-count : closedCount a ≡ closedCount b
-  same-closed-count = sym (closed-length a) ∙ ap length (same .same-closed-part) ∙ closed-length b
 
   pub same-packed-size : packedSize a ≡ packedSize b
   unfolding packedSize
-  same-packed-size = rw (same .same-version, same .same-nodes, same .same-links, same .same-destinations, same-closed-count)
+  same-packed-size = rw (same .same-version, same .same-nodes, same .same-links, same .same-destinations)
 
   -- Every call answers the same, and leaves the same in lent memory.
   pub same-check : checkNumber a ≡ checkNumber b
   unfolding checkNumber checkQuestions
-  same-check = rw (after-opening a, after-opening b, same .same-refusal, same .same-nodes, same-rows, same-destination-nodes, same .same-closed-part, same-entries)
+  same-check = rw (after-opening a, after-opening b, same .same-refusal, same .same-nodes, same-rows, same-destination-nodes, same .same-part 3, same .same-part 5, same-commodities, same-entries)
 
   pub same-pack-number : (output : List ℕ) → packNumber a output ≡ packNumber b output
   unfolding outputHolds

@@ -3,18 +3,18 @@ use Prim.Native.Nat.{ℕ}
 use mathlib.Core.Path.{_≡_, refl}
 use mathlib.Core.List.{List, [], _∷_, _++_}
 use Rattle.study.specs.Bytes.{u16, u32}
-use Rattle.study.specs.Versions.{versions, formOf}
-use Rattle.study.specs.Header.{version, nodeField, linkField, destinationField, hasSection, offset, size, closedField}
-use Rattle.study.specs.Questions.{lengthFits, versionKnown, countsFit, sectionsApart, sectionsInOrder, sizesFit, opening, refusal}
-use Rattle.study.specs.Sections.{nodes, links, destinations, closedCount, part}
-use Rattle.study.specs.Fields.{tail, head, freeTime, rise, capacity, power, destination, trips, closedByte}
+use Rattle.study.specs.Versions.{versions, formOf, sectionSize}
+use Rattle.study.specs.Header.{version, nodeField, linkField, destinationField, hasSection, offset, size}
+use Rattle.study.specs.Questions.{lengthFits, versionKnown, countsFit, eachSection, sectionsApart, sectionsInOrder, sizesFit, opening, refusal}
+use Rattle.study.specs.Sections.{nodes, links, destinations, lorryDestinations, part}
+use Rattle.study.specs.Fields.{tail, head, freeTime, rise, capacity, power, destination, trips, markByte}
 use Rattle.theory.specs.Finite.{sum, all, tabulate, rows}
 use Rattle.theory.specs.Network.{totalTrips}
-use Rattle.theory.specs.Study.{mayUse, network}
+use Rattle.theory.specs.Study.{barredTo, mayUse, network}
 use Rattle.theory.specs.Routes.{leastOf, fromHead, round, rounds, distances}
-use Rattle.calls.specs.Study.{linkRow, linkRows, destinationNodes, tripEntries, networkOf}
-use Rattle.calls.specs.Questions.{endsFit, timesFit, destinationsFit, closedFit, noTripsWithin, totalFits, hasPath, tripsReach, packedSize, outputHolds, studyQuestions, checkQuestions, packQuestions}
-use Rattle.calls.specs.Pack.{bytes16, bytes32, packedHeader, packed}
+use Rattle.calls.specs.Study.{linkRow, linkRows, destinationNodes, commodities, tripEntries, networkOf}
+use Rattle.calls.specs.Questions.{endsFit, timesFit, destinationsFit, marksFit, noTripsWithin, totalFits, hasPath, tripsReach, packedSize, outputHolds, studyQuestions, checkQuestions, packQuestions}
+use Rattle.calls.specs.Pack.{bytes16, bytes32, sectionPlace, packedHeader, packed}
 use Rattle.calls.specs.Calls.{overwritten, packNumber, packOutput}
 use Rattle.calls.specs.Cases.{town}
 
@@ -43,7 +43,7 @@ pub record TownPacks : Type 0 where
   pub gapped-output : packOutput gappedTown gappedTown ≡ town ++ (7 ∷ 7 ∷ 2 ∷ 0 ∷ 0 ∷ 0 ∷ 7 ∷ [])
 
 pub town-packs : TownPacks
-unfolding town gappedTown u16 u32 versions formOf version nodeField linkField destinationField hasSection offset size closedField lengthFits versionKnown countsFit sectionsApart sectionsInOrder sizesFit opening refusal nodes links destinations closedCount part tail head freeTime rise capacity power destination trips closedByte sum all tabulate rows totalTrips leastOf fromHead round rounds distances linkRow linkRows destinationNodes tripEntries mayUse network networkOf endsFit timesFit destinationsFit closedFit noTripsWithin totalFits hasPath tripsReach packedSize outputHolds studyQuestions checkQuestions packQuestions bytes16 bytes32 packedHeader packed overwritten packNumber packOutput
+unfolding town gappedTown u16 u32 versions formOf version nodeField linkField destinationField hasSection offset size sectionSize lengthFits versionKnown countsFit eachSection sectionsApart sectionsInOrder sizesFit opening refusal nodes links destinations lorryDestinations part tail head freeTime rise capacity power destination trips markByte sum all tabulate rows totalTrips leastOf fromHead round rounds distances linkRow linkRows destinationNodes commodities tripEntries barredTo mayUse network networkOf endsFit timesFit destinationsFit marksFit noTripsWithin totalFits hasPath tripsReach packedSize outputHolds studyQuestions checkQuestions packQuestions bytes16 bytes32 sectionPlace packedHeader packed overwritten packNumber packOutput
 town-packs =
     record {
       town-accepted = refl;

@@ -12,7 +12,7 @@ use Rattle.theory.specs.Study.{freeTime, rise, capacity, power}
 use Rattle.calls.specs.Calls.{shareAfter}
 use Rattle.travel.specs.Links.{padded, listTime, totalOf}
 use Rattle.travel.specs.Laws.Padded.{padded-cong}
-use Rattle.judging.specs.Study.{Study, linkCount, destinationCount, Ready}
+use Rattle.judging.specs.Study.{Study, linkCount, commodityCount, Ready}
 use Rattle.moves.specs.Loading.{volumeRows, front}
 use Rattle.moves.specs.Moves.{canMove, moveAlong, totalAfter}
 use Rattle.judging.specs.Judged.{Known}
@@ -68,15 +68,15 @@ module _ {d : Study} (ready : Ready d) {share : ℕ} {times : List ℕ} {nexts v
 
   -- and the share too.
   abbrev y : List ℕ
-  y = volumeRows (d .nodes) (linkCount d) (destinationCount d) nexts volumes
+  y = volumeRows (d .nodes) (linkCount d) (commodityCount d) nexts volumes
 
   pub known-moved :
       (table : List ℕ) {j : ℕ} → canMove share j ≡ true → j ≡ 0 → {share′ : ℕ} {flows′ : List (List ℕ)} →
-      share′ ≡ shareAfter share (moveAlong (destinationCount d * linkCount d) share j y table) →
+      share′ ≡ shareAfter share (moveAlong (commodityCount d * linkCount d) share j y table) →
       flows′ ≡ movedTo (linkCount d) j flows →
       Known d share′ times nexts volumes flows′
   known-moved table {j} can none share-is flows-are =
       let few : j ≤ 0 = omega arith in
       let fits = leb-true (2 * share) 1024 (can-double share j few ∙ can) in
-      let is = doubles (destinationCount d * linkCount d) share j y table few fits in
+      let is = doubles (commodityCount d * linkCount d) share j y table few fits in
       rw (share-is ∙ sym (is .0)) (known-doubled few flows-are)

@@ -31,7 +31,7 @@ use Rattle.travel.specs.Ranges.{Within, ShareFits, TimesFit, MoveFits, mostFlow
 use Rattle.travel.specs.Laws.Padded.{length-padded, getD-padded, getD-padded-rest, padded-clear, zeros-clear}
 use Rattle.search.specs.Groups.{leastOver}
 use Rattle.judging.specs.declared.Step.{Step}
-use Rattle.judging.specs.Study.{Study, linkCount, destinationCount, networkIn, Ready, Judgeable, moveOf}
+use Rattle.judging.specs.Study.{Study, linkCount, commodityCount, networkIn, Ready, Judgeable, moveOf}
 use Rattle.moves.specs.Loading.{loadingAlong, volumeRows}
 use Rattle.moves.specs.Moves.{canMove, moveAlong, TotalsMovable, Movable}
 use Rattle.judging.specs.Noted.{noteBy, Notable}
@@ -39,6 +39,7 @@ use Rattle.judging.specs.Judged.{Lent, TotalsOf, Known, JudgedAt, GapFit
 use Rattle.judging.specs.Laws.Study.{holds-rows, links-fit}
 use Rattle.moves.specs.Laws.Moves.{moves-by}
 use Rattle.moves.specs.Laws.Totals.{movedTo, moved-totals}
+use Rattle.judging.specs.Laws.Classes.{few-commodities}
 use Rattle.judging.specs.Laws.Routes.{TimesIn, timed, served, loading-is, load-most, next-links}
 use Rattle.judging.specs.Laws.Least.{least-over}
 use Rattle.judging.specs.Laws.Noted.{note-by}
@@ -60,7 +61,7 @@ chosen-roads d share s y s′ y′ same-s same-y =
 -- Arrays that hold what judging computes can be lent for judging.
 pub known-lent :
     {d : Study} {share : ℕ} {times : List ℕ} {nexts volumes flows : List (List ℕ)} →
-    Ready d → Known d share times nexts volumes flows → Lent (linkCount d) times nexts volumes flows
+    Ready d → Known d share times nexts volumes flows → Lent d times nexts volumes flows
 known-lent {d} ready known =
     record {
       times-clear = rw (known .times-are) (padded-clear (linkCount d) _ (ready .few-links));
@@ -72,15 +73,15 @@ known-lent {d} ready known =
 
 -- So can new ones.
 pub zeros-lent :
-    (m : ℕ) {nexts volumes flows : List (List ℕ)} → length nexts ≡ 32 → length volumes ≡ 32 → length flows ≡ 2 → getD flows 1 [] ≡ replicate 512 0 →
-    Lent m (replicate 512 0) nexts volumes flows
-zeros-lent m nexts-long volumes-long flows-long none =
+    (d : Study) {nexts volumes flows : List (List ℕ)} → commodityCount d ≤ length nexts → commodityCount d ≤ length volumes → length flows ≡ 2 →
+    getD flows 1 [] ≡ replicate 512 0 → Lent d (replicate 512 0) nexts volumes flows
+zeros-lent d nexts-long volumes-long flows-long none =
     record {
-      times-clear = zeros-clear m;
+      times-clear = zeros-clear (linkCount d);
       nexts-long = nexts-long;
       volumes-long = volumes-long;
       flows-long = flows-long;
-      loads-clear = rw none (zeros-clear m);
+      loads-clear = rw none (zeros-clear (linkCount d));
     }
 
 -- Two rows of flows. Where one is written, the other stays.
@@ -110,8 +111,8 @@ module _ (flows : List (List ℕ)) (row : List ℕ) {flows′ : List (List ℕ)}
 
 -- Arrays in which the totals S are written anew can still be lent.
 pub totals-lent :
-    {m : ℕ} (row : List ℕ) {times : List ℕ} {nexts volumes flows flows′ : List (List ℕ)} → Lent m times nexts volumes flows →
-    flows′ ≡ set flows 0 row → Lent m times nexts volumes flows′
+    {d : Study} (row : List ℕ) {times : List ℕ} {nexts volumes flows flows′ : List (List ℕ)} → Lent d times nexts volumes flows →
+    flows′ ≡ set flows 0 row → Lent d times nexts volumes flows′
 totals-lent row {flows} lent e =
     let rows = totals-set flows row (lent .flows-long) e in
     record {
@@ -133,17 +134,17 @@ module _ {d : Study} {table : List ℕ} {share : ℕ} (judgeable : Judgeable d t
   pub share-fits : ShareFits share
   share-fits = record { some-share = judgeable .some-share; share-fits = judgeable .share-most }
 
-  pub holds : destinationCount d * linkCount d ≤ length table
+  pub holds : commodityCount d * linkCount d ≤ length table
   holds = holds-rows d table (judgeable .holds)
 
-  total-most : (l : ℕ) → l < linkCount d → linkTotal (destinationCount d) (linkCount d) table l ≤ share * 65535
+  total-most : (l : ℕ) → l < linkCount d → linkTotal (commodityCount d) (linkCount d) table l ≤ share * 65535
   unfolding network
   total-most l h =
       le-trans (totalsFit-all (networkIn d) share table (judgeable .totals-fit) l h) (mul-le-mul-left share (ready .few-trips))
 
   -- The totals S stand in an array.
-  module _ {totals : List ℕ} (totals-are : totals ≡ padded (linkCount d) (linkTotal (destinationCount d) (linkCount d) table)) where
-    total-at : (l : ℕ) → l < linkCount d → getD totals l 0 ≡ linkTotal (destinationCount d) (linkCount d) table l
+  module _ {totals : List ℕ} (totals-are : totals ≡ padded (linkCount d) (linkTotal (commodityCount d) (linkCount d) table)) where
+    total-at : (l : ℕ) → l < linkCount d → getD totals l 0 ≡ linkTotal (commodityCount d) (linkCount d) table l
     total-at l h = ap (λ xs. getD xs l 0) totals-are ∙ getD-padded (linkCount d) _ l h
 
     flows-within : Within (linkCount d) (share * 65535) totals
@@ -199,7 +200,7 @@ module _ {d : Study} {table : List ℕ} {share : ℕ} (judgeable : Judgeable d t
 
       -- The sum of D(j,s) × distance, as searches find it: W times that is at most the sum of t·S, and their difference is the gap.
       abbrev least′ : ℕ
-      least′ = leastOver (d .nodes) (d .links) (d .destinations) (d .trips) times′
+      least′ = leastOver (d .nodes) (d .links) (d .commodities) (d .trips) times′
 
       pub least-fits : share * least′ ≤ listProduct (linkCount d) times′ totals
       least-fits = rw (spent-is, least-over ready times-in) least-spent
@@ -222,7 +223,7 @@ module _ {d : Study} {table : List ℕ} {share : ℕ} (judgeable : Judgeable d t
     left-still = record { lent = known-lent ready c; totals-are = totals-are; known = λ e. true-false e refl }
 
     abbrev y : List ℕ
-    y = loadingAlong (d .nodes) (d .links) (destinationCount d) (d .trips) nexts
+    y = loadingAlong (d .nodes) (d .links) (commodityCount d) (d .trips) nexts
 
     t : TimesIn d times′ exact
     t = times-in totals-are (c .times-are) (c .times-fit)
@@ -230,12 +231,12 @@ module _ {d : Study} {table : List ℕ} {share : ℕ} (judgeable : Judgeable d t
     y-is : y ≡ loading (networkIn d) exact
     y-is = loading-is ready t (c .nexts-are)
 
-    load-at : (l : ℕ) → l < linkCount d → loadOf flows l ≡ linkTotal (destinationCount d) (linkCount d) y l
+    load-at : (l : ℕ) → l < linkCount d → loadOf flows l ≡ linkTotal (commodityCount d) (linkCount d) y l
     load-at l h = ap (λ xs. getD xs l 0) (c .loads-are) ∙ getD-padded (linkCount d) _ l h
 
     load-is : (l : ℕ) → l < linkCount d → loadOf flows l ≡ total (networkIn d) (loading (networkIn d) exact) l
     unfolding network
-    load-is l h = load-at l h ∙ ap (λ loading. linkTotal (destinationCount d) (linkCount d) loading l) y-is
+    load-is l h = load-at l h ∙ ap (λ loading. linkTotal (commodityCount d) (linkCount d) loading l) y-is
 
     loads-within : Within (linkCount d) 65535 (getD flows 1 [])
     loads-within l h = omega (arith, load-at l h, load-most ready t (c .nexts-are) l h)
@@ -279,19 +280,20 @@ module _ {d : Study} {table : List ℕ} {share : ℕ} (judgeable : Judgeable d t
 
     module _ {j : ℕ} (j-is : Chosen j) where
       -- and the move.
-      pub movable : Movable (d .nodes) (linkCount d) (destinationCount d) nexts volumes share j table
+      pub movable : Movable (d .nodes) (linkCount d) (commodityCount d) nexts volumes share j table
       movable =
           let most = chosen-le (networkIn d) share (total (networkIn d) table) (total (networkIn d) (loading (networkIn d) exact)) in
           let chose = step-is j-is in
           record {
             few-nodes = ready .few-nodes;
             few-links = ready .few-links;
-            few-destinations = ready .few-destinations;
+            few-commodities = few-commodities ready;
+            has-rows = (c .nexts-are .size, c .volumes-long);
             next-link = next-links ready t (c .nexts-are);
             small-share = omega (arith, judgeable .share-most);
             holds = holds;
-            flows = number-most (destinationCount d) (linkCount d) table (share * 65535) total-most;
-            loads = λ i h. rw (c .volumes-are) (number-most (destinationCount d) (linkCount d) y 65535 (load-most ready t (c .nexts-are)) i h);
+            flows = number-most (commodityCount d) (linkCount d) table (share * 65535) total-most;
+            loads = λ i h. rw (c .volumes-are) (number-most (commodityCount d) (linkCount d) y 65535 (load-most ready t (c .nexts-are)) i h);
           }
 
       -- Its totals move with it,
@@ -310,14 +312,14 @@ module _ {d : Study} {table : List ℕ} {share : ℕ} (judgeable : Judgeable d t
       pub totals-moved :
           canMove share j ≡ true → {flows′ : List (List ℕ)} {table′ : List ℕ} →
           flows′ ≡ movedTo (linkCount d) j flows →
-          table′ ≡ tableAfter table (moveAlong (destinationCount d * linkCount d) share j (volumeRows (d .nodes) (linkCount d) (destinationCount d) nexts volumes) table) →
+          table′ ≡ tableAfter table (moveAlong (commodityCount d * linkCount d) share j (volumeRows (d .nodes) (linkCount d) (commodityCount d) nexts volumes) table) →
           TotalsOf d table′ flows′
       totals-moved can e f =
-          moved-totals (destinationCount d) (linkCount d) share j _ table (ready .few-links) can flows (c .flows-long) totals-are
-          (c .loads-are ∙ ap (λ y. padded (linkCount d) (linkTotal (destinationCount d) (linkCount d) y)) (sym (c .volumes-are))) e f
+          moved-totals (commodityCount d) (linkCount d) share j _ table (ready .few-links) can flows (c .flows-long) totals-are
+          (c .loads-are ∙ ap (λ y. padded (linkCount d) (linkTotal (commodityCount d) (linkCount d) y)) (sym (c .volumes-are))) e f
 
       pub move-is :
-          moveAlong (destinationCount d * linkCount d) share j (volumeRows (d .nodes) (linkCount d) (destinationCount d) nexts volumes) table
+          moveAlong (commodityCount d * linkCount d) share j (volumeRows (d .nodes) (linkCount d) (commodityCount d) nexts volumes) table
           ≡ moveOf (networkIn d) table share
       unfolding added doubled network
       move-is =
@@ -329,7 +331,7 @@ module _ {d : Study} {table : List ℕ} {share : ℕ} (judgeable : Judgeable d t
       moves-is = sym (moves-by share j _ _) ∙ ap moves move-is
 
       -- The note of the move can be filled,
-      pub notable : (note : List ℕ) → destinationCount d * d .nodes < length note → Notable d times′ nexts j note
+      pub notable : (note : List ℕ) → commodityCount d * d .nodes < length note → Notable d times′ nexts j note
       notable note holds =
           let most = chosen-le (networkIn d) share (total (networkIn d) table) (total (networkIn d) (loading (networkIn d) exact)) in
           let chose = step-is j-is in

@@ -1,5 +1,6 @@
 -- The sum of least times, as an audit takes it from the marks of a search.
 use Prim.Native.Nat.{ℕ, _*_, _≤_, _<_}
+use native.Mathlib.Nat.{le-trans, mul-le-mul, mul-le-mul-right}
 use native.Mathlib.Omega.{arith}
 use mathlib.Core.Path.{_≡_, refl, _∙_, ap, fun-ext}
 use mathlib.Core.List.{List}
@@ -7,17 +8,20 @@ use mathlib.Core.Option.{Option·getD}
 use lib.ListN.{getD}
 use Rattle.theory.specs.Finite.{sum}
 use Rattle.theory.specs.Network.{Network}
-use Rattle.theory.specs.Routes.{Routing, routing, distance, isSome}
-use Rattle.theory.specs.Cost.{leastTimes}
+use Rattle.theory.specs.Flows.{total}
+use Rattle.theory.specs.Routes.{Routing, routing, distance, isSome, loading}
+use Rattle.theory.specs.Cost.{leastTimes, spentTimes}
 use Rattle.theory.specs.Laws.Cases.{on-equal, on-option, true-false}
-use Rattle.theory.specs.Laws.Finite.{sum-cong}
+use Rattle.theory.specs.Laws.Finite.{sum-cong, sum-bound}
+use Rattle.theory.specs.Laws.Loading.{loading-total, loading-spends}
 use Rattle.theory.specs.Laws.Routings.{Served}
 use Rattle.theory.specs.Study.{network}
+use Rattle.travel.specs.Ranges.{TimesFit, mostTime}
 use Rattle.search.specs.Search.{routingFrom, mark, marks}
 use Rattle.search.specs.Groups.{leastOver}
 use Rattle.search.specs.Laws.Found.{marks-at}
-use Rattle.judging.specs.Study.{Study, destinationCount, networkIn, Ready}
-use Rattle.judging.specs.Laws.Routes.{TimesIn, times-own, served}
+use Rattle.judging.specs.Study.{Study, linkCount, commodityCount, networkIn, Ready}
+use Rattle.judging.specs.Laws.Routes.{TimesIn, times-own, timed, served}
 
 -- A node with trips has a distance, which is its mark.
 mark-spent :
@@ -59,11 +63,25 @@ least-at g t u same =
 -- The sum of trips × mark is that of D(j,s) × distance.
 pub least-over :
     {d : Study} → Ready d → {times exact : List ℕ} → TimesIn d times exact →
-    leastOver (d .nodes) (d .links) (d .destinations) (d .trips) times
+    leastOver (d .nodes) (d .links) (d .commodities) (d .trips) times
     ≡ leastTimes (networkIn d) exact
 unfolding leastOver leastTimes routingFrom network
 least-over {d} ready {times} {exact} t =
-    sum-cong (destinationCount d) _ _ (λ k h.
+    sum-cong (commodityCount d) _ _ (λ k h.
     sum-cong (d .nodes) _ _ (λ j b.
     mark-spent (routing (networkIn d) times k) (ready .few-nodes) (networkIn d .trips k) (served ready (times-own (t .fit)) k h) j b))
     ∙ least-at (networkIn d) times exact (t .same)
+
+-- It is far below 2^64: it is the time that the loading spends, which has at most 65,535 trips on each link.
+pub least-small :
+    {d : Study} → Ready d → {times : List ℕ} → TimesFit (linkCount d) times →
+    leastOver (d .nodes) (d .links) (d .commodities) (d .trips) times ≤ 512 * (mostTime * 65535)
+unfolding spentTimes network
+least-small {d} ready {times} fit =
+    let g = networkIn d in
+    let t = times-own fit in
+    let spends = loading-spends g (ready .sound) times (timed ready t) (served ready t) in
+    let bound =
+    sum-bound (linkCount d) (mostTime * 65535) (λ l. getD times l 0 * total g (loading g times) l)
+    (λ l h. mul-le-mul (fit .times-fit l h) (le-trans (loading-total g (ready .sound) times (timed ready t) (served ready t) l h) (ready .few-trips))) in
+    omega (arith, least-over ready t, spends, bound, mul-le-mul-right (mostTime * 65535) (ready .few-links))

@@ -23,8 +23,9 @@ use Rattle.calls.specs.Calls.{overwritten, noteAfter}
 use Rattle.search.specs.Search.{routingFrom}
 use Rattle.routes.specs.Table.{linkMarks, AllNexts}
 use Rattle.notes.specs.Written.{linkRows, Writable}
-use Rattle.judging.specs.Study.{Study, linkCount, destinationCount, networkIn, Ready, moveOf}
+use Rattle.judging.specs.Study.{Study, linkCount, commodityCount, networkIn, Ready, moveOf}
 use Rattle.judging.specs.Noted.{noteBy}
+use Rattle.judging.specs.Laws.Classes.{few-commodities}
 use Rattle.judging.specs.Laws.Loaded.{length-marks}
 
 -- The first marks of a row are those of the nodes.
@@ -33,28 +34,29 @@ unfolding linkMarks
 marks-front q = take-at (map linkMark (nextLinks q)) (replicate (128 - q .nodes) noLink) (q .nodes) (length-map (nextLinks q) linkMark ∙ length-next q)
 
 module _ {d : Study} {times : List ℕ} {nexts : List (List ℕ)} (ready : Ready d)
-    (found : AllNexts (d .nodes) (d .links) (d .destinations) times nexts) where
-  pub rows-are : linkRows (d .nodes) (destinationCount d) nexts ≡ nextMarks (networkIn d) times
+    (found : AllNexts (d .nodes) (d .links) (d .commodities) times nexts) where
+  pub rows-are : linkRows (d .nodes) (commodityCount d) nexts ≡ nextMarks (networkIn d) times
   unfolding linkRows nextMarks network routingFrom
-  rows-are = rows-cong (destinationCount d) _ _ (λ k h. ap (take (d .nodes)) (found .row k h) ∙ marks-front (routing (networkIn d) times k))
+  rows-are = rows-cong (commodityCount d) _ _ (λ k h. ap (take (d .nodes)) (found .row k h) ∙ marks-front (routing (networkIn d) times k))
 
-  pub writable : Writable (d .nodes) (destinationCount d) nexts
+  pub writable : Writable (d .nodes) (commodityCount d) nexts
   unfolding routingFrom
   writable =
       record {
         few-nodes = ready .few-nodes;
-        few-destinations = ready .few-destinations;
-        long = λ k h. let q = routingFrom (d .nodes) (d .links) times (getD (d .destinations) k 0) in rw (found .row k h) (omega (arith, ready .few-nodes, length-marks q (ready .few-nodes) (ready .few-links)));
+        few-commodities = few-commodities ready;
+        has-rows = found .size;
+        long = λ k h. let q = routingFrom (d .nodes) (d .links) times (getD (d .commodities) k 0) in rw (found .row k h) (omega (arith, ready .few-nodes, length-marks q (ready .few-nodes) (ready .few-links)));
       }
 
 -- What is written is the note, by j and what a doubling makes of the share.
 module _ (d : Study) (times : List ℕ) (j doubled : ℕ) (note : List ℕ) where
-  pub note-adds : {nexts : List (List ℕ)} {after : List ℕ} → Ready d → AllNexts (d .nodes) (d .links) (d .destinations) times nexts → 0 < j
-      → after ≡ overwritten (j ∷ linkRows (d .nodes) (destinationCount d) nexts) note → after ≡ noteBy (networkIn d) times j doubled note
+  pub note-adds : {nexts : List (List ℕ)} {after : List ℕ} → Ready d → AllNexts (d .nodes) (d .links) (d .commodities) times nexts → 0 < j
+      → after ≡ overwritten (j ∷ linkRows (d .nodes) (commodityCount d) nexts) note → after ≡ noteBy (networkIn d) times j doubled note
   unfolding noteBy
   note-adds ready found some-j e = e ∙ rw (lt-ltb 0 j some-j, rows-are ready found)
 
-  pub note-doubles : {after : List ℕ} → j ≤ 0 → doubled ≤ 1024 → after ≡ overwritten (0 ∷ replicate (destinationCount d * d .nodes) noLink) note
+  pub note-doubles : {after : List ℕ} → j ≤ 0 → doubled ≤ 1024 → after ≡ overwritten (0 ∷ replicate (commodityCount d * d .nodes) noLink) note
       → after ≡ noteBy (networkIn d) times j doubled note
   unfolding noteBy network
   note-doubles no-j fits e = e ∙ rw (le-ltb 0 j no-j, le-leb doubled 1024 fits)

@@ -17,15 +17,16 @@ use Rattle.theory.specs.Study.{noLink, network}
 use Rattle.calls.specs.Laws.Reach.{unit-timed}
 use Rattle.travel.specs.Ranges.{TimesFit}
 use Rattle.search.specs.Search.{routingFrom}
-use Rattle.search.specs.Given.{Searchable, AllSearchable}
+use Rattle.search.specs.Given.{Roads, Searchable}
 use Rattle.loading.specs.Along.{linkOf, walkAlong, flowAlong, Followable}
-use Rattle.routes.specs.Table.{linkMarks, noLinks, Nexts}
+use Rattle.routes.specs.Table.{linkMarks, noLinks}
 use Rattle.theory.specs.Laws.Padded.{getD-default}
-use Rattle.search.specs.Laws.Groups.{searchable-to}
 use Rattle.judging.specs.Laws.Loaded.{followable, flow-along}
-use Rattle.judging.specs.Study.{Study, linkCount, destinationCount, networkIn, Ready}
+use Rattle.judging.specs.Study.{Study, linkCount, commodityCount, networkIn, Ready}
 use Rattle.moves.specs.Loading.{rowAlong, loadingAlong, AllFollowable}
-use Rattle.judging.specs.Laws.Study.{searchable}
+use Rattle.judging.specs.Classes.{ClassNexts}
+use Rattle.judging.specs.Laws.Study.{commodity-node, roads, searchable-to}
+use Rattle.judging.specs.Laws.Classes.{few-commodities, commodity-row}
 
 -- One destination: what its trips send along the next links over a link is the loading there.
 flow-is :
@@ -63,19 +64,16 @@ unfolding walkAlong walk linkOf
 no-walk links zero j = refl
 no-walk links (suc most) j = rw (List·getD-map linkOf noLinks j noLink, no-link j, walk)
 
-followable-none :
-    {n : ℕ} {links : List (List ℕ)} {destinations times : List ℕ} → AllSearchable n links destinations times → {k : ℕ} →
-    k < length destinations → {row : List ℕ} → row ≡ noLinks → Followable n links row
-followable-none {links} g {k} h e =
-    let some-node = g .destination-node k h in
+followable-none : {n : ℕ} {links : List (List ℕ)} {times : List ℕ} → Roads n links times → 0 < n → {row : List ℕ} → row ≡ noLinks → Followable n links row
+followable-none {links} g some-node e =
     rw e
     (record {
-      few-nodes = g .roads .few-nodes;
-      few-links = g .roads .few-links;
+      few-nodes = g .few-nodes;
+      few-links = g .few-links;
       size = length-no-links;
-      head-node = g .roads .head-node;
+      head-node = g .head-node;
       next-link = λ j b some-link.
-          absurd (some-link (getD-default noLinks j 0 noLink (omega (arith, g .roads .few-nodes, length-no-links)) ∙ no-link j));
+          absurd (some-link (getD-default noLinks j 0 noLink (omega (arith, g .few-nodes, length-no-links)) ∙ no-link j));
       ends = λ j b. rw (no-walk links) (omega arith);
     })
 
@@ -117,25 +115,24 @@ module _ {d : Study} (ready : Ready d) {times exact : List ℕ} (t : TimesIn d t
   unfolding network
   served = served-at-times (networkIn d) (ready .sound) (replicate (linkCount d) 1) exact (unit-timed (networkIn d)) timed (ready .served)
 
-  module _ {nexts : List (List ℕ)}
-      (found : Nexts (d .nodes) (d .links) (d .destinations) (d .trips) times nexts) where
-    row-is : (k l : ℕ) → k < destinationCount d → l < linkCount d →
+  module _ {nexts : List (List ℕ)} (found : ClassNexts d times nexts) where
+    row-is : (k l : ℕ) → k < commodityCount d → l < linkCount d →
         rowAlong (d .nodes) (d .links) (d .trips) nexts k l
         ≡ getD (loadingRow (routing (networkIn d) times k) (networkIn d .trips k)) l 0
     unfolding rowAlong network routingFrom
     row-is k l h b =
         ⊎-elim
-        (λ e. flow-is (searchable-to (searchable ready (t .fit)) k h) e (λ j. getD (d .trips) (k * d .nodes + j) 0) l b)
+        (λ e. flow-is (searchable-to ready (t .fit) k h) e (λ j. getD (d .trips) (k * d .nodes + j) 0) l b)
         (λ none.
         none-along (d .nodes) (d .links) (getD nexts k []) (λ j. getD (d .trips) (k * d .nodes + j) 0) l (none .1)
         ∙ sym (none-loaded (routing (networkIn d) times k) (networkIn d .trips k) l b (none .1)))
-        (found .row k h)
+        (commodity-row ready found k h)
 
     -- The loading along these next links is the definition's,
-    pub loading-is : loadingAlong (d .nodes) (d .links) (destinationCount d) (d .trips) nexts ≡ loading (networkIn d) exact
+    pub loading-is : loadingAlong (d .nodes) (d .links) (commodityCount d) (d .trips) nexts ≡ loading (networkIn d) exact
     unfolding loadingAlong loading network
     loading-is =
-        rows-cong (destinationCount d) _ _ (λ k h.
+        rows-cong (commodityCount d) _ _ (λ k h.
         let row = loadingRow (routing (networkIn d) times k) (networkIn d .trips k) in
         let along = rowAlong (d .nodes) (d .links) (d .trips) nexts k in
         ext-getD 0 (tabulate (linkCount d) along) row
@@ -147,29 +144,30 @@ module _ {d : Study} (ready : Ready d) {times exact : List ℕ} (t : TimesIn d t
 
     -- with totals of at most T,
     pub load-most : (l : ℕ) → l < linkCount d →
-        linkTotal (destinationCount d) (linkCount d) (loadingAlong (d .nodes) (d .links) (destinationCount d) (d .trips) nexts) l ≤ 65535
+        linkTotal (commodityCount d) (linkCount d) (loadingAlong (d .nodes) (d .links) (commodityCount d) (d .trips) nexts) l ≤ 65535
     unfolding network
     load-most l h =
-        let e = ap (λ y. linkTotal (destinationCount d) (linkCount d) y l) loading-is in
+        let e = ap (λ y. linkTotal (commodityCount d) (linkCount d) y l) loading-is in
         omega (arith, loading-total (networkIn d) (ready .sound) exact timed served l h, ready .few-trips)
 
     -- and can be followed.
-    pub followable-all : AllFollowable (d .nodes) (d .links) (destinationCount d) (d .trips) nexts
+    pub followable-all : AllFollowable (d .nodes) (d .links) (commodityCount d) (d .trips) nexts
     followable-all =
         record {
           few-nodes = ready .few-nodes;
           few-links = ready .few-links;
-          few-destinations = ready .few-destinations;
+          few-commodities = few-commodities ready;
+          has-rows = found .size;
           has-trips = ready .trips-long;
           followable = λ k h.
               ⊎-elim
-              (λ e. followable (searchable-to (searchable ready (t .fit)) k h) e)
-              (λ none. followable-none (searchable ready (t .fit)) h (none .0))
-              (found .row k h);
+              (λ e. followable (searchable-to ready (t .fit) k h) e)
+              (λ none. followable-none (roads ready (t .fit)) (omega (arith, commodity-node ready k h)) (none .0))
+              (commodity-row ready found k h);
           small-totals = load-most;
         }
 
     -- A next link of a node is a link.
-    pub next-links : (k j : ℕ) → k < destinationCount d → j < d .nodes → (getD (getD nexts k []) j 0 ≡ noLink → ⊥) →
+    pub next-links : (k j : ℕ) → k < commodityCount d → j < d .nodes → (getD (getD nexts k []) j 0 ≡ noLink → ⊥) →
         getD (getD nexts k []) j 0 < linkCount d
     next-links k j h = followable-all .followable k h .next-link j

@@ -16,12 +16,13 @@ use Rattle.calls.specs.Calls.{overwritten}
 use Rattle.travel.specs.Links.{listTime}
 use Rattle.travel.specs.Ranges.{Within, mostFlow}
 use Rattle.travel.specs.Laws.Padded.{getD-padded, getD-padded-rest, zeros-clear}
-use Rattle.judging.specs.Study.{Study, linkCount, destinationCount, networkIn, Ready}
+use Rattle.judging.specs.Study.{Study, linkCount, commodityCount, networkIn, Ready}
 use Rattle.moves.specs.Loading.{loadingAlong, volumeRows, front, addedRows, Addable}
 use Rattle.judging.specs.Judged.{Known}
 use Rattle.moves.specs.Laws.Front.{front-at, front-past, length-front, front-is}
 use Rattle.moves.specs.Laws.Loading.{length-along}
 use Rattle.theory.specs.Laws.Tables.{number-most}
+use Rattle.judging.specs.Laws.Classes.{few-commodities}
 use Rattle.judging.specs.Laws.Routes.{TimesIn, loading-is, load-most, next-links}
 
 -- No flow on any link.
@@ -70,13 +71,13 @@ module _ {d : Study} (ready : Ready d) {times : List ℕ} {nexts volumes flows :
             (order l (linkCount d));
       }
 
-  module _ (table : List ℕ) {emptied : List ℕ} (within : destinationCount d * linkCount d ≤ length table)
-      (emptied-is : emptied ≡ front (destinationCount d * linkCount d) (λ i. 0) table) where
+  module _ (table : List ℕ) {emptied : List ℕ} (within : commodityCount d * linkCount d ≤ length table)
+      (emptied-is : emptied ≡ front (commodityCount d * linkCount d) (λ i. 0) table) where
     abbrev y : List ℕ
-    y = loadingAlong (d .nodes) (d .links) (destinationCount d) (d .trips) nexts
+    y = loadingAlong (d .nodes) (d .links) (commodityCount d) (d .trips) nexts
 
     abbrev size : ℕ
-    size = destinationCount d * linkCount d
+    size = commodityCount d * linkCount d
 
     long : length emptied ≡ length table
     long = ap length emptied-is ∙ length-front size (λ i. 0) table within
@@ -85,12 +86,13 @@ module _ {d : Study} (ready : Ready d) {times : List ℕ} {nexts volumes flows :
     empty-at i h = ap (λ xs. getD xs i 0) emptied-is ∙ front-at size (λ i. 0) table i h
 
     -- The loading can be added to the emptied table,
-    pub start-addable : Addable (d .nodes) (linkCount d) (destinationCount d) nexts volumes 1 emptied
+    pub start-addable : Addable (d .nodes) (linkCount d) (commodityCount d) nexts volumes 1 emptied
     start-addable =
         record {
           few-nodes = ready .few-nodes;
           few-links = ready .few-links;
-          few-destinations = ready .few-destinations;
+          few-commodities = few-commodities ready;
+          has-rows = (known .nexts-are .size, known .volumes-long);
           next-link = next-links ready times-in (known .nexts-are);
           holds = omega (arith, long, within);
           fits = λ i h.
@@ -98,12 +100,12 @@ module _ {d : Study} (ready : Ready d) {times : List ℕ} {nexts volumes flows :
               (omega (
                 arith,
                 empty-at i h,
-                number-most (destinationCount d) (linkCount d) y 65535 (load-most ready times-in (known .nexts-are)) i h,
+                number-most (commodityCount d) (linkCount d) y 65535 (load-most ready times-in (known .nexts-are)) i h,
               ));
         }
 
     -- and stands there in place of what the table held.
-    pub start-is : {after : List ℕ} → after ≡ addedRows size 1 (volumeRows (d .nodes) (linkCount d) (destinationCount d) nexts volumes) emptied → after ≡ overwritten (started (networkIn d) .table) table
+    pub start-is : {after : List ℕ} → after ≡ addedRows size 1 (volumeRows (d .nodes) (linkCount d) (commodityCount d) nexts volumes) emptied → after ≡ overwritten (started (networkIn d) .table) table
     unfolding started addedRows network
     start-is e =
         e
@@ -111,6 +113,6 @@ module _ {d : Study} (ready : Ready d) {times : List ℕ} {nexts volumes flows :
         ∙ front-is size (λ i. getD y i 0) table within _ (length-front size _ emptied (omega (arith, long, within)) ∙ long)
         (λ i h. front-at size _ emptied i h ∙ omega (arith, empty-at i h))
         (λ i h. front-past size _ emptied i h ∙ ap (λ xs. getD xs i 0) emptied-is ∙ front-past size (λ i. 0) table i h)
-        ∙ ap (λ n. front n (λ i. getD y i 0) table) (sym (length-along (d .nodes) (d .links) (destinationCount d) (d .trips) nexts))
+        ∙ ap (λ n. front n (λ i. getD y i 0) table) (sym (length-along (d .nodes) (d .links) (commodityCount d) (d .trips) nexts))
         ∙ sym (overwritten-is y table)
         ∙ ap (λ new. overwritten new table) (loading-is ready times-in (known .nexts-are))

@@ -7,12 +7,12 @@ use mathlib.Core.List.{List}
 use lib.ListN.{length, getD, replicate, getD-replicate}
 use Rattle.theory.specs.Flows.{stepTime}
 use Rattle.theory.specs.Moves.{tableSize}
-use Rattle.theory.specs.Study.{tail, head, freeTime, capacity, network}
+use Rattle.theory.specs.Study.{tail, head, freeTime, capacity, nodeOf, network}
 use Rattle.travel.specs.Ranges.{LinksFit, TimesFit}
-use Rattle.search.specs.Given.{AllSearchable}
+use Rattle.search.specs.Given.{Roads, Searchable}
 use Rattle.search.specs.Chains.{Chainable}
 use Rattle.search.specs.Laws.Chains.{chainable as links-chain}
-use Rattle.judging.specs.Study.{Study, linkCount, destinationCount, networkIn, Ready}
+use Rattle.judging.specs.Study.{Study, linkCount, commodityCount, networkIn, Ready}
 
 -- Step 0 adds nothing to the free time, since a power is at least 1.
 free-time : (a b q : ℕ) → 1 ≤ q → stepTime a b q 0 ≡ a
@@ -21,11 +21,11 @@ free-time a b zero h = absurd (omega arith)
 free-time a b (suc q) h = rw (pow-suc 0 q, mul-zero, mul-zero, zero-div) (omega arith)
 
 -- A table of a study has p·m numbers.
-table-size : (d : Study) → tableSize (networkIn d) ≡ destinationCount d * linkCount d
+table-size : (d : Study) → tableSize (networkIn d) ≡ commodityCount d * linkCount d
 unfolding network
 table-size d = refl
 
-pub holds-rows : (d : Study) (table : List ℕ) → tableSize (networkIn d) ≤ length table → destinationCount d * linkCount d ≤ length table
+pub holds-rows : (d : Study) (table : List ℕ) → tableSize (networkIn d) ≤ length table → commodityCount d * linkCount d ≤ length table
 holds-rows d table holds = rw table-size at holds
 
 -- Times of 1 fit.
@@ -45,9 +45,9 @@ module _ {d : Study} (ready : Ready d) where
   unfolding network
   head-node = ready .sound .head-node
 
-  destination-node : (k : ℕ) → k < destinationCount d → getD (d .destinations) k 0 < d .nodes
+  pub commodity-node : (k : ℕ) → k < commodityCount d → nodeOf (getD (d .commodities) k 0) < d .nodes
   unfolding network
-  destination-node = ready .sound .destination-node
+  commodity-node = ready .sound .destination-node
 
   some-capacity : (l : ℕ) → l < linkCount d → 1 ≤ capacity (d .links) l
   unfolding network
@@ -73,23 +73,21 @@ module _ {d : Study} (ready : Ready d) where
             };
       }
 
-  -- next links can be found at times that fit,
-  pub searchable : {times : List ℕ} → TimesFit (linkCount d) times → AllSearchable (d .nodes) (d .links) (d .destinations) times
-  searchable fit =
+  -- its links can be searched at times that fit,
+  pub roads : {times : List ℕ} → TimesFit (linkCount d) times → Roads (d .nodes) (d .links) times
+  roads fit =
       record {
-        roads =
-            record {
-              few-nodes = ready .few-nodes;
-              few-links = ready .few-links;
-              tail-node = tail-node;
-              head-node = head-node;
-              some-time = fit .some-time;
-              short-time = fit .times-fit;
-            };
-        few-destinations = ready .few-destinations;
-        destination-node = destination-node;
+        few-nodes = ready .few-nodes;
+        few-links = ready .few-links;
+        tail-node = tail-node;
+        head-node = head-node;
+        some-time = fit .some-time;
+        short-time = fit .times-fit;
       }
+
+  pub searchable-to : {times : List ℕ} → TimesFit (linkCount d) times → (k : ℕ) → k < commodityCount d → Searchable (d .nodes) (d .links) times (getD (d .commodities) k 0)
+  searchable-to fit k h = record { roads = roads fit; destination-node = commodity-node k h }
 
   -- and they can be put into chains.
   pub chainable : Chainable (d .links)
-  chainable = links-chain (searchable (unit-fit (linkCount d)) .roads)
+  chainable = links-chain (roads (unit-fit (linkCount d)))

@@ -64,20 +64,20 @@ module _ (n m p : ℕ) (nexts volumes : List (List ℕ)) where
       getD-rows p m (λ k. tabulate m (over k)) (λ k h. length-tabulate m (over k)) 0 k l h b ∙ getD-tabulate m (over k) 0 l b
 
 -- Volumes of which the first k rows give the loading of their destinations.
-pub record LoadedRows (n : ℕ) (links : List (List ℕ)) (k : ℕ) (trips : List ℕ) (nexts volumes : List (List ℕ)) : Type 0 where
-  pub size : length volumes ≡ 32
+pub record LoadedRows (n : ℕ) (links : List (List ℕ)) (k : ℕ) (trips : List ℕ) (nexts volumes₀ volumes : List (List ℕ)) : Type 0 where
+  pub size : length volumes ≡ length volumes₀
   pub over : (i l : ℕ) → i < k → l < length links → volumeOver n (getD nexts i []) (getD volumes i []) l ≡ rowAlong n links trips nexts i l
 
 -- There are none at first,
-pub loaded-none : {n : ℕ} {links : List (List ℕ)} {trips : List ℕ} {nexts volumes : List (List ℕ)} → length volumes ≡ 32 →
-    LoadedRows n links 0 trips nexts volumes
-loaded-none long = record { size = long; over = λ i l h b. absurd (omega arith) }
+pub loaded-none : {n : ℕ} {links : List (List ℕ)} {trips : List ℕ} {nexts volumes : List (List ℕ)} →
+    LoadedRows n links 0 trips nexts volumes volumes
+loaded-none = record { size = refl; over = λ i l h b. absurd (omega arith) }
 
 -- then one more,
 pub loaded-more :
-    {n : ℕ} {links : List (List ℕ)} {k : ℕ} {trips : List ℕ} {nexts volumes : List (List ℕ)} → LoadedRows n links k trips nexts volumes →
-    k < 32 → (row : List ℕ) → ((l : ℕ) → l < length links → volumeOver n (getD nexts k []) row l ≡ rowAlong n links trips nexts k l) →
-    LoadedRows n links (k + 1) trips nexts (set volumes k row)
+    {n : ℕ} {links : List (List ℕ)} {k : ℕ} {trips : List ℕ} {nexts volumes₀ volumes : List (List ℕ)} → LoadedRows n links k trips nexts volumes₀ volumes →
+    k < length volumes₀ → (row : List ℕ) → ((l : ℕ) → l < length links → volumeOver n (getD nexts k []) row l ≡ rowAlong n links trips nexts k l) →
+    LoadedRows n links (k + 1) trips nexts volumes₀ (set volumes k row)
 loaded-more {n} {k} {nexts} {volumes} w h row gives =
     record {
       size = length-set volumes k row ∙ w .size;
@@ -94,7 +94,7 @@ loaded-more {n} {k} {nexts} {volumes} w h row gives =
 
 -- and in the end all.
 pub loaded-all :
-    {n : ℕ} {links : List (List ℕ)} {p : ℕ} {trips : List ℕ} {nexts volumes : List (List ℕ)} → LoadedRows n links p trips nexts volumes →
+    {n : ℕ} {links : List (List ℕ)} {p : ℕ} {trips : List ℕ} {nexts volumes₀ volumes : List (List ℕ)} → LoadedRows n links p trips nexts volumes₀ volumes →
     volumeRows n (length links) p nexts volumes ≡ loadingAlong n links p trips nexts
 unfolding volumeRows loadingAlong
 loaded-all {links} {p} w = rows-cong p _ _ (λ k h. tabulate-cong (length links) _ _ (λ l b. w .over k l h b))

@@ -79,7 +79,8 @@ module _ {n m p : ℕ} {nexts volumes : List (List ℕ)} {share j : ℕ} {table 
       record {
         few-nodes = w .few-nodes;
         few-links = w .few-links;
-        few-destinations = w .few-destinations;
+        few-commodities = w .few-commodities;
+        has-rows = w .has-rows;
         next-link = w .next-link;
         holds = w .holds;
         fits = λ i h.

@@ -3,7 +3,7 @@ use Prim.Native.Nat.{ℕ, suc, _+_, _*_, _≤_, _<_}
 use native.Mathlib.Omega.{arith}
 use mathlib.Core.Path.{_≡_, refl, sym, _∙_, ap}
 use mathlib.Core.Bool.{Bool, true, false, not, _&&_, _||_}
-use mathlib.Core.List.{List, []}
+use mathlib.Core.List.{List, [], _∷_}
 use mathlib.Core.Logic.{_⊎_, _≢_, inl, inr, ⊎-elim}
 use mathlib.Core.Option.{none, some, Option·some-injective}
 use lib.ListN.{length, getD, set, replicate, length-replicate, getD-replicate, length-set}
@@ -12,7 +12,7 @@ use lib.Seq.{getD-set-same, getD-set-other}
 use borrow.Author.Tests.{eqb-true, eqb-false, eq-eqb, ne-eqb, ltb-true, lt-ltb, le-ltb}
 use Rattle.theory.specs.Finite.{all}
 use Rattle.theory.specs.Routes.{Routing, distance, isSome}
-use Rattle.theory.specs.Study.{tail, head, closed, mayUse, noLink}
+use Rattle.theory.specs.Study.{tail, head, closed, barred, nodeOf, ofLorries, barredTo, mayUse, noLink}
 use Rattle.theory.specs.Laws.Cases.{on-option, on-equal, on-test, either, true-false}
 use Rattle.theory.specs.Laws.Distances.{distance-destination}
 use Rattle.theory.specs.Laws.Finite.{and-left, and-right, both, all-suc, all-refuted, all-cong}
@@ -33,20 +33,41 @@ unsettled-both row s j e =
     (λ away. (away, on-equal (getD row j 0) noLink (λ f. f) (λ n. true-false (rw (ne-eqb j s away, ne-eqb (getD row j 0) noLink n)) e)))
 
 -- The test of link i, which is l.
-module _ (links : List (List ℕ)) (s j : ℕ) {i l : ℕ} (same : i ≡ l) where
-  pub past-links : length links ≤ i → false ≡ mayFollow links s j l
+module _ (links : List (List ℕ)) (commodity j : ℕ) {i l : ℕ} (same : i ≡ l) where
+  pub past-links : length links ≤ i → false ≡ mayFollow links commodity j l
   past-links h = rw (sym same, le-ltb i (length links) h)
 
   module _ (h : i < length links) where
-    pub other-tail : {t : ℕ} → t ≡ tail links i → t ≢ j → false ≡ mayFollow links s j l
+    pub other-tail : {t : ℕ} → t ≡ tail links i → t ≢ j → false ≡ mayFollow links commodity j l
     other-tail e away = rw (sym same, lt-ltb i (length links) h, ne-eqb (tail links i) j (λ f. away (e ∙ f)))
 
-    pub own-link : {t : ℕ} → t ≡ tail links i → t ≡ j → mayFollow links s j l ≡ (not (eqb (closed links i) 1) || eqb (head links i) s)
-    unfolding mayUse
+    pub own-link : {t : ℕ} → t ≡ tail links i → t ≡ j → mayFollow links commodity j l ≡ mayUse links commodity i
     own-link e f = rw (sym same, lt-ltb i (length links) h, eq-eqb (tail links i) j (sym e ∙ f))
 
-pub follow-counted : (n : ℕ) (links : List (List ℕ)) (s j l : ℕ) → j ≢ s → mayFollow links s j l ≡ true → Counted (toward n links s) j l
-follow-counted n links s j l away e =
+-- A class of lorries is barred from a link that has the mark, and from no other.
+module _ (links : List (List ℕ)) {lorries : Bool} (l : ℕ) (are : lorries ≡ true) where
+  pub barred-off : eqb (barred links l) 1 ≡ true → barredTo links lorries l ≡ true
+  unfolding barredTo
+  barred-off mark = rw (are, mark)
+
+  pub barred-on : eqb (barred links l) 1 ≡ false → barredTo links lorries l ≡ false
+  unfolding barredTo
+  barred-on unmarked = rw (are, unmarked)
+
+-- A link that a commodity is not barred from may carry it where its head is open or the destination.
+pub may-on :
+    (links : List (List ℕ)) (commodity l : ℕ) → barredTo links (ofLorries commodity) l ≡ false →
+    mayUse links commodity l ≡ (not (eqb (closed links l) 1) || eqb (head links l) (nodeOf commodity))
+unfolding mayUse
+may-on links commodity l on = rw on
+
+-- One link's own row tells whether it may carry a commodity.
+pub row-may-use : (links : List (List ℕ)) (commodity l : ℕ) → mayUse (getD links l [] ∷ []) commodity 0 ≡ mayUse links commodity l
+unfolding mayUse barredTo
+row-may-use links commodity l = refl
+
+pub follow-counted : (n : ℕ) (links : List (List ℕ)) (commodity j l : ℕ) → j ≢ nodeOf commodity → mayFollow links commodity j l ≡ true → Counted (toward n links commodity) j l
+follow-counted n links commodity j l away e =
     let own = and-left (ltb l (length links) && eqb (tail links l) j) _ e in
     record {
       below = ltb-true l (length links) (and-left (ltb l (length links)) _ own);
@@ -55,32 +76,35 @@ follow-counted n links s j l away e =
       away = away;
     }
 
-pub counted-follow : (n : ℕ) (links : List (List ℕ)) (s j l : ℕ) → Counted (toward n links s) j l → mayFollow links s j l ≡ true
-counted-follow n links s j l c =
+pub counted-follow : (n : ℕ) (links : List (List ℕ)) (commodity j l : ℕ) → Counted (toward n links commodity) j l → mayFollow links commodity j l ≡ true
+counted-follow n links commodity j l c =
     both (ltb l (length links) && eqb (tail links l) j) _
     (both (ltb l (length links)) _ (lt-ltb l (length links) (c .below)) (eq-eqb (tail links l) j (c .leaves)))
     (c .usable)
 
-module _ {n : ℕ} {links : List (List ℕ)} {s : ℕ} {note : List ℕ} {first : ℕ} (r : Readable n links s note first) where
+module _ {n : ℕ} {links : List (List ℕ)} {commodity : ℕ} {note : List ℕ} {first : ℕ} (r : Readable n links commodity note first) where
+  abbrev s : ℕ
+  s = nodeOf commodity
+
   abbrev q : Routing
-  q = byNote n links s note first
+  q = byNote n links commodity note first
 
   abbrev noted : ℕ → ℕ
   noted = notedFrom note first
 
   abbrev formed : WellFormed q
-  formed = along-formed (toward n links s) noted (r .tail-node) (r .head-node) (r .destination-node)
+  formed = along-formed (toward n links commodity) noted (r .tail-node) (r .head-node) (r .destination-node)
 
   -- The note leads from a node: what it has there counts, and the note leads from the next node, by one link fewer.
-  pub lead-next : {j : ℕ} → j ≢ s → (w : Leading n links s note first j)
-      → Counted (toward n links s) j (noted j) × (rest : ℕ) × (distance q (head links (noted j)) ≡ some rest) × (w .links-ahead ≡ suc rest)
-  lead-next {j} away w = noted-next (toward n links s) noted (r .tail-node) (r .head-node) (r .destination-node) j (w .links-ahead) (w .node) away (w .ahead)
+  pub lead-next : {j : ℕ} → j ≢ s → (w : Leading n links commodity note first j)
+      → Counted (toward n links commodity) j (noted j) × (rest : ℕ) × (distance q (head links (noted j)) ≡ some rest) × (w .links-ahead ≡ suc rest)
+  lead-next {j} away w = noted-next (toward n links commodity) noted (r .tail-node) (r .head-node) (r .destination-node) j (w .links-ahead) (w .node) away (w .ahead)
 
   -- A walk begins where it begins,
-  pub walking-none : {from : ℕ} → from < n → Walking n links s note first from from 0
+  pub walking-none : {from : ℕ} → from < n → Walking n links commodity note first from from 0
   walking-none h = record { origin = h; node = h; few = omega arith; forth = λ z e. (z, e, omega arith); back = λ y e. ap isSome e }
 
-  module _ {from j steps : ℕ} (w : Walking n links s note first from j steps) where
+  module _ {from j steps : ℕ} (w : Walking n links commodity note first from j steps) where
     leads-not : ((y : ℕ) → distance q j ≡ some y → ⊥) → isSome (distance q from) ≡ false
     leads-not stuck =
         on-option (distance q from)
@@ -88,8 +112,8 @@ module _ {n : ℕ} {links : List (List ℕ)} {s : ℕ} {note : List ℕ} {first 
         (λ z e. let (y, f, g) = w .forth z e in absurd (stuck y f))
 
     -- and goes on by a link that counts;
-    pub walking-on : {l i h : ℕ} → l ≡ noted j → j ≢ s → mayFollow links s j l ≡ true → steps ≢ n → i ≡ l → h ≡ head links i
-        → Walking n links s note first from h (steps + 1)
+    pub walking-on : {l i h : ℕ} → l ≡ noted j → j ≢ s → mayFollow links commodity j l ≡ true → steps ≢ n → i ≡ l → h ≡ head links i
+        → Walking n links commodity note first from h (steps + 1)
     walking-on {l} is away may more same leads-to =
         rw (leads-to, same, is)
         (record {
@@ -101,18 +125,18 @@ module _ {n : ℕ} {links : List (List ℕ)} {s : ℕ} {note : List ℕ} {first 
               let (d, rest, at, less) = lead-next away (record { node = w .node; links-ahead = y; ahead = f }) in
               (rest, at, omega arith);
           back = λ y e.
-              let (x, f) = noted-back (toward n links s) noted (r .tail-node) (r .head-node) (r .destination-node) j y c e in w .back x f;
+              let (x, f) = noted-back (toward n links commodity) noted (r .tail-node) (r .head-node) (r .destination-node) j y c e in w .back x f;
         })
       where
-        c : Counted (toward n links s) j (noted j)
-        c = follow-counted n links s j (noted j) away (rw is at may)
+        c : Counted (toward n links commodity) j (noted j)
+        c = follow-counted n links commodity j (noted j) away (rw is at may)
 
     -- where what the note has does not count, or after n steps, it does not lead to the destination;
-    pub walking-stuck : {l : ℕ} → l ≡ noted j → j ≢ s → mayFollow links s j l ≡ false → isSome (distance q from) ≡ false
+    pub walking-stuck : {l : ℕ} → l ≡ noted j → j ≢ s → mayFollow links commodity j l ≡ false → isSome (distance q from) ≡ false
     walking-stuck {l} is away may =
         leads-not (λ y e.
         let (c, rest, at, less) = lead-next away (record { node = w .node; links-ahead = y; ahead = e }) in
-        true-false (counted-follow n links s j (noted j) c) (rw is at may))
+        true-false (counted-follow n links commodity j (noted j) c) (rw is at may))
 
     pub walking-long : steps ≡ n → isSome (distance q from) ≡ false
     walking-long e =
@@ -120,10 +144,10 @@ module _ {n : ℕ} {links : List (List ℕ)} {s : ℕ} {note : List ℕ} {first 
         (λ f. ap isSome f)
         (λ z f.
         let (y, g, sum) = w .forth z f in
-        absurd (omega (arith, distance-short (toward n links s) noted (r .tail-node) (r .head-node) (r .destination-node) from z (w .origin) f)))
+        absurd (omega (arith, distance-short (toward n links commodity) noted (r .tail-node) (r .head-node) (r .destination-node) from z (w .origin) f)))
 
   -- No link is written at first.
-  pub settled-none : Settled n links s note first s (replicate 128 noLink)
+  pub settled-none : Settled n links commodity note first s (replicate 128 noLink)
   settled-none =
       record {
         size = length-replicate 128 noLink;
@@ -137,8 +161,8 @@ module _ {n : ℕ} {links : List (List ℕ)} {s : ℕ} {note : List ℕ} {first 
   origins-skip w = record { size = w .size; below = λ i h some-link. omega (arith, w .below i h some-link) }
 
   -- A way begins where it begins,
-  pub tracing-none : {row origin : List ℕ} {from : ℕ} → Settled n links s note first s row → Origins n from row origin → from < n
-      → Tracing n links s note first from row from 0 row origin
+  pub tracing-none : {row origin : List ℕ} {from : ℕ} → Settled n links commodity note first s row → Origins n from row origin → from < n
+      → Tracing n links commodity note first from row from 0 row origin
   tracing-none {from} t o h =
       record {
         walking = walking-none h;
@@ -158,13 +182,13 @@ module _ {n : ℕ} {links : List (List ℕ)} {s : ℕ} {note : List ℕ} {first 
       }
 
   -- goes on by the note's link,
-  module _ {from : ℕ} {row₀ row origin : List ℕ} {at steps : ℕ} (z : Tracing n links s note first from row₀ at steps row origin)
-      (unsettled : isSettled row s at ≡ false) {l : ℕ} (is : l ≡ noted at) (may : mayFollow links s at l ≡ true) where
+  module _ {from : ℕ} {row₀ row origin : List ℕ} {at steps : ℕ} (z : Tracing n links commodity note first from row₀ at steps row origin)
+      (unsettled : isSettled row s at ≡ false) {l : ℕ} (is : l ≡ noted at) (may : mayFollow links commodity at l ≡ true) where
     abbrev off : at ≢ s
     off = unsettled-both row s at unsettled .0
 
-    link-counted : Counted (toward n links s) at (noted at)
-    link-counted = follow-counted n links s at (noted at) off (rw is at may)
+    link-counted : Counted (toward n links commodity) at (noted at)
+    link-counted = follow-counted n links commodity at (noted at) off (rw is at may)
 
     pub link-below : l < length links
     link-below = rw is (link-counted .below)
@@ -207,12 +231,12 @@ module _ {n : ℕ} {links : List (List ℕ)} {s : ℕ} {note : List ℕ} {first 
 
       back-on : (x : ℕ) → distance q h ≡ some x → (y : ℕ) × (distance q at ≡ some y)
       back-on x e =
-          noted-back (toward n links s) noted (r .tail-node) (r .head-node) (r .destination-node) at x link-counted (ap (distance q) (sym head-is) ∙ e)
+          noted-back (toward n links commodity) noted (r .tail-node) (r .head-node) (r .destination-node) at x link-counted (ap (distance q) (sym head-is) ∙ e)
 
-      here : PassedAt n links s note first h (set row at l) at
+      here : PassedAt n links commodity note first h (set row at l) at
       here = record { noted = now-there ∙ is; counted = link-counted; onward = inr (inl (sym head-is)); ahead = ahead-on; back = back-on }
 
-      there : (j : ℕ) → j ≢ at → PassedAt n links s note first at row j → PassedAt n links s note first h (set row at l) j
+      there : (j : ℕ) → j ≢ at → PassedAt n links commodity note first at row j → PassedAt n links commodity note first h (set row at l) j
       there j away before =
           record {
             noted = getD-set-other row at j l 0 away ∙ before .noted;
@@ -225,7 +249,7 @@ module _ {n : ℕ} {links : List (List ℕ)} {s : ℕ} {note : List ℕ} {first 
             back = λ x e. let (y, f) = back-on x e in before .back y f;
           }
 
-      settled-there : (j : ℕ) → j ≢ at → SettledAt n links s note first at row j → SettledAt n links s note first h (set row at l) j
+      settled-there : (j : ℕ) → j ≢ at → SettledAt n links commodity note first at row j → SettledAt n links commodity note first h (set row at l) j
       settled-there j away before =
           record {
             noted = getD-set-other row at j l 0 away ∙ before .noted;
@@ -234,7 +258,7 @@ module _ {n : ℕ} {links : List (List ℕ)} {s : ℕ} {note : List ℕ} {first 
             onward = reached-on (before .onward);
           }
 
-      pub tracing-on : Tracing n links s note first from row₀ h (steps + 1) (set row at l) (set origin at from)
+      pub tracing-on : Tracing n links commodity note first from row₀ h (steps + 1) (set row at l) (set origin at from)
       tracing-on =
           record {
             walking = walking-on (z .walking) is off may more same leads-to;
@@ -260,7 +284,7 @@ module _ {n : ℕ} {links : List (List ℕ)} {s : ℕ} {note : List ℕ} {first 
           }
 
   -- and ends at a settled node.
-  module _ {from : ℕ} {row₀ row origin : List ℕ} {at steps : ℕ} (z : Tracing n links s note first from row₀ at steps row origin)
+  module _ {from : ℕ} {row₀ row origin : List ℕ} {at steps : ℕ} (z : Tracing n links commodity note first from row₀ at steps row origin)
       (end : isSettled row s at ≡ true) where
     pub node-within : at < 128
     node-within = omega (arith, z .walking .node, r .few-nodes)
@@ -271,7 +295,7 @@ module _ {n : ℕ} {links : List (List ℕ)} {s : ℕ} {note : List ℕ} {first 
         (λ e. ⊎-elim (λ f. ⊎-elim (λ g. inl (f ∙ g)) (λ g. inr (inr (λ h. g (ap (λ i. getD row i 0) (sym f) ∙ h)))) (settled-either row s at end)) (λ f. inr (inr f)) e)
 
     -- Where the note leads from there it leads from all that was passed.
-    traced : (x : ℕ) → distance q at ≡ some x → Traced n links s note first from row₀ row origin
+    traced : (x : ℕ) → distance q at ≡ some x → Traced n links commodity note first from row₀ row origin
     traced x e =
         record {
           settled =
@@ -284,7 +308,7 @@ module _ {n : ℕ} {links : List (List ℕ)} {s : ℕ} {note : List ℕ} {first 
           kept = z .kept;
         }
       where
-        mine : (j : ℕ) → j < n → getD row j 0 ≢ noLink → getD origin j 0 ≡ from → SettledAt n links s note first s row j
+        mine : (j : ℕ) → j < n → getD row j 0 ≢ noLink → getD origin j 0 ≡ from → SettledAt n links commodity note first s row j
         mine j h some-link same =
             let here = z .own j h some-link same in
             let (y, f) = here .back x e in
@@ -295,7 +319,7 @@ module _ {n : ℕ} {links : List (List ℕ)} {s : ℕ} {note : List ℕ} {first 
               onward = reached-end (head links (noted j)) (here .onward);
             }
 
-        earlier : (j : ℕ) → j < n → getD row j 0 ≢ noLink → getD origin j 0 ≢ from → SettledAt n links s note first s row j
+        earlier : (j : ℕ) → j < n → getD row j 0 ≢ noLink → getD origin j 0 ≢ from → SettledAt n links commodity note first s row j
         earlier j h some-link other =
             let here = z .earlier j h some-link other in
             record { noted = here .noted; counted = here .counted; leading = here .leading; onward = reached-end (head links (noted j)) (here .onward) }
@@ -308,7 +332,7 @@ module _ {n : ℕ} {links : List (List ℕ)} {s : ℕ} {note : List ℕ} {first 
       pub home-leads : isSome (distance q from) ≡ true
       home-leads = z .walking .back 0 at-home
 
-      pub home-traced : Traced n links s note first from row₀ row origin
+      pub home-traced : Traced n links commodity note first from row₀ row origin
       home-traced = traced 0 at-home
 
     module _ (off : at ≢ s) where
@@ -317,13 +341,13 @@ module _ {n : ℕ} {links : List (List ℕ)} {s : ℕ} {note : List ℕ} {first 
 
       -- and from a node of an earlier way,
       module _ (other : getD origin at 0 ≢ from) where
-        lead : Leading n links s note first at
+        lead : Leading n links commodity note first at
         lead = z .earlier at (z .walking .node) some-there other .leading
 
         pub earlier-leads : isSome (distance q from) ≡ true
         earlier-leads = z .walking .back (lead .links-ahead) (lead .ahead)
 
-        pub earlier-traced : Traced n links s note first from row₀ row origin
+        pub earlier-traced : Traced n links commodity note first from row₀ row origin
         earlier-traced = traced (lead .links-ahead) (lead .ahead)
 
       -- but not from one of its own.
@@ -336,28 +360,28 @@ module _ {n : ℕ} {links : List (List ℕ)} {s : ℕ} {note : List ℕ} {first 
 
   -- The nodes of a destination one after the other: none at first,
   module _ (trips : ℕ → ℕ) where
-    pub row-none : rowLeads n links s note first trips 0 ≡ true
+    pub row-none : rowLeads n links commodity note first trips 0 ≡ true
     unfolding rowLeads all
     row-none = refl
 
-    pub followed-none : Followed n links s note first trips 0 (replicate 128 noLink)
+    pub followed-none : Followed n links commodity note first trips 0 (replicate 128 noLink)
     followed-none = record { settled = settled-none; reached = λ j h. absurd (omega arith) }
 
     unfoldable test : ℕ → Bool
     test j = eqb (trips j) 0 || isSome (distance q j)
 
-    row-more : (j : ℕ) → rowLeads n links s note first trips j ≡ true → test j ≡ true → rowLeads n links s note first trips (j + 1) ≡ true
+    row-more : (j : ℕ) → rowLeads n links commodity note first trips j ≡ true → test j ≡ true → rowLeads n links commodity note first trips (j + 1) ≡ true
     unfolding rowLeads test
     row-more j e f = rw (all-suc j test, e, f)
 
     -- then one more without trips,
-    module _ (j : ℕ) (e : rowLeads n links s note first trips j ≡ true) where
-      pub row-skip : trips j ≡ 0 → rowLeads n links s note first trips (j + 1) ≡ true
+    module _ (j : ℕ) (e : rowLeads n links commodity note first trips j ≡ true) where
+      pub row-skip : trips j ≡ 0 → rowLeads n links commodity note first trips (j + 1) ≡ true
       unfolding test
       row-skip no-trips = row-more j e (rw (eq-eqb (trips j) 0 no-trips))
 
       -- or from which the note leads,
-      pub row-lead : isSome (distance q j) ≡ true → rowLeads n links s note first trips (j + 1) ≡ true
+      pub row-lead : isSome (distance q j) ≡ true → rowLeads n links commodity note first trips (j + 1) ≡ true
       unfolding test
       row-lead some-distance = row-more j e (or-true (eqb (trips j) 0) (isSome (distance q j)) some-distance)
         where
@@ -365,15 +389,15 @@ module _ {n : ℕ} {links : List (List ℕ)} {s : ℕ} {note : List ℕ} {first 
           or-true true b f = refl
           or-true false b f = f
 
-    pub followed-skip : {j : ℕ} {row : List ℕ} → trips j ≡ 0 → Followed n links s note first trips j row → Followed n links s note first trips (j + 1) row
+    pub followed-skip : {j : ℕ} {row : List ℕ} → trips j ≡ 0 → Followed n links commodity note first trips j row → Followed n links commodity note first trips (j + 1) row
     followed-skip {j} no-trips w =
         record {
           settled = w .settled;
           reached = λ i h some-trips. on-equal i j (λ e. absurd (some-trips (ap trips e ∙ no-trips))) (λ away. w .reached i (omega (arith, away)) some-trips);
         }
 
-    pub followed-lead : {j : ℕ} {row row′ origin : List ℕ} → Followed n links s note first trips j row → Traced n links s note first j row row′ origin
-        → Followed n links s note first trips (j + 1) row′
+    pub followed-lead : {j : ℕ} {row row′ origin : List ℕ} → Followed n links commodity note first trips j row → Traced n links commodity note first j row row′ origin
+        → Followed n links commodity note first trips (j + 1) row′
     followed-lead {j} w t =
         record {
           settled = t .settled;
@@ -383,36 +407,39 @@ module _ {n : ℕ} {links : List (List ℕ)} {s : ℕ} {note : List ℕ} {first 
         }
 
     -- or one from which it does not.
-    pub row-refused : {j : ℕ} → j < n → trips j ≢ 0 → isSome (distance q j) ≡ false → rowLeads n links s note first trips n ≡ false
+    pub row-refused : {j : ℕ} → j < n → trips j ≢ 0 → isSome (distance q j) ≡ false → rowLeads n links commodity note first trips n ≡ false
     unfolding rowLeads
     row-refused {j} h some-trips e =
         all-refuted n (λ j. eqb (trips j) 0 || isSome (distance q j)) j h (rw (ne-eqb (trips j) 0 some-trips, e))
 
--- The destinations one after the other: none at first,
-module _ {n : ℕ} {links : List (List ℕ)} {destinations trips note : List ℕ} (all-readable : AllReadable n links destinations trips note) where
-  pub note-none : noteFollows n links destinations trips note 0 ≡ true
+-- The commodities one after the other: none at first,
+module _ {n : ℕ} {links : List (List ℕ)} {commodities trips note : List ℕ} (all-readable : AllReadable n links commodities trips note) where
+  pub note-none : noteFollows n links commodities trips note 0 ≡ true
   unfolding noteFollows all
   note-none = refl
 
-  pub rows-none : {rows : List (List ℕ)} → length rows ≡ 32 → AllFollowed n links destinations trips note 0 rows
+  pub rows-none : {rows : List (List ℕ)} → length commodities ≤ length rows → AllFollowed n links commodities trips note 0 rows
   rows-none long = record { size = long; row = λ q h. absurd (omega arith) }
 
   -- then one more, whose links and trips are parts of all,
-  module _ {k : ℕ} (h : k < length destinations) {s : ℕ} (is : s ≡ getD destinations k 0) where
-    pub trips-within : (k * n + n ≤ length trips) × (k * n + n ≤ 4096)
+  module _ {k : ℕ} (h : k < length commodities) where
+    abbrev c : ℕ
+    c = getD commodities k 0
+
+    pub trips-within : (k * n + n ≤ length trips) × (k * n + n ≤ 8192)
     trips-within = (
       omega (arith, row-within n h, all-readable .has-trips),
-      row-most 32 128 h (all-readable .few-destinations) (all-readable .few-nodes),
+      row-most 64 128 h (all-readable .few-commodities) (all-readable .few-nodes),
     )
 
-    pub row-readable : Readable n links s note (1 + k * n)
+    pub row-readable : Readable n links c note (1 + k * n)
     row-readable =
         record {
           few-nodes = all-readable .few-nodes;
           few-links = all-readable .few-links;
           tail-node = all-readable .tail-node;
           head-node = all-readable .head-node;
-          destination-node = rw is (all-readable .destination-node k h);
+          destination-node = all-readable .destination-node k h;
           has-links = omega (arith, row-within n h, all-readable .has-links);
           few-numbers = omega (arith, trips-within, below);
         }
@@ -426,33 +453,32 @@ module _ {n : ℕ} {links : List (List ℕ)} {destinations trips note : List ℕ
     abbrev whole : ℕ → ℕ
     whole j = getD trips (k * n + j) 0
 
-    row-is : rowLeads n links s note (1 + k * n) own n ≡ rowLeads n links (getD destinations k 0) note (1 + k * n) whole n
+    row-is : rowLeads n links c note (1 + k * n) own n ≡ rowLeads n links c note (1 + k * n) whole n
     unfolding rowLeads
     row-is =
-        rw is (all-cong n _ _ (λ j b. ap (λ x. eqb x 0 || isSome (distance (byNote n links (getD destinations k 0) note (1 + k * n)) j)) (part-at trips (k * n) n j b)))
+        all-cong n _ _ (λ j b. ap (λ x. eqb x 0 || isSome (distance (byNote n links c note (1 + k * n)) j)) (part-at trips (k * n) n j b))
 
-    pub note-more : noteFollows n links destinations trips note k ≡ true → rowLeads n links s note (1 + k * n) own n ≡ true
-        → noteFollows n links destinations trips note (k + 1) ≡ true
+    pub note-more : noteFollows n links commodities trips note k ≡ true → rowLeads n links c note (1 + k * n) own n ≡ true
+        → noteFollows n links commodities trips note (k + 1) ≡ true
     unfolding noteFollows
     note-more e f = all-suc k _ ∙ both _ _ e (sym row-is ∙ f)
 
-    pub rows-more : {rows : List (List ℕ)} {row : List ℕ} → AllFollowed n links destinations trips note k rows → Followed n links s note (1 + k * n) own n row
-        → AllFollowed n links destinations trips note (k + 1) (set rows k row)
+    pub rows-more : {rows : List (List ℕ)} {row : List ℕ} → AllFollowed n links commodities trips note k rows → Followed n links c note (1 + k * n) own n row
+        → AllFollowed n links commodities trips note (k + 1) (set rows k row)
     rows-more {rows} {row} w f =
         record {
-          size = length-set rows k row ∙ w .size;
+          size = omega (arith, length-set rows k row, w .size);
           row = λ q b.
               on-equal q k
-              (λ e. rw (e, getD-set-same rows k row [] (omega (arith, w .size, all-readable .few-destinations))) here)
+              (λ e. rw (e, getD-set-same rows k row [] (omega (arith, w .size))) here)
               (λ away. rw (getD-set-other rows k q row [] away) (w .row q (omega (arith, away))));
         }
       where
-        here : Followed n links (getD destinations k 0) note (1 + k * n) whole n row
+        here : Followed n links c note (1 + k * n) whole n row
         here =
-            let same = rw is at f in
-            record { settled = same .settled; reached = λ j b some-trips. same .reached j b (λ e. some-trips (sym (part-at trips (k * n) n j b) ∙ e)) }
+            record { settled = f .settled; reached = λ j b some-trips. f .reached j b (λ e. some-trips (sym (part-at trips (k * n) n j b) ∙ e)) }
 
     -- or one to which the note does not lead.
-    pub note-refused : rowLeads n links s note (1 + k * n) own n ≡ false → noteFollows n links destinations trips note (length destinations) ≡ false
+    pub note-refused : rowLeads n links c note (1 + k * n) own n ≡ false → noteFollows n links commodities trips note (length commodities) ≡ false
     unfolding noteFollows
-    note-refused e = all-refuted (length destinations) _ k h (sym row-is ∙ e)
+    note-refused e = all-refuted (length commodities) _ k h (sym row-is ∙ e)

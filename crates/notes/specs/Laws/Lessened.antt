@@ -1,4 +1,4 @@
--- Tables compared with j × a loading and lessened by it, destination by destination; and counts of numbers that fail a test.
+-- Tables compared with j × a loading and lessened by it, commodity by commodity; and counts of numbers that fail a test.
 use Prim.Native.Nat.{ℕ, zero, suc, _+_, _*_, _-_, _%_, _≤_, _<_}
 use native.Mathlib.Nat.{add-zero, add-suc, zero-mul, mul-zero, suc-mul, mul-le-mul-right}
 use native.Mathlib.Omega.{arith}
@@ -87,7 +87,7 @@ no-loads : (m : ℕ) → Clear m noLoads
 unfolding noLoads
 no-loads m = zeros-clear m
 
--- Volumes times j, added where there is no load, are j × the loading of a destination.
+-- Volumes times j, added where there is no load, are j × the loading of a commodity.
 pub added-to-none :
     {n m j : ℕ} {next volumes row : List ℕ} → Scatterable n m next volumes j noLoads → row ≡ scattered n m next volumes j noLoads →
     row ≡ padded m (λ l. j * volumeOver n next volumes l)
@@ -135,8 +135,8 @@ module _ {n m p : ℕ} {nexts volumes : List (List ℕ)} {j : ℕ} {table : List
     pub row-long : m ≤ length (part table (k * m) m)
     row-long = omega (arith, length-part table (k * m) m table-within)
 
-    pub small-end : k * m + m ≤ 16384
-    small-end = row-most 32 512 h (w .few-destinations) (w .few-links)
+    pub small-end : k * m + m ≤ 32768
+    small-end = row-most 64 512 h (w .few-commodities) (w .few-links)
 
     -- So it is when the rows before it are lessened, and its numbers are as they were.
     module _ {now : List ℕ} (e : now ≡ front (k * m) f table) where
@@ -149,7 +149,7 @@ module _ {n m p : ℕ} {nexts volumes : List (List ℕ)} {j : ℕ} {table : List
       row-own : (l : ℕ) → l < m → getD (part now (k * m) m) l 0 ≡ getD table (k * m + l) 0
       row-own = front-row f table k m table-within e
 
-    -- A destination without volumes has no part of the loading: its row holds it, and stays as it is.
+    -- A commodity without volumes has no part of the loading: its row holds it, and stays as it is.
     module _ (idle : ZeroBelow 128 (getD volumes k [])) where
       no-part : (l : ℕ) → l < m → getD y (k * m + l) 0 ≡ 0
       unfolding volumeOver
@@ -165,7 +165,7 @@ module _ {n m p : ℕ} {nexts volumes : List (List ℕ)} {j : ℕ} {table : List
       pub idle-lessened : {now : List ℕ} → now ≡ front (k * m) f table → now ≡ front ((k + 1) * m) f table
       idle-lessened e = front-row-kept f table k m table-within e (λ l b. omega (arith, ap (λ x. j * x) (no-part l b)))
 
-    -- The volumes of destination k can be added where there is no load,
+    -- The volumes of commodity k can be added where there is no load,
     pub row-scatterable : Scatterable n m (getD nexts k []) (getD volumes k []) j noLoads
     row-scatterable =
         record {

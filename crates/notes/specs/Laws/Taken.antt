@@ -40,13 +40,14 @@ tested-taken size f {table} e (accepted, reached) replaced =
 
 -- j times a loading of which no total is above 65,535 can be compared with a table.
 pub lessenable : {n : ℕ} {links : List (List ℕ)} {p : ℕ} {trips : List ℕ} {nexts : List (List ℕ)} {j : ℕ} {table : List ℕ} → AllFollowable n links p trips nexts
-    → (volumes : List (List ℕ)) → volumeRows n (length links) p nexts volumes ≡ loadingAlong n links p trips nexts → p * length links ≤ length table → j ≤ 65535
+    → (volumes : List (List ℕ)) → volumeRows n (length links) p nexts volumes ≡ loadingAlong n links p trips nexts → p ≤ length volumes → p * length links ≤ length table → j ≤ 65535
     → Lessenable n (length links) p nexts volumes j table
-lessenable {n} {links} {p} {trips} {nexts} {j} w volumes are holds small =
+lessenable {n} {links} {p} {trips} {nexts} {j} w volumes are long holds small =
     record {
       few-nodes = w .few-nodes;
       few-links = w .few-links;
-      few-destinations = w .few-destinations;
+      few-commodities = w .few-commodities;
+      has-rows = (w .has-rows, long);
       next-link = λ k i h. w .followable k h .next-link i;
       holds = holds;
       fits = λ i h.
@@ -55,12 +56,12 @@ lessenable {n} {links} {p} {trips} {nexts} {j} w volumes are holds small =
     }
 
 -- What taking back by a note does, from what it does to the table: a doubling is halved,
-module _ (n : ℕ) (links : List (List ℕ)) (destinations trips table : List ℕ) (share : ℕ) (note : List ℕ) where
+module _ (n : ℕ) (links : List (List ℕ)) (commodities trips table : List ℕ) (share : ℕ) (note : List ℕ) where
   abbrev g : Network
-  g = network n links destinations trips
+  g = network n links commodities trips
 
   abbrev size : ℕ
-  size = length destinations * length links
+  size = length commodities * length links
 
   pub taken-half : noteStep note ≡ 0 → {r : Taken} {after : List ℕ} → Halved size share table r after → TakenOn g table share note r after
   unfolding noteLeads canTakeBack takenBack network

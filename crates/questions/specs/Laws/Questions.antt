@@ -8,13 +8,13 @@ use mathlib.Core.Path.{_≡_, refl, sym, _∙_, ap}
 use lib.Dec.{ltb, leb, eqb}
 use lib.ListN.{length, getD}
 use borrow.Author.Tests.{ltb-true}
-use Rattle.study.specs.Fields.{closedByte}
+use Rattle.study.specs.Fields.{markByte}
 use Rattle.study.specs.Questions.{within}
 use Rattle.theory.specs.Finite.{sum, all}
 use Rattle.theory.specs.Laws.Finite.{all-suc, all-elim, all-intro, all-and, all-refuted, and-left, and-right}
 use Rattle.theory.specs.Network.{totalTrips}
-use Rattle.theory.specs.Study.{tail, head, AllFourth, network}
-use Rattle.calls.specs.Questions.{endsFit, timesFit, destinationsFit, closedFit, noTripsWithin, totalFits}
+use Rattle.theory.specs.Study.{tail, head, nodeOf, AllFourth, network}
+use Rattle.calls.specs.Questions.{endsFit, timesFit, destinationsFit, marksFit, noTripsWithin, totalFits}
 use Rattle.questions.specs.Sized.{Sized}
 use Rattle.questions.specs.Fields.{roadTest, roadsFit, powerTest, powersFit}
 use Rattle.questions.specs.Destinations.{allNodes, allAscending}
@@ -32,8 +32,8 @@ pub all-held : (n : ℕ) (test : ℕ → Bool) {i : ℕ} → i ≤ n → n ≤ i
 all-held n test {i} h end before = let e : n ≡ i = omega arith in rw e (sym before)
 
 -- The trips of p rows of n are few.
-pub entries-fit : {n p : ℕ} → n ≤ 128 → p ≤ 32 → p * n ≤ 4096
-entries-fit {n} {p} hn hp = mul-le-mul {n₁ = p} {m₁ = n} {n₂ = 32} {m₂ = 128} hp hn
+pub entries-fit : {n p : ℕ} → n ≤ 128 → p ≤ 64 → p * n ≤ 8192
+entries-fit {n} {p} hn hp = mul-le-mul {n₁ = p} {m₁ = n} {n₂ = 64} {m₂ = 128} hp hn
 
 -- A sum over p blocks of n is the sum over p * n.
 sum-append : (a b : ℕ) (f : ℕ → ℕ) → sum (a + b) f ≡ sum a f + sum b (λ j. f (a + j))
@@ -50,35 +50,31 @@ sum-blocks (suc p) n f =
     let e : suc p * n ≡ p * n + n = omega arith in
     rw (e, sum-append (p * n) n f, sum-blocks p n f)
 
-pub total-of : {n : ℕ} {rows : List (List ℕ)} {nodeList entries : List ℕ} → Sized n rows nodeList entries → sum (length entries) (λ i. getD entries i 0) ≡ totalTrips (network n rows nodeList entries)
+pub total-of : {n : ℕ} {rows : List (List ℕ)} {commodities entries : List ℕ} → Sized n rows commodities entries → sum (length entries) (λ i. getD entries i 0) ≡ totalTrips (network n rows commodities entries)
 unfolding totalTrips network
-total-of {n} {rows} {nodeList} {entries} sized = rw (sized .entries-long) (sym (sum-blocks (length nodeList) n (λ i. getD entries i 0)))
+total-of {n} {rows} {commodities} {entries} sized = rw (sized .entries-long) (sym (sum-blocks (length commodities) n (λ i. getD entries i 0)))
 
--- Questions 6, 8 and 9 are put to a study without the parts that they do not read,
-module _ (n : ℕ) (rows : List (List ℕ)) (nodeList entries : List ℕ) where
-  pub ends-answer : endsFit (network n rows [] []) ≡ endsFit (network n rows nodeList entries)
+-- Questions 6 and 9 are put to a study without the parts that they do not read,
+module _ (n : ℕ) (rows : List (List ℕ)) (commodities entries : List ℕ) where
+  pub ends-answer : endsFit (network n rows [] []) ≡ endsFit (network n rows commodities entries)
   unfolding endsFit network
   ends-answer = refl
 
-  pub destinations-answer : destinationsFit (network n [] nodeList []) ≡ destinationsFit (network n rows nodeList entries)
-  unfolding destinationsFit network
-  destinations-answer = refl
-
-  pub within-answer : noTripsWithin (network n [] nodeList entries) ≡ noTripsWithin (network n rows nodeList entries)
+  pub within-answer : noTripsWithin (network n [] commodities entries) ≡ noTripsWithin (network n rows commodities entries)
   unfolding noTripsWithin network
   within-answer = refl
 
   -- and question 10 to the sum of the entries.
-  pub total-answer : Sized n rows nodeList entries → leb (sum (length entries) (λ i. getD entries i 0)) 65535 ≡ totalFits (network n rows nodeList entries)
+  pub total-answer : Sized n rows commodities entries → leb (sum (length entries) (λ i. getD entries i 0)) 65535 ≡ totalFits (network n rows commodities entries)
   unfolding totalFits
   total-answer sized = ap (λ total. leb total 65535) (total-of sized)
 
 -- Question 8 has two halves, and passed it says that every destination is a node.
-pub destinations-halves : (n : ℕ) (nodeList : List ℕ) → destinationsFit (network n [] nodeList []) ≡ (allNodes n nodeList && allAscending nodeList)
-unfolding destinationsFit network allNodes allAscending
+pub destinations-halves : (n : ℕ) (nodeList : List ℕ) → destinationsFit n nodeList ≡ (allNodes n nodeList && allAscending nodeList)
+unfolding destinationsFit allNodes allAscending
 destinations-halves n nodeList = refl
 
-pub destination-below : (n : ℕ) (nodeList : List ℕ) → destinationsFit (network n [] nodeList []) ≡ true → (k : ℕ) → k < length nodeList → getD nodeList k 0 < n
+pub destination-below : (n : ℕ) (nodeList : List ℕ) → destinationsFit n nodeList ≡ true → (k : ℕ) → k < length nodeList → getD nodeList k 0 < n
 unfolding allNodes
 destination-below n nodeList fit k h =
     ltb-true _ _ (all-elim (length nodeList) (λ i. ltb (getD nodeList i 0) n) (and-left (allNodes n nodeList) (allAscending nodeList) (sym (destinations-halves n nodeList) ∙ fit)) k h)
@@ -93,21 +89,21 @@ pub fourth-fit : (rows : List (List ℕ)) → AllFourth rows → powersFit rows 
 unfolding powersFit powerTest
 fourth-fit rows fourth = all-intro (length rows) (powerTest rows) (λ l h. rw (fourth l h))
 
--- Question 19 is a test of each byte.
-unfoldable pub closedTest : List ℕ → ℕ → Bool
-closedTest closed j = leb (getD closed j 0) 1
+-- Questions 19 and 23 are a test of each byte.
+unfoldable pub markTest : List ℕ → ℕ → Bool
+markTest bytes i = leb (getD bytes i 0) 1
 
-pub closed-all : (closed : List ℕ) → closedFit closed ≡ all (length closed) (closedTest closed)
-unfolding closedFit closedByte closedTest
-closed-all closed = refl
+pub marks-all : (bytes : List ℕ) → marksFit bytes ≡ all (length bytes) (markTest bytes)
+unfolding marksFit markByte markTest
+marks-all bytes = refl
 
--- Question 9 is a test of each destination.
+-- Question 9 is a test of each commodity.
 unfoldable pub withinTest : ℕ → List ℕ → List ℕ → ℕ → Bool
-withinTest n nodeList entries k = eqb (getD entries (k * n + getD nodeList k 0) 0) 0
+withinTest n commodities entries k = eqb (getD entries (k * n + nodeOf (getD commodities k 0)) 0) 0
 
-pub within-all : (n : ℕ) (nodeList entries : List ℕ) → noTripsWithin (network n [] nodeList entries) ≡ all (length nodeList) (withinTest n nodeList entries)
+pub within-all : (n : ℕ) (commodities entries : List ℕ) → noTripsWithin (network n [] commodities entries) ≡ all (length commodities) (withinTest n commodities entries)
 unfolding noTripsWithin network withinTest
-within-all n nodeList entries = refl
+within-all n commodities entries = refl
 
 -- Question 6, passed, says that every link's ends are nodes.
 pub record Ends (n : ℕ) (rows : List (List ℕ)) : Type 0 where

@@ -11,27 +11,29 @@ use lib.Dec.{eqb}
 use lib.ListN.{getD, length, take, drop, set, replicate, length-take, length-drop, length-set, getD-replicate, length-replicate, List·getD-eq-default}
 use lib.Seq.{getD-take, getD-drop, getD-set-same, getD-set-other}
 use borrow.Author.Tests.{eq-eqb, ne-eqb, eqb-true, lt-ltb, le-ltb}
-use Rattle.study.specs.Fields.{closedByte}
+use Rattle.study.specs.Fields.{markByte}
 use Rattle.theory.specs.Finite.{all, tabulate}
 use Rattle.theory.specs.Marks.{marked, onlyNode, nodesBelow, union, common, lowestUnvisited}
-use Rattle.theory.specs.Study.{tail, head, closed, mayUse, network}
+use Rattle.theory.specs.Study.{tail, head, closed, nodeOf, ofLorries, barredTo, mayUse, network}
 use Rattle.theory.specs.Laws.Cases.{either, on-equal, on-test, true-false}
 use Rattle.theory.specs.Laws.Finite.{order, below-suc, all-cong, all-intro, all-refuted, and-left, and-right, getD-tabulate, tabulate-cong}
 use Rattle.theory.specs.Laws.Marks.{marked-none, marked-only, marked-own, marked-below, marked-union, union-left, union-right, union-either, common-both, next-unvisited, none-unvisited}
 use Rattle.theory.specs.Laws.Paths.{WellFormed}
-use Rattle.theory.specs.Laws.Permission.{may-open, may-own, may-closed}
+use Rattle.theory.specs.Laws.Permission.{not-barred, may-open, may-own, may-closed}
 use Rattle.theory.specs.Laws.Reach.{Reaches, marked-has-distance}
 use Rattle.calls.specs.Questions.{hasPath, tripsReach}
 use Rattle.questions.specs.Reach.{toward, toDestination, PathTo, AllOpen, markedTest, allMarked, row, rowPlace, rowOf, Room, NoMarks, Marks, Tails, tailsInto, IsWalk, WalkTo, Closure, Rows, Grown, Searching, rowAt, wholeRow, allReached, nextNode, Filled, Reaching, Reached, Passed}
+use Rattle.calls.specs.Study.{asMark}
 use Rattle.questions.specs.Sized.{ClosedHeads}
 use Rattle.questions.specs.Laws.Questions.{Ends}
 
 -- Where there are no closed bytes every head is open.
 pub none-closed : (links : List (List ℕ)) (closedBytes : List ℕ) → ClosedHeads links closedBytes → length closedBytes ≡ 0 → AllOpen links
-unfolding closedByte
+unfolding markByte
 none-closed links closedBytes heads none l below shut =
     let past = List·getD-eq-default closedBytes 0 {n = head links l} (omega arith) in
-    omega (arith, heads l below)
+    let is-open : closed links l ≡ 0 = heads l below ∙ ap asMark past in
+    omega arith
 
 -- A row past the last marks no node.
 row-past : (rows : List (List ℕ)) (i : ℕ) → length rows ≤ i → row rows i ≡ []
@@ -102,27 +104,39 @@ set-marks rows i j pairs there here =
     }
 
 -- The tails marked by no links,
-module _ {nodes : ℕ} {links rows : List (List ℕ)} where
-  pub tails-none : NoMarks rows → Tails nodes links 0 rows
+module _ {nodes : ℕ} {links : List (List ℕ)} {lorries : Bool} {rows : List (List ℕ)} where
+  pub tails-none : NoMarks rows → Tails nodes links lorries 0 rows
   tails-none none =
       record {
         pairs = none .pairs;
-        all = λ k h. absurd (omega arith);
+        all = λ k h on. absurd (omega arith);
         only = λ i j e. true-false e (none .none i j);
       }
 
-  -- and by one link more.
-  pub tails-more : {l : ℕ} {after : List (List ℕ)} → Tails nodes links l rows → Marks (rowOf nodes links l) (tail links l) rows after → Tails nodes links (l + 1) after
-  tails-more {l} tails marks =
+  -- by one link more that the class is barred from,
+  pub tails-barred : {l : ℕ} → Tails nodes links lorries l rows → barredTo links lorries l ≡ true → Tails nodes links lorries (l + 1) rows
+  tails-barred {l} tails off =
+      record {
+        pairs = tails .pairs;
+        all = λ k h on. ⊎-elim
+            (λ p. tails .all k p on)
+            (λ e. true-false off (rw e at on))
+            (below-suc l k (omega arith));
+        only = λ i j e. let (k, h, on, at-tail, place) = tails .only i j e in (k, omega arith, on, at-tail, place);
+      }
+
+  -- and by one that it is not barred from.
+  pub tails-more : {l : ℕ} {after : List (List ℕ)} → Tails nodes links lorries l rows → barredTo links lorries l ≡ false → Marks (rowOf nodes links l) (tail links l) rows after → Tails nodes links lorries (l + 1) after
+  tails-more {l} tails here marks =
       record {
         pairs = marks .pairs;
-        all = λ k h. ⊎-elim
-            (λ p. marks .marks (rowOf nodes links k) (tail links k) ∙ rw (tails .all k p))
+        all = λ k h on. ⊎-elim
+            (λ p. marks .marks (rowOf nodes links k) (tail links k) ∙ rw (tails .all k p on))
             (λ e. rw e (marks .marks (rowOf nodes links l) (tail links l) ∙ rw (eq-eqb (rowOf nodes links l) (rowOf nodes links l) refl, eq-eqb (tail links l) (tail links l) refl, or-true)))
             (below-suc l k (omega arith));
         only = λ i j e. ⊎-elim
-            (λ f. let (k, h, at-tail, place) = tails .only i j f in (k, omega arith, at-tail, place))
-            (λ f. (l, omega arith, eqb-true _ _ (and-right (eqb (rowOf nodes links l) i) (eqb (tail links l) j) f), eqb-true _ _ (and-left (eqb (rowOf nodes links l) i) (eqb (tail links l) j) f)))
+            (λ f. let (k, h, on, at-tail, place) = tails .only i j f in (k, omega arith, on, at-tail, place))
+            (λ f. (l, omega arith, here, eqb-true _ _ (and-right (eqb (rowOf nodes links l) i) (eqb (tail links l) j) f), eqb-true _ _ (and-left (eqb (rowOf nodes links l) i) (eqb (tail links l) j) f)))
             (either (marked (row rows i) j) (eqb (rowOf nodes links l) i && eqb (tail links l) j) (sym (marks .marks i j) ∙ e));
       }
 
@@ -153,13 +167,13 @@ module _ {nodes : ℕ} {links : List (List ℕ)} (ends : Ends nodes links) (k : 
       (λ free. let at : head links k ≡ nodes + s = rw (ne-eqb (closed links k) 1 free) at place in let node = ends .head-node k below in absurd (omega arith))
 
 -- The rows that the links have marked can be searched: none is whole yet.
-module _ {nodes : ℕ} {links rows : List (List ℕ)} (ends : Ends nodes links) (tails : Tails nodes links (length links) rows) where
+module _ {nodes : ℕ} {links : List (List ℕ)} {lorries : Bool} {rows : List (List ℕ)} (ends : Ends nodes links) (tails : Tails nodes links lorries (length links) rows) where
   pub rows-first : nodes ≤ 128 → nodes ≤ length rows → Rows nodes (0 ∷ 0 ∷ []) rows
   rows-first few enough =
       record {
         few = few;
         enough = enough;
-        below = λ i j e. let (k, h, at-tail, place) = tails .only i j e in rw (← at-tail) (ends .tail-node k h);
+        below = λ i j e. let (k, h, on, at-tail, place) = tails .only i j e in rw (← at-tail) (ends .tail-node k h);
         closure = λ i e. true-false e (marked-none i);
       }
 
@@ -439,9 +453,9 @@ module _ {trips reached : List ℕ} where
         p .passes j (all-passed j (omega arith) (marked-below (length trips) j ∙ lt-ltb j (length trips) h))))
 
 -- The routing of the search is well formed.
-routing-well-formed : (nodes : ℕ) (links : List (List ℕ)) (s : ℕ) → Ends nodes links → s < nodes → WellFormed (toDestination nodes links s)
+routing-well-formed : (nodes : ℕ) (links : List (List ℕ)) (c : ℕ) → Ends nodes links → nodeOf c < nodes → WellFormed (toDestination nodes links c)
 unfolding network
-routing-well-formed nodes links s ends h =
+routing-well-formed nodes links c ends h =
     record {
       tail-node = ends .tail-node;
       head-node = ends .head-node;
@@ -449,61 +463,67 @@ routing-well-formed nodes links s ends h =
       some-time = λ l p. rw (getD-replicate {A = ℕ} (length links) l 1 0 p) (omega arith);
     }
 
--- What a search to s finds are the nodes with a path to s: over links with open heads to a tail of a link into s.
-module _ (nodes : ℕ) (links rows : List (List ℕ)) (s : ℕ) (ends : Ends nodes links) (here : s < nodes) (tails : Tails nodes links (length links) rows) where
+-- What a search to the destination s of a commodity finds are the nodes with a path to s: over links with open heads, which it is not barred from, to
+-- a tail of a link into s.
+module _ (nodes : ℕ) (links rows : List (List ℕ)) (c : ℕ) (ends : Ends nodes links) (here : nodeOf c < nodes) (tails : Tails nodes links (ofLorries c) (length links) rows) where
   -- A walk to s, or to the other row of s, is a path.
-  walk-path : (e j : ℕ) → (e ≡ s) ⊎ (e ≡ nodes + s) → j < nodes → (walk : List ℕ) → IsWalk rows e j walk → PathTo nodes links s j
+  walk-path : (e j : ℕ) → (e ≡ nodeOf c) ⊎ (e ≡ nodes + nodeOf c) → j < nodes → (walk : List ℕ) → IsWalk rows e j walk → PathTo nodes links c j
   unfolding network
   walk-path e j (inl at) node [] p = ([], p ∙ at)
   walk-path e j (inr at) node [] p = absurd (omega arith)
   walk-path e j at node (i ∷ []) p =
-      let (k, below, at-tail, place) = tails .only i j (p .0) in
-      let at-head : head links k ≡ s = ⊎-elim (λ q. row-open ends k below s here (place ∙ p .1 ∙ q) .1) (λ q. row-closed ends k below s (place ∙ p .1 ∙ q)) at in
-      (k ∷ [], (below, may-own links s k at-head, at-tail, at-head))
+      let (k, below, on, at-tail, place) = tails .only i j (p .0) in
+      let at-head : head links k ≡ nodeOf c =
+      ⊎-elim
+      (λ q. row-open ends k below (nodeOf c) here (place ∙ p .1 ∙ q) .1)
+      (λ q. row-closed ends k below (nodeOf c) (place ∙ p .1 ∙ q))
+      at in
+      (k ∷ [], (below, may-own links c k on at-head, at-tail, at-head))
   walk-path e j at node (i ∷ h ∷ walk) p =
-      let (k, below, at-tail, place) = tails .only i j (p .0) in
-      let (a, q, i-tail, i-place) = tails .only h i (p .1 .0) in
+      let (k, below, on, at-tail, place) = tails .only i j (p .0) in
+      let (a, q, a-on, i-tail, i-place) = tails .only h i (p .1 .0) in
       let i-node : i < nodes = rw (← i-tail) (ends .tail-node a q) in
       let (free, at-head) = row-open ends k below i i-node place in
       let (rest, path) = walk-path e i at i-node (h ∷ walk) (p .1) in
-      (k ∷ rest, (below, may-open links s k free, at-tail, rw at-head path))
+      (k ∷ rest, (below, may-open links c k on free, at-tail, rw at-head path))
 
-  module _ (allOpen : Bool) (all-open : allOpen ≡ true → AllOpen links) {after : List (List ℕ)} (grown : Grown rows after) (reached : List ℕ) (reaching : Reaching after s (tailsInto nodes allOpen after s) reached) (tails-reached : (j : ℕ) → marked (tailsInto nodes allOpen after s) j ≡ true → marked reached j ≡ true) where
+  module _ (allOpen : Bool) (all-open : allOpen ≡ true → AllOpen links) {after : List (List ℕ)} (grown : Grown rows after) (reached : List ℕ) (reaching : Reaching after (nodeOf c) (tailsInto nodes allOpen after (nodeOf c)) reached) (tails-reached : (j : ℕ) → marked (tailsInto nodes allOpen after (nodeOf c)) j ≡ true → marked reached j ≡ true) where
     -- The tails of the links into s are among the tails, which have a walk to a row of s.
-    tail-there : (l : ℕ) → l < length links → head links l ≡ s → marked (tailsInto nodes allOpen after s) (tail links l) ≡ true
+    tail-there : (l : ℕ) → l < length links → barredTo links (ofLorries c) l ≡ false → head links l ≡ nodeOf c → marked (tailsInto nodes allOpen after (nodeOf c)) (tail links l) ≡ true
     unfolding tailsInto rowPlace
-    tail-there l below at-head =
-        let mine = grown .keeps (rowOf nodes links l) (tail links l) (tails .all l below) in
+    tail-there l below on at-head =
+        let mine = grown .keeps (rowOf nodes links l) (tail links l) (tails .all l below on) in
         on-test allOpen
         (λ is-open. rw (is-open) (rw (ne-eqb (closed links l) 1 (all-open is-open l below), at-head) at mine))
         (λ not-open. rw not-open (on-equal (closed links l) 1
-        (λ shut. union-right (row after s) (row after (nodes + s)) (tail links l) (rw (eq-eqb (closed links l) 1 shut, at-head) at mine))
-        (λ free. union-left (row after s) (row after (nodes + s)) (tail links l) (rw (ne-eqb (closed links l) 1 free, at-head) at mine))))
+        (λ shut. union-right (row after (nodeOf c)) (row after (nodes + nodeOf c)) (tail links l) (rw (eq-eqb (closed links l) 1 shut, at-head) at mine))
+        (λ free. union-left (row after (nodeOf c)) (row after (nodes + nodeOf c)) (tail links l) (rw (ne-eqb (closed links l) 1 free, at-head) at mine))))
 
-    tail-walk : (t : ℕ) → marked (tailsInto nodes allOpen after s) t ≡ true → (e : ℕ) × ((e ≡ s) ⊎ (e ≡ nodes + s)) × WalkTo rows e t
+    tail-walk : (t : ℕ) → marked (tailsInto nodes allOpen after (nodeOf c)) t ≡ true → (e : ℕ) × ((e ≡ nodeOf c) ⊎ (e ≡ nodes + nodeOf c)) × WalkTo rows e t
     unfolding tailsInto
     tail-walk t f =
         on-test allOpen
-        (λ is-open. (s, inl refl, grown .walks s t (rw is-open at f)))
+        (λ is-open. (nodeOf c, inl refl, grown .walks (nodeOf c) t (rw is-open at f)))
         (λ not-open. ⊎-elim
-        (λ g. (s, inl refl, grown .walks s t g))
-        (λ g. (nodes + s, inr refl, grown .walks (nodes + s) t g))
-        (union-either (row after s) (row after (nodes + s)) t (rw not-open at f)))
+        (λ g. (nodeOf c, inl refl, grown .walks (nodeOf c) t g))
+        (λ g. (nodes + nodeOf c, inr refl, grown .walks (nodes + nodeOf c) t g))
+        (union-either (row after (nodeOf c)) (row after (nodes + nodeOf c)) t (rw not-open at f)))
 
-    open-row : (l : ℕ) → l < length links → (closed links l ≡ 1 → ⊥) → marked (row after (head links l)) (tail links l) ≡ true
+    open-row : (l : ℕ) → l < length links → barredTo links (ofLorries c) l ≡ false → (closed links l ≡ 1 → ⊥) → marked (row after (head links l)) (tail links l) ≡ true
     unfolding rowPlace
-    open-row l below free = rw (ne-eqb (closed links l) 1 free) at (grown .keeps (rowOf nodes links l) (tail links l) (tails .all l below))
+    open-row l below on free = rw (ne-eqb (closed links l) 1 free) at (grown .keeps (rowOf nodes links l) (tail links l) (tails .all l below on))
 
-    over-link : (l : ℕ) → l < length links → mayUse links s l ≡ true → marked reached (head links l) ≡ true → marked reached (tail links l) ≡ true
+    over-link : (l : ℕ) → l < length links → mayUse links c l ≡ true → marked reached (head links l) ≡ true → marked reached (tail links l) ≡ true
     over-link l below usable e =
-        on-equal (head links l) s
-        (λ at-head. tails-reached (tail links l) (tail-there l below at-head))
-        (λ other. reaching .onward (head links l) (tail links l) e other (open-row l below (λ shut. other (may-closed links s l shut usable))))
+        let on = not-barred links c l usable in
+        on-equal (head links l) (nodeOf c)
+        (λ at-head. tails-reached (tail links l) (tail-there l below on at-head))
+        (λ other. reaching .onward (head links l) (tail links l) e other (open-row l below on (λ shut. other (may-closed links c l shut usable))))
 
-    node-path : (j : ℕ) → j < nodes → marked reached j ≡ true → PathTo nodes links s j
+    node-path : (j : ℕ) → j < nodes → marked reached j ≡ true → PathTo nodes links c j
     unfolding network
     node-path j node f =
-        on-equal j s
+        on-equal j (nodeOf c)
         (λ same. ([], same))
         (λ other.
         let (t, g, (first, p)) = reaching .walks j f other in
@@ -512,44 +532,44 @@ module _ (nodes : ℕ) (links rows : List (List ℕ)) (s : ℕ) (ends : Ends nod
         let (walk, w) = walk-join rows e t j back q rest in
         walk-path e j at node walk w)
 
-    pub search-answer : tabulate nodes (marked reached) ≡ hasPath (toward nodes links s) 0
+    pub search-answer : tabulate nodes (marked reached) ≡ hasPath (toward nodes links c) 0
     unfolding hasPath network
     search-answer =
-        let q = toDestination nodes links s in
+        let q = toDestination nodes links c in
         let reaches : Reaches q (marked reached) = record {
           at-destination = reaching .mine;
           over-link = over-link;
           supported = node-path;
         } in
-        tabulate-cong nodes _ _ (λ j p. marked-has-distance q (routing-well-formed nodes links s ends here) (marked reached) reaches j p)
+        tabulate-cong nodes _ _ (λ j p. marked-has-distance q (routing-well-formed nodes links c ends here) (marked reached) reaches j p)
 
--- Question 11 is a test of each destination, which goes by the links and that destination alone,
+-- Question 11 is a test of each commodity, which goes by the links and that commodity alone,
 unfoldable pub reachTest : ℕ → List (List ℕ) → List ℕ → List ℕ → ℕ → Bool
-reachTest nodes links destinations trips k =
-    let path = hasPath (toward nodes links (getD destinations k 0)) 0 in
+reachTest nodes links commodities trips k =
+    let path = hasPath (toward nodes links (getD commodities k 0)) 0 in
     all nodes (λ j. eqb (getD trips (k * nodes + j) 0) 0 || getD path j true)
 
-pub reach-all : (nodes : ℕ) (links : List (List ℕ)) (destinations trips : List ℕ) → tripsReach (network nodes links destinations trips) ≡ all (length destinations) (reachTest nodes links destinations trips)
+pub reach-all : (nodes : ℕ) (links : List (List ℕ)) (commodities trips : List ℕ) → tripsReach (network nodes links commodities trips) ≡ all (length commodities) (reachTest nodes links commodities trips)
 unfolding tripsReach network hasPath reachTest
-reach-all nodes links destinations trips = refl
+reach-all nodes links commodities trips = refl
 
--- and the nodes that a search finds answer it, by the trips of that destination: the n entries from k * n on.
+-- and the nodes that a search finds answer it, by the trips of that commodity: the n entries from k * n on.
 abbrev tripsTo : ℕ → List ℕ → ℕ → List ℕ
 tripsTo nodes trips k = take (k * nodes + nodes - k * nodes) (drop (k * nodes) trips)
 
-module _ (nodes : ℕ) (destinations trips : List ℕ) (k : ℕ) (below : k < length destinations) (long : length trips ≡ length destinations * nodes) where
+module _ (nodes : ℕ) (commodities trips : List ℕ) (k : ℕ) (below : k < length commodities) (long : length trips ≡ length commodities * nodes) where
   pub trips-there : k * nodes + nodes ≤ length trips
-  trips-there = let before = mul-le-mul-right {m = k + 1} {n = length destinations} nodes (omega arith) in omega arith
+  trips-there = let before = mul-le-mul-right {m = k + 1} {n = length commodities} nodes (omega arith) in omega arith
 
   pub trips-count : length (tripsTo nodes trips k) ≡ nodes
   trips-count = simp (length-take, length-drop) (omega (arith, trips-there))
 
-  pub marks-answer : (links : List (List ℕ)) (marks : List ℕ) → tabulate nodes (marked marks) ≡ hasPath (toward nodes links (getD destinations k 0)) 0 → allMarked (tripsTo nodes trips k) marks ≡ reachTest nodes links destinations trips k
+  pub marks-answer : (links : List (List ℕ)) (marks : List ℕ) → tabulate nodes (marked marks) ≡ hasPath (toward nodes links (getD commodities k 0)) 0 → allMarked (tripsTo nodes trips k) marks ≡ reachTest nodes links commodities trips k
   unfolding allMarked markedTest reachTest
   marks-answer links marks found = rw trips-count (all-cong nodes _ _ (λ j h. rw (entry j h, path j h)))
     where
       entry : (j : ℕ) → j < nodes → getD (tripsTo nodes trips k) j 0 ≡ getD trips (k * nodes + j) 0
       entry j h = getD-take (k * nodes + nodes - k * nodes) (drop (k * nodes) trips) j 0 (omega arith) ∙ getD-drop (k * nodes) trips j 0
 
-      path : (j : ℕ) → j < nodes → marked marks j ≡ getD (hasPath (toward nodes links (getD destinations k 0)) 0) j true
+      path : (j : ℕ) → j < nodes → marked marks j ≡ getD (hasPath (toward nodes links (getD commodities k 0)) 0) j true
       path j h = sym (getD-tabulate nodes (marked marks) true j h) ∙ ap (λ list. getD list j true) found

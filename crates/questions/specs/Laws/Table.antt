@@ -27,17 +27,17 @@ share-most share e = leb-true share 1024 (and-right (leb 1 share) (leb share 102
 pub limit-fits : (share : ℕ) {total : ℕ} → shareFits share ≡ true → total ≤ 65535 → share * total ≤ 67107840
 limit-fits share in-range few = mul-le-mul {n₂ = 1024} {m₂ = 65535} (share-most share in-range) few
 
-module _ (n : ℕ) (links : List (List ℕ)) (destinations trips table : List ℕ) (share : ℕ) where
+module _ (n : ℕ) (links : List (List ℕ)) (commodities trips table : List ℕ) (share : ℕ) where
   abbrev refusal : ℕ
-  refusal = firstNo (shareQuestions (network n links destinations trips) table share)
+  refusal = firstNo (shareQuestions (network n links commodities trips) table share)
 
   pub refused-14 : shareFits share ≡ false → 14 ≡ refusal
   unfolding shareQuestions
   refused-14 e = rw e
 
-  module _ (in-range : shareFits share ≡ true) {total : ℕ} (total-is : total ≡ totalTrips (network n links destinations trips))
-      {totals : List ℕ} (totals-are : totals ≡ padded (length links) (linkTotal (length destinations) (length links) table)) where
-    fits-is : listFits (length links) totals (share * total) ≡ totalsFit (network n links destinations trips) share table
+  module _ (in-range : shareFits share ≡ true) {total : ℕ} (total-is : total ≡ totalTrips (network n links commodities trips))
+      {totals : List ℕ} (totals-are : totals ≡ padded (length links) (linkTotal (length commodities) (length links) table)) where
+    fits-is : listFits (length links) totals (share * total) ≡ totalsFit (network n links commodities trips) share table
     unfolding listFits totalsFit network
     fits-is =
         all-cong (length links) _ _ (λ l h.
@@ -50,19 +50,19 @@ module _ (n : ℕ) (links : List (List ℕ)) (destinations trips table : List �
     refused-15 e = rw (in-range, sym fits-is ∙ e)
 
     module _ (fit : listFits (length links) totals (share * total) ≡ true) where
-      rows-is : rowsConserve n links destinations trips share table ≡ conserves (network n links destinations trips) share table
+      rows-is : rowsConserve n links commodities trips share table ≡ conserves (network n links commodities trips) share table
       unfolding rowsConserve conserves network
       rows-is = refl
 
-      pub refused-16 : rowsConserve n links destinations trips share table ≡ false → 16 ≡ refusal
+      pub refused-16 : rowsConserve n links commodities trips share table ≡ false → 16 ≡ refusal
       unfolding shareQuestions
       refused-16 e = rw (in-range, sym fits-is ∙ fit, sym rows-is ∙ e)
 
-      module _ (conserve : rowsConserve n links destinations trips share table ≡ true) where
-        pub refused-20 : rowsPermit links destinations table ≡ false → 20 ≡ refusal
+      module _ (conserve : rowsConserve n links commodities trips share table ≡ true) where
+        pub refused-20 : rowsPermit links commodities table ≡ false → 20 ≡ refusal
         unfolding shareQuestions
-        refused-20 e = rw (in-range, sym fits-is ∙ fit, sym rows-is ∙ conserve, sym (permits-is n links destinations trips table) ∙ e)
+        refused-20 e = rw (in-range, sym fits-is ∙ fit, sym rows-is ∙ conserve, sym (permits-is n links commodities trips table) ∙ e)
 
-        pub accepted : rowsPermit links destinations table ≡ true → 0 ≡ refusal
+        pub accepted : rowsPermit links commodities table ≡ true → 0 ≡ refusal
         unfolding shareQuestions
-        accepted e = rw (in-range, sym fits-is ∙ fit, sym rows-is ∙ conserve, sym (permits-is n links destinations trips table) ∙ e)
+        accepted e = rw (in-range, sym fits-is ∙ fit, sym rows-is ∙ conserve, sym (permits-is n links commodities trips table) ∙ e)

@@ -57,7 +57,7 @@ curve-room file h {places} are =
     long = le-ltb (length file) 32 (accepted file (h .described .opened) .length-least)
 
 -- So have the parts of such a file.
-pub parts-room : {file : List ℕ} {opening n : ℕ} {linkList : List (List ℕ)} {nodeList entries : List ℕ} → PartsOf file opening n linkList nodeList entries →
+pub parts-room : {file : List ℕ} {opening n : ℕ} {linkList : List (List ℕ)} {commodityList entries : List ℕ} → PartsOf file opening n linkList commodityList entries →
     Passed file → {places : ℕ} → places ≡ curvePlaces file → CurveRoom linkList places
 parts-room {file} parts h are = rw (parts .links-are) (curve-room file h are)
 

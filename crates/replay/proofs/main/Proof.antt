@@ -1,15 +1,17 @@
 -- `replay::main` is safe and ends: at each call the state names parts of the memory, whose lengths do not change.
 use borrow.Author.Needs.{needs}
-use Prim.Native.Nat.{_≤_, _-_}
+use native.Mathlib.Omega.{arith}
+use Prim.Native.Nat.{ℕ, _≤_, _-_}
 use mathlib.Core.Path.{_≡_}
 use lib.ListN.{length}
 use Rattle.replay.specs.State.{Within}
+use Rattle.replay.specs.declared.State.{State}
 use Rattle.replay.proofs.main.Statement.{statement}
 use Rattle.replay.proofs.main.Tie as tie
 
 abbrev Inv-loop : tie.InvT-loop
 Inv-loop file₀ table₀ note₀ bytes₀ state₀ counter₀ file table note bytes state counter =
-    (counter ≤ 1000000) × (length table ≤ 16400) × (length note ≤ 4200) × (length bytes ≡ 65600) × Within (length file) (length table) (length note) (length bytes) state
+    (counter ≤ 1000000) × (length table ≤ 32800) × (length note ≤ 8400) × (length bytes ≡ 131200) × Within (length file) (length table) (length note) (length bytes) state
 
 abbrev μ-loop : tie.MeasureT-loop
 μ-loop file₀ table₀ note₀ bytes₀ state₀ counter₀ file table note bytes state counter = 1000000 - counter
@@ -29,8 +31,18 @@ slice-aggregate-bytes c = search needs
 blank-requires : tie.Need-blank-requires Inv-loop μ-loop
 blank-requires c κs = search needs
 
+-- No memory in use is within memory of any lengths.
+within-none : {file table note bytes : ℕ} {state : State} → (state .file ≡ 0) × (state .table ≡ 0) × (state .note ≡ 0) × (state .output ≡ 0) → Within file table note bytes state
+within-none none =
+    record {
+      file-fits = omega (arith, none .0);
+      table-fits = omega (arith, none .1);
+      note-fits = omega (arith, none .2);
+      output-fits = omega (arith, none .3);
+    }
+
 loop-holds : tie.Need-loop-holds Inv-loop μ-loop
-loop-holds c = search needs
+loop-holds c = (search needs, search needs, search needs, search needs, within-none (c .blank .ensures))
 
 read-next-requires : tie.Need-read-next-requires Inv-loop μ-loop
 read-next-requires c κs = search needs

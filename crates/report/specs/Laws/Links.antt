@@ -5,11 +5,11 @@ use native.Mathlib.Omega.{arith}
 use mathlib.Core.Path.{_≡_, refl, sym, _∙_, ap}
 use mathlib.Core.List.{List}
 use lib.ListN.{length, getD, take}
-use Rattle.study.specs.Sections.{nodes, links, destinations}
+use Rattle.study.specs.Sections.{nodes}
 use Rattle.theory.specs.Network.{Network}
 use Rattle.theory.specs.Flows.{linkTotal, total, times}
 use Rattle.theory.specs.Study.{network}
-use Rattle.calls.specs.Study.{linkRows, destinationNodes, tripEntries, networkOf}
+use Rattle.calls.specs.Study.{linkRows, commodities, tripEntries, networkOf}
 use Rattle.calls.specs.Calls.{tableNumber}
 use Rattle.calls.specs.declared.RunAnswer.{RunAnswer}
 use Rattle.calls.specs.Laws.Questions.{Passed, SharePassed, check-passed, start-both, table-both}
@@ -17,7 +17,7 @@ use Rattle.calls.specs.Laws.Networks.{links-length, share-range, holds-length, 
 use Rattle.calls.specs.Laws.Page.{total-most}
 use Rattle.questions.specs.Sized.{Sized}
 use Rattle.network.specs.Decoded.{Decoded}
-use Rattle.network.specs.Laws.Decoding.{sized, destinations-length}
+use Rattle.network.specs.Laws.Checking.{sized}
 use Rattle.network.specs.declared.decoding.Opening.{Opening}
 use Rattle.travel.specs.Links.{padded, listTime}
 use Rattle.travel.specs.Ranges.{mostFlow, LinksFit, ShareFits, Within, CurveRoom}
@@ -61,24 +61,24 @@ module _ (file table : List ℕ) (share : ℕ) (audited : tableNumber file table
 
   -- The file is decoded.
   module _ {o : Opening} {linkArray : List (List ℕ)} {nodeArray entryArray : List ℕ} (d : Decoded file o linkArray nodeArray entryArray) where
-    -- The table has a row for each destination.
-    pub rows-there : (o .destinations ≤ 32) × (o .links ≤ 512) × (o .destinations * o .links ≤ length table)
+    -- The table has a row for each commodity.
+    pub rows-there : (o .commodities ≤ 64) × (o .links ≤ 512) × (o .commodities * o .links ≤ length table)
     unfolding networkOf network
     rows-there =
-        let few : Sized (nodes file) (linkRows file) (destinationNodes file) (tripEntries file) = sized file in
+        let few : Sized (nodes file) (linkRows file) (commodities file) (tripEntries file) = sized file in
         let long = holds-length g table (start-both file table (table-both file table share audited .0) .1) in
-        rw (d .destinations-are, d .links-are, ← destinations-length file, ← links-length file) (few .few-destinations, few .few-links, long)
+        rw (d .commodities-are, d .links-are, ← links-length file) (few .few-commodities, few .few-links, long)
 
     -- There is room for the lists of all powers.
     pub lists-there : CurveRoom (take (o .links) linkArray) 1540
     lists-there = rw (d .links-held) (room-all (linkRows file) links-fit refl)
 
-    module _ {flows : List ℕ} (flows-are : flows ≡ padded (o .links) (linkTotal (o .destinations) (o .links) table)) where
+    module _ {flows : List ℕ} (flows-are : flows ≡ padded (o .links) (linkTotal (o .commodities) (o .links) table)) where
       flows-held : Holds (length (linkRows file)) (total g table) flows
       unfolding networkOf network
       flows-held =
-          padded-holds (length (linkRows file)) (linkTotal (length (destinationNodes file)) (length (linkRows file)) table)
-          (flows-are ∙ rw (d .destinations-are, d .links-are, destinations-length file, links-length file))
+          padded-holds (length (linkRows file)) (linkTotal (length (commodities file)) (length (linkRows file)) table)
+          (flows-are ∙ rw (d .commodities-are, d .links-are, links-length file))
 
       flows-within : Within (length (linkRows file)) mostFlow flows
       unfolding networkOf network
@@ -101,5 +101,5 @@ module _ (file table : List ℕ) (share : ℕ) (audited : tableNumber file table
           (λ l h. flows-held l (omega (arith, count)))
           (λ l h.
           ap (λ xs. getD xs l 0) timed
-          ∙ times-agree (nodes file) (linkRows file) (destinationNodes file) (tripEntries file) table flows flows-held share l (omega (arith, count)))
+          ∙ times-agree (nodes file) (linkRows file) (commodities file) (tripEntries file) table flows flows-held share l (omega (arith, count)))
           ∙ rw (d .links-are, at-share)

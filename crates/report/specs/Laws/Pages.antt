@@ -14,7 +14,7 @@ use Rattle.calls.specs.Laws.Networks.{links-length}
 use Rattle.calls.specs.Laws.Questions.{both-page}
 use Rattle.calls.specs.Laws.Calls.{page-written}
 use Rattle.calls.specs.Laws.Page.{link-count, length-page}
-use Rattle.network.specs.Laws.Decoding.{sized}
+use Rattle.network.specs.Laws.Checking.{sized}
 use Rattle.report.specs.Respond.{Written}
 use Rattle.report.specs.Laws.Printed.{written-as}
 

@@ -4,11 +4,13 @@ use Prim.Native.Nat.{ℕ, _+_, _<_, _%_}
 use native.Mathlib.Nat.{mod-add-mod}
 use native.Mathlib.Omega.{arith}
 use mathlib.Core.Path.{_≡_, refl, sym, _∙_, ap}
+use mathlib.Core.Bool.{Bool}
 use mathlib.Core.List.{List, []}
 use lib.ListN.{length, getD, set, replicate, length-replicate, getD-replicate, length-set}
 use lib.Seq.{getD-set-same, getD-set-other}
 use Rattle.theory.specs.Study.{head, noLink}
 use Rattle.theory.specs.Laws.Cases.{on-equal}
+use Rattle.search.specs.Given.{classOf}
 use Rattle.search.specs.Chains.{chainOf, Chainable}
 use Rattle.search.specs.Lanes.{EachSearchable, Found}
 use Rattle.search.specs.Laws.Chains.{chain-begins, chain-goes, chain-map}
@@ -33,19 +35,20 @@ module _ {marks : List (List ℕ)} where
 -- A link that is ruled out by the last 16 bits does not fit.
 module _ {nodes : ℕ} {links : List (List ℕ)} {times group : List ℕ} (g : EachSearchable nodes links times group) {table lows : List (List ℕ)}
     (found : Found nodes links times group table) (low : Lows nodes table lows) {j : ℕ} (h : j < nodes) where
-  pub ruled-out-unfit : {i l : ℕ} → i < 8 → RuledOut links times lows j i l → Unfit nodes links times (getD group i 0) j l
-  ruled-out-unfit {i} b at = chain-map at (λ a c differ. unfit g found h b a c (λ same. differ (low-same a c same)))
+  pub ruled-out-unfit : {i l : ℕ} → i < 8 → RuledOut (classOf group) links times lows j i l → Unfit nodes links times (getD group i 0) j l
+  ruled-out-unfit {i} b at =
+      rw (g .one-class i b) (chain-map at (λ a c differ. unfit g found h b a c (λ same. differ (low-same a c same))))
     where
       low-same : (a : ℕ) → a < length links → getD (getD table (head links a) []) i 0 + getD times a 0 ≡ getD (getD table j []) i 0
           → (getD (getD lows (head links a) []) i 0 + getD times a 0) % 65536 ≡ getD (getD lows j []) i 0
       low-same a c same =
-          rw (low .each j h i b, low .each (head links a) (g i b .roads .head-node a c) i b)
+          rw (low .each j h i b, low .each (head links a) (g .each i b .roads .head-node a c) i b)
           (mod-add-mod (getD (getD table (head links a) []) i 0) 65536 (getD times a 0) ∙ ap (λ x. x % 65536) same)
 
 -- The walk,
-module _ {links : List (List ℕ)} (g : Chainable links) {times : List ℕ} {lows : List (List ℕ)} {out : List ℕ} (chain : out ≡ chainOf links 0) {j : ℕ} where
+module _ {lorries : Bool} {links : List (List ℕ)} (g : Chainable links) {times : List ℕ} {lows : List (List ℕ)} {out : List ℕ} (chain : out ≡ chainOf lorries links 0) {j : ℕ} where
   -- begins at the lowest link, with none kept,
-  pub walk-begins : {l : ℕ} → j < 128 → l ≡ getD out j 0 → EachCandidate links times lows j l (replicate 8 noLink)
+  pub walk-begins : {l : ℕ} → j < 128 → l ≡ getD out j 0 → EachCandidate lorries links times lows j l (replicate 8 noLink)
   walk-begins h e =
       record {
         size = length-replicate 8 noLink;
@@ -57,9 +60,9 @@ module _ {links : List (List ℕ)} (g : Chainable links) {times : List ℕ} {low
             };
       }
 
-  module _ {l : ℕ} {row : List ℕ} (at : EachCandidate links times lows j l row) where
+  module _ {l : ℕ} {row : List ℕ} (at : EachCandidate lorries links times lows j l row) where
     -- ends past the last link,
-    pub walk-ends : l ≡ noLink → Candidates links times lows j row
+    pub walk-ends : l ≡ noLink → Candidates lorries links times lows j row
     walk-ends e i b =
         on-equal (getD row i 0) noLink (λ none. rw (none ∙ sym e) (at .each i b .none-yet none)) (at .each i b .found)
 
@@ -72,8 +75,8 @@ module _ {links : List (List ℕ)} (g : Chainable links) {times : List ℕ} {low
 
       -- and goes on from it to a higher one.
       pub walk-goes : {a time : ℕ} {row′ : List ℕ} {l′ : ℕ} → a ≡ head links k → time ≡ getD times k 0 % 65536
-          → RowKept (getD lows j []) (getD lows a []) time l row 8 row′ → l′ ≡ getD out (256 + k) 0
-          → (l < l′) × EachCandidate links times lows j l′ row′
+          → RowKept (getD lows j []) (getD lows a []) time l row 8 row′ → l′ ≡ getD out (384 + k) 0
+          → (l < l′) × EachCandidate lorries links times lows j l′ row′
       walk-goes {a} {time} {row′} {l′} a≡ time≡ kept e =
           let (higher, on) = chain-goes (g .few-links) chain (at .chain) some-link refl k≡ e in (
             higher,
@@ -83,15 +86,15 @@ module _ {links : List (List ℕ)} (g : Chainable links) {times : List ℕ} {low
           given : (i : ℕ) → (getD (getD lows a []) i 0 + time) % 65536 ≡ (getD (getD lows (head links l) []) i 0 + getD times l 0) % 65536
           given i = rw (a≡, time≡, k≡) (omega arith)
 
-          still : (i : ℕ) → i < 8 → getD row′ i 0 ≡ noLink → RuledOut links times lows j i l′
+          still : (i : ℕ) → i < 8 → getD row′ i 0 ≡ noLink → RuledOut lorries links times lows j i l′
           still i b none = on-equal (getD row i 0) noLink passes (λ was. absurd (was (sym (kept .done i b .stays was) ∙ none)))
             where
-              passes : getD row i 0 ≡ noLink → RuledOut links times lows j i l′
+              passes : getD row i 0 ≡ noLink → RuledOut lorries links times lows j i l′
               passes was =
                   chain-goes (g .few-links) chain (at .each i b .none-yet was) some-link
                   (λ same. some-link (sym (kept .done i b .took was (given i ∙ same)) ∙ none)) k≡ e .1
 
-          keeps : (i : ℕ) → i < 8 → (getD row′ i 0 ≡ noLink → ⊥) → RuledOut links times lows j i (getD row′ i 0)
+          keeps : (i : ℕ) → i < 8 → (getD row′ i 0 ≡ noLink → ⊥) → RuledOut lorries links times lows j i (getD row′ i 0)
           keeps i b some =
               on-equal (getD row i 0) noLink
               (λ was. on-equal ((getD (getD lows a []) i 0 + time) % 65536) (getD (getD lows j []) i 0)

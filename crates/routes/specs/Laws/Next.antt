@@ -10,22 +10,22 @@ use lib.Dec.{eqb}
 use borrow.Author.Tests.{eq-eqb, ne-eqb}
 use Rattle.theory.specs.Finite.{first}
 use Rattle.theory.specs.Routes.{Routing, distances, distance, fitsNext, nextLinks}
-use Rattle.theory.specs.Study.{tail, head, closed, mayUse, noLink, linkMark}
-use Rattle.theory.specs.Laws.Cases.{on-equal, on-test, on-option}
+use Rattle.theory.specs.Study.{tail, head, closed, ofLorries, barredTo, mayUse, noLink, linkMark}
+use Rattle.theory.specs.Laws.Cases.{on-equal, on-test, on-option, true-false}
 use Rattle.theory.specs.Laws.Finite.{some-first, none-first}
 use Rattle.theory.specs.Laws.Paths.{WellFormed}
-use Rattle.theory.specs.Laws.Permission.{may-open}
+use Rattle.theory.specs.Laws.Permission.{may-open, not-barred}
 use Rattle.theory.specs.Laws.Distances.{distance-over-link}
 use Rattle.theory.specs.Laws.Next.{fits-through, through-fits, length-next}
 use Rattle.theory.specs.Laws.Padded.{padded-at}
 use Rattle.theory.specs.Laws.Filled.{Filled, filled-is, map-tabulate}
 use Rattle.search.specs.Search.{routingFrom, unreached, mark, marks}
-use Rattle.search.specs.Given.{Searchable}
+use Rattle.search.specs.Given.{Searchable, classOf}
 use Rattle.search.specs.Chains.{chainOf}
 use Rattle.search.specs.Lanes.{EachSearchable, Found}
 use Rattle.search.specs.Laws.Chains.{place-open, place-of-open, chain-goes}
 use Rattle.search.specs.Laws.Found.{well-formed, marks-at}
-use Rattle.search.specs.Laws.Lanes.{lane-at, row-most}
+use Rattle.search.specs.Laws.Lanes.{lane-at, row-most, own-chain}
 use Rattle.routes.specs.Next.{fitting, firstFitting, firstOpen, Unfit}
 use Rattle.routes.specs.Table.{linkMarks}
 
@@ -65,15 +65,15 @@ module _ (q : Routing) (w : WellFormed q) (few : q .nodes ≤ 128) (j : ℕ) (h 
 module _ {nodes : ℕ} {links : List (List ℕ)} {times group : List ℕ} (g : EachSearchable nodes links times group) {table : List (List ℕ)}
     (found : Found nodes links times group table) {k : ℕ} (b : k < 8) where
   mark-is : (i : ℕ) → i < nodes → getD (getD table i []) k 0 ≡ getD (marks (routingFrom nodes links times (getD group k 0))) i 0
-  mark-is i c = sym (lane-at k table i (omega (arith, g k b .roads .few-nodes))) ∙ ap (λ d. getD d i 0) (found .least k b)
+  mark-is i c = sym (lane-at k table i (omega (arith, g .each k b .roads .few-nodes))) ∙ ap (λ d. getD d i 0) (found .least k b)
 
   mark-most : (i : ℕ) → i < nodes → getD (getD table i []) k 0 ≤ unreached
-  mark-most i c = row-most table (found .marked) (omega (arith, g k b .roads .few-nodes)) k b
+  mark-most i c = row-most table (found .marked) (omega (arith, g .each k b .roads .few-nodes)) k b
 
   -- What a link gives is a number of 32 bits.
   pub gives : {i a : ℕ} → i < length links → a ≡ head links i → getD (getD table a []) k 0 + getD times i 0 < 4294967296
   gives {i} {a} c a≡ =
-      let roads = g k b .roads in omega (arith, mark-most a (omega (arith, roads .head-node i c)), roads .short-time i c)
+      let roads = g .each k b .roads in omega (arith, mark-most a (omega (arith, roads .head-node i c)), roads .short-time i c)
 
 -- Which links fit as the next link of node j, to destination k of a group.
 module _ {nodes : ℕ} {links : List (List ℕ)} {times group : List ℕ} (g : EachSearchable nodes links times group) {table : List (List ℕ)}
@@ -83,22 +83,32 @@ module _ {nodes : ℕ} {links : List (List ℕ)} {times group : List ℕ} (g : E
       → fitting nodes links times (getD group k 0) j l ≡ false
   unfolding routingFrom
   unfit l c differ =
-      unequal-unfit (routingFrom nodes links times (getD group k 0)) (well-formed (g k b)) (g k b .roads .few-nodes) j h l c
-      (λ same. differ (omega (arith, mark-is g found b j h, mark-is g found b (head links l) (g k b .roads .head-node l c), same)))
+      unequal-unfit (routingFrom nodes links times (getD group k 0)) (well-formed (g .each k b)) (g .each k b .roads .few-nodes) j h l c
+      (λ same. differ (omega (arith, mark-is g found b j h, mark-is g found b (head links l) (g .each k b .roads .head-node l c), same)))
 
   -- nor does one out of another node.
   pub elsewhere : (l : ℕ) → l < length links → (tail links l ≡ j → ⊥) → fitting nodes links times (getD group k 0) j l ≡ false
   unfolding routingFrom
-  elsewhere l c away = elsewhere-unfit (routingFrom nodes links times (getD group k 0)) (well-formed (g k b)) (g k b .roads .few-nodes) j h l c away
+  elsewhere l c away = elsewhere-unfit (routingFrom nodes links times (getD group k 0)) (well-formed (g .each k b)) (g .each k b .roads .few-nodes) j h l c away
+
+  -- A link that the commodity is barred from does not fit either.
+  barred-unfit : (l : ℕ) → l < length links → barredTo links (ofLorries (getD group k 0)) l ≡ true → fitting nodes links times (getD group k 0) j l ≡ false
+  unfolding routingFrom
+  barred-unfit l c off =
+      on-test (fitting nodes links times (getD group k 0) j l)
+      (λ e.
+      let (y, own, t) = fits-through (routingFrom nodes links times (getD group k 0)) (distances (routingFrom nodes links times (getD group k 0))) j l c e in
+      true-false off (not-barred links (getD group k 0) l (t .usable)))
+      (λ e. e)
 
   -- A link out of the node that may be used and gives the node its mark fits.
   pub fit : (l : ℕ) → l < length links → mayUse links (getD group k 0) l ≡ true → tail links l ≡ j
       → getD (getD table (head links l) []) k 0 + getD times l 0 ≡ getD (getD table j []) k 0 → fitting nodes links times (getD group k 0) j l ≡ true
   unfolding routingFrom
   fit l c may leaves same =
-      equal-fits (routingFrom nodes links times (getD group k 0)) (well-formed (g k b)) (g k b .roads .few-nodes) j h l c may leaves
+      equal-fits (routingFrom nodes links times (getD group k 0)) (well-formed (g .each k b)) (g .each k b .roads .few-nodes) j h l c may leaves
       (omega (arith, mark-is g found b j h, mark-most g found b j h))
-      (omega (arith, mark-is g found b j h, mark-is g found b (head links l) (g k b .roads .head-node l c)))
+      (omega (arith, mark-is g found b j h, mark-is g found b (head links l) (g .each k b .roads .head-node l c)))
 
   -- No lower link with an open head fits.
   lower : {l : ℕ} → Unfit nodes links times (getD group k 0) j l → (i : ℕ) → i < length links → i < l
@@ -107,7 +117,9 @@ module _ {nodes : ℕ} {links : List (List ℕ)} {times group : List ℕ} (g : E
       on-equal (closed links i) 1
       (λ shut. rw (eq-eqb (closed links i) 1 shut))
       (λ is-open. rw (ne-eqb (closed links i) 1 is-open)
-      (on-equal (tail links i) j (λ e. at .passed i c d (place-open links 0 i is-open ∙ e)) (elsewhere i c)))
+      (on-test (barredTo links (ofLorries (getD group k 0)) i)
+      (barred-unfit i c)
+      (λ on. on-equal (tail links i) j (λ e. at .passed i c d (place-open (ofLorries (getD group k 0)) links 0 i on is-open ∙ e)) (elsewhere i c))))
 
   -- The search along the chain of node j
   module _ {l : ℕ} (at : Unfit nodes links times (getD group k 0) j l) where
@@ -115,7 +127,7 @@ module _ {nodes : ℕ} {links : List (List ℕ)} {times group : List ℕ} (g : E
     pub next-none : l ≡ noLink → l ≡ firstOpen nodes links times (getD group k 0) j
     unfolding linkMark
     next-none e =
-        e ∙ ap linkMark (sym (none-first (length links) _ (λ i c. lower at i c (omega (arith, g k b .roads .few-links)))))
+        e ∙ ap linkMark (sym (none-first (length links) _ (λ i c. lower at i c (omega (arith, g .each k b .roads .few-links)))))
 
     module _ (some-link : l ≡ noLink → ⊥) {i : ℕ} (i≡ : i ≡ l) where
       below : i < length links
@@ -124,27 +136,28 @@ module _ {nodes : ℕ} {links : List (List ℕ)} {times group : List ℕ} (g : E
       -- is otherwise at a link of the network,
       pub next-at : (i < length links) × (i < 512) × (head links i < 128)
       next-at =
-          let roads = g k b .roads in (below, omega (arith, below, roads .few-links), omega (arith, roads .head-node i below, roads .few-nodes))
+          let roads = g .each k b .roads in (below, omega (arith, below, roads .few-links), omega (arith, roads .head-node i below, roads .few-nodes))
 
       module _ {a : ℕ} (a≡ : a ≡ head links i) where
         -- ends at one that gives the node its mark,
         pub next-here : getD (getD table a []) k 0 + getD times i 0 ≡ getD (getD table j []) k 0 → l ≡ firstOpen nodes links times (getD group k 0) j
         unfolding linkMark
         next-here same =
-            let roads = g k b .roads in
-            let (is-open, leaves) = place-of-open links 0 i (omega (arith, roads .few-nodes)) (rw (← i≡) at (at .on-chain some-link .1)) in
-            let fits = fit i below (may-open links (getD group k 0) i is-open) leaves (rw (← a≡) same) in
+            let roads = g .each k b .roads in
+            let (on, is-open, leaves) =
+            place-of-open (ofLorries (getD group k 0)) links 0 i (omega (arith, roads .few-nodes)) (rw (← i≡) at (at .on-chain some-link .1)) in
+            let fits = fit i below (may-open links (getD group k 0) i on is-open) leaves (rw (← a≡) same) in
             sym i≡
             ∙ ap linkMark
             (sym (some-first (length links) _ i
             (record { below = below; fits = rw (ne-eqb (closed links i) 1 is-open) fits; lower = λ x c. lower at x (omega (arith, below)) (omega arith) })))
 
         -- and goes on from any other to a higher one.
-        pub next-goes : {out : List ℕ} → out ≡ chainOf links 0 → (getD (getD table a []) k 0 + getD times i 0 ≡ getD (getD table j []) k 0 → ⊥)
-            → {l′ : ℕ} → l′ ≡ getD out (256 + i) 0 → (l < l′) × Unfit nodes links times (getD group k 0) j l′
+        pub next-goes : {out : List ℕ} → out ≡ chainOf (classOf group) links 0 → (getD (getD table a []) k 0 + getD times i 0 ≡ getD (getD table j []) k 0 → ⊥)
+            → {l′ : ℕ} → l′ ≡ getD out (384 + i) 0 → (l < l′) × Unfit nodes links times (getD group k 0) j l′
         next-goes chain differ e =
             let other = unfit i below (λ same. differ (rw a≡ same)) in
-            chain-goes (g k b .roads .few-links) chain at some-link (rw i≡ at other) i≡ e
+            chain-goes (g .each k b .roads .few-links) (own-chain g 0 chain k b) at some-link (rw i≡ at other) i≡ e
 
 -- The marks of the next links, node by node.
 pub link-marks-at : (q : Routing) → q .nodes ≤ 128 → (j : ℕ) → j < 128 → getD (linkMarks q) j 0 ≡ linkMark (getD (nextLinks q) j none)

@@ -13,16 +13,18 @@ use lib.Dec.{eqb, ltb}
 use borrow.Author.Tests.{lt-ltb, le-ltb, ne-eqb}
 use Rattle.theory.specs.Finite.{first}
 use Rattle.theory.specs.Routes.{distances}
-use Rattle.theory.specs.Study.{tail, head, closed, noLink, linkMark}
+use Rattle.theory.specs.Study.{tail, head, closed, nodeOf, ofLorries, noLink, linkMark}
 use Rattle.theory.specs.Laws.Cases.{on-equal, on-option, on-test}
 use Rattle.theory.specs.Laws.Finite.{order, Lowest, first-some, some-first, first-none}
 use Rattle.theory.specs.Laws.Next.{fits-through}
 use Rattle.theory.specs.Laws.Padded.{getD-default}
-use Rattle.theory.specs.Laws.Permission.{may-own, may-closed}
+use Rattle.theory.specs.Laws.Permission.{may-own, may-closed, not-barred}
 use Rattle.search.specs.Search.{routingFrom}
+use Rattle.search.specs.Given.{classOf}
 use Rattle.search.specs.Chains.{endOf, chainOf, Passed}
 use Rattle.search.specs.Lanes.{EachSearchable, Found}
 use Rattle.search.specs.Laws.Chains.{place-closed, place-of-closed, first-cong, chain-begins, chain-goes}
+use Rattle.search.specs.Laws.Lanes.{own-chain}
 use Rattle.routes.specs.Next.{fitting, fittingBelow, firstBelow, Lowered, OwnBelow}
 use Rattle.routes.specs.Table.{linkMarks, OpenRow}
 use Rattle.routes.specs.Laws.Next.{unfit, elsewhere, fit, link-marks-filled}
@@ -59,11 +61,11 @@ first-added n t u l h few holds same =
 
 module _ (nodes : ℕ) (links : List (List ℕ)) (times : List ℕ) (s j : ℕ) where
   -- A link with a closed head that fits leads into the destination.
-  closed-own : (l : ℕ) → l < length links → closed links l ≡ 1 → fitting nodes links times s j l ≡ true → endOf links 1 l ≡ 128 + s
+  closed-own : (l : ℕ) → l < length links → closed links l ≡ 1 → fitting nodes links times s j l ≡ true → endOf (ofLorries s) links 1 l ≡ 128 + nodeOf s
   unfolding routingFrom
   closed-own l c shut e =
       let (y, own, t) = fits-through (routingFrom nodes links times s) (distances (routingFrom nodes links times s)) j l c e in
-      place-closed links 1 l shut ∙ ap (λ i. 128 + i) (may-closed links s l shut (t .usable))
+      place-closed (ofLorries s) links 1 l (not-barred links s l (t .usable)) shut ∙ ap (λ i. 128 + i) (may-closed links s l shut (t .usable))
 
   -- No link is below link 0.
   open-below : (l : ℕ) → (not (eqb (closed links l) 1) && fitting nodes links times s j l) ≡ fittingBelow nodes links times s 0 j l
@@ -71,7 +73,7 @@ module _ (nodes : ℕ) (links : List (List ℕ)) (times : List ℕ) (s j : ℕ) 
 
   -- A link from p on and below p′ makes no difference to the test, if it does not fit where it leads into the closed destination.
   same-below : {p p′ : ℕ} → p ≤ p′ → (l : ℕ) → l < length links
-      → (p ≤ l → l < p′ → endOf links 1 l ≡ 128 + s → fitting nodes links times s j l ≡ false)
+      → (p ≤ l → l < p′ → endOf (ofLorries s) links 1 l ≡ 128 + nodeOf s → fitting nodes links times s j l ≡ false)
       → fittingBelow nodes links times s p j l ≡ fittingBelow nodes links times s p′ j l
   same-below {p} {p′} up l c apart =
       ⊎-elim
@@ -89,16 +91,16 @@ module _ (nodes : ℕ) (links : List (List ℕ)) (times : List ℕ) (s j : ℕ) 
           (λ is-open. rw (ne-eqb (closed links l) 1 is-open, or-true (ltb l p), or-true (ltb l p′)))
 
 module _ {nodes : ℕ} {links : List (List ℕ)} {times group : List ℕ} (g : EachSearchable nodes links times group) {table : List (List ℕ)}
-    (found : Found nodes links times group table) {k : ℕ} (b : k < 8) {into : List ℕ} (chain : into ≡ chainOf links 1) where
+    (found : Found nodes links times group table) {k : ℕ} (b : k < 8) {into : List ℕ} (chain : into ≡ chainOf (classOf group) links 1) where
   -- The walk begins with the first fitting links with open heads,
-  pub own-begins : {row : List ℕ} {place l : ℕ} → OpenRow nodes links times (getD group k 0) nodes row → place ≡ 128 + getD group k 0
+  pub own-begins : {row : List ℕ} {place l : ℕ} → OpenRow nodes links times (getD group k 0) nodes row → place ≡ 128 + nodeOf (getD group k 0)
       → l ≡ getD into place 0 → OwnBelow nodes links times (getD group k 0) l row
   own-begins {row} {place} {l} w place≡ e =
-      let inside : 128 + getD group k 0 < 256 = omega (arith, g k b .destination-node, g k b .roads .few-nodes) in
-      let first-link : l ≡ getD into (128 + getD group k 0) 0 = rw place≡ at e in
-      let none-before : Passed links 1 (128 + getD group k 0) (λ a. ⊥) l = chain-begins (g k b .roads .few-links) chain inside first-link in
+      let inside : 128 + nodeOf (getD group k 0) < 384 = omega (arith, g .each k b .destination-node, g .each k b .roads .few-nodes) in
+      let first-link : l ≡ getD into (128 + nodeOf (getD group k 0)) 0 = rw place≡ at e in
+      let none-before : Passed (ofLorries (getD group k 0)) links 1 (128 + nodeOf (getD group k 0)) (λ a. ⊥) l = chain-begins (g .each k b .roads .few-links) (own-chain g 1 chain k b) inside first-link in
       record {
-        chain = chain-begins (g k b .roads .few-links) chain inside first-link;
+        chain = chain-begins (g .each k b .roads .few-links) (own-chain g 1 chain k b) inside first-link;
         filled =
             record {
               long = w .long;
@@ -116,12 +118,12 @@ module _ {nodes : ℕ} {links : List (List ℕ)} {times group : List ℕ} (g : E
     -- ends with the first of all fitting links,
     pub own-ends : l ≡ noLink → row ≡ linkMarks (routingFrom nodes links times (getD group k 0))
     own-ends e =
-        link-marks-filled (g k b)
+        link-marks-filled (g .each k b)
         (record {
           long = at .filled .long;
           front = λ j h.
               at .filled .front j h
-              ∙ ap linkMark (first-cong (length links) _ _ (λ a c. rw (lt-ltb a l (omega (arith, g k b .roads .few-links)))));
+              ∙ ap linkMark (first-cong (length links) _ _ (λ a c. rw (lt-ltb a l (omega (arith, g .each k b .roads .few-links)))));
           rest = at .filled .rest;
         })
 
@@ -132,16 +134,16 @@ module _ {nodes : ℕ} {links : List (List ℕ)} {times group : List ℕ} (g : E
       -- is otherwise at a link of the network,
       pub own-at : (i < length links) × (i < 512) × (tail links i < nodes) × (head links i < nodes)
       own-at =
-          let roads = g k b .roads in (below, omega (arith, below, roads .few-links), roads .tail-node i below, roads .head-node i below)
+          let roads = g .each k b .roads in (below, omega (arith, below, roads .few-links), roads .tail-node i below, roads .head-node i below)
 
       -- and goes on to a higher one.
       pub own-goes : {t a r l′ : ℕ} → t ≡ tail links i → a ≡ head links i
-          → Lowered (getD row t 0) (getD (getD table a []) k 0 + getD times i 0) (getD (getD table t []) k 0) l r → l′ ≡ getD into (256 + i) 0
+          → Lowered (getD row t 0) (getD (getD table a []) k 0 + getD times i 0) (getD (getD table t []) k 0) l r → l′ ≡ getD into (384 + i) 0
           → (l < l′) × OwnBelow nodes links times (getD group k 0) l′ (set row t r)
       own-goes {t} {a} {r} {l′} t≡ a≡ lowered e = (
         higher,
         record {
-          chain = chain-goes (g k b .roads .few-links) chain (at .chain) some-link refl i≡ e .1;
+          chain = chain-goes (g .each k b .roads .few-links) (own-chain g 1 chain k b) (at .chain) some-link refl i≡ e .1;
           filled =
               record {
                 long = length-set row t r ∙ at .filled .long;
@@ -154,19 +156,19 @@ module _ {nodes : ℕ} {links : List (List ℕ)} {times group : List ℕ} (g : E
           s : ℕ
           s = getD group k 0
 
-          onward : (l < l′) × Passed links 1 (128 + s) (λ x. x ≤ l) l′
+          onward : (l < l′) × Passed (ofLorries s) links 1 (128 + nodeOf s) (λ x. x ≤ l) l′
           onward =
-              chain-goes (g k b .roads .few-links) chain
+              chain-goes (g .each k b .roads .few-links) (own-chain g 1 chain k b)
               (record { on-chain = at .chain .on-chain; passed = λ x c d on. omega arith }) some-link (le-refl l) i≡ e
 
           higher : l < l′
           higher = onward .0
 
           tail-node : t < nodes
-          tail-node = omega (arith, g k b .roads .tail-node i below)
+          tail-node = omega (arith, g .each k b .roads .tail-node i below)
 
           inside : t < length row
-          inside = omega (arith, tail-node, at .filled .long, g k b .roads .few-nodes)
+          inside = omega (arith, tail-node, at .filled .long, g .each k b .roads .few-nodes)
 
           -- Other links than this one do not count.
           others : (j x : ℕ) → x < length links → (x ≡ l → ⊥) → fittingBelow nodes links times s l j x ≡ fittingBelow nodes links times s l′ j x
@@ -191,13 +193,16 @@ module _ {nodes : ℕ} {links : List (List ℕ)} {times group : List ℕ} (g : E
           took : fitting nodes links times s t l ≡ true → min (firstBelow nodes links times s l t) l ≡ firstBelow nodes links times s l′ t
           took fits =
               sym (first-added (length links) (fittingBelow nodes links times s l t) (fittingBelow nodes links times s l′ t) l (omega (arith, below))
-              (omega (arith, below, g k b .roads .few-links)) (rw (lt-ltb l l′ higher) fits) (others t))
+              (omega (arith, below, g .each k b .roads .few-links)) (rw (lt-ltb l l′ higher) fits) (others t))
 
           usable-fits : getD (getD table a []) k 0 + getD times i 0 ≡ getD (getD table t []) k 0 → fitting nodes links times s t l ≡ true
           usable-fits same =
-              let roads = g k b .roads in
-              let own = place-of-closed links 1 i (omega (arith, roads .head-node i below, roads .few-nodes)) (rw (← i≡) at (at .chain .on-chain some-link .1)) .1 in
-              rw i≡ at (fit g found tail-node b i below (may-own links s i own) (sym t≡) (rw (← a≡) same))
+              let roads = g .each k b .roads in
+              let inside : head links i < 128 = omega (arith, roads .head-node i below, roads .few-nodes) in
+              let (on, shut, own) =
+              place-of-closed (ofLorries s) links 1 i (omega (arith, g .each k b .destination-node, roads .few-nodes)) inside
+              (rw (← i≡) at (at .chain .on-chain some-link .1)) in
+              rw i≡ at (fit g found tail-node b i below (may-own links s i on own) (sym t≡) (rw (← a≡) same))
 
           here : r ≡ firstBelow nodes links times s l′ t
           here =

@@ -1,6 +1,6 @@
 -- The table of next links: how its rows are written.
-use Prim.Native.Nat.{ℕ, _+_, _*_, _-_, _/_, _%_, _≤_, _<_, min}
-use native.Mathlib.Nat.{div-add-mod', le-div-iff-mul-le, div-lt-iff-lt-mul, mod-lt, mul-le-mul-right}
+use Prim.Native.Nat.{ℕ, _+_, _*_, _-_, _≤_, _<_, min}
+use native.Mathlib.Nat.{mul-le-mul-right}
 use native.Mathlib.Omega.{arith}
 use mathlib.Core.Path.{_≡_, refl, _∙_, ap}
 use mathlib.Core.List.{List, []}
@@ -18,10 +18,10 @@ use Rattle.routes.specs.Table.{linkMarks, noLinks, Nexts, RowsPut, Group
 
 -- Rows are written one by one.
 module _ {Put : ℕ → List ℕ → Type 0} {table₀ : List (List ℕ)} {first : ℕ} where
-  pub rows-none : length table₀ ≡ 32 → RowsPut Put table₀ first first table₀
-  rows-none size = record { size = size; put = λ q b c. absurd (omega arith); rest = λ q off. refl }
+  pub rows-none : RowsPut Put table₀ first first table₀
+  rows-none = record { size = refl; put = λ q b c. absurd (omega arith); rest = λ q off. refl }
 
-  pub rows-more : {k : ℕ} {table : List (List ℕ)} (row : List ℕ) → k < 32 → Put k row → first ≤ k → RowsPut Put table₀ first k table
+  pub rows-more : {k : ℕ} {table : List (List ℕ)} (row : List ℕ) → k < length table₀ → Put k row → first ≤ k → RowsPut Put table₀ first k table
       → RowsPut Put table₀ first (k + 1) (set table k row)
   rows-more {k} {table} row h new from w =
       record {
@@ -41,7 +41,7 @@ module _ {Put : ℕ → List ℕ → Type 0} {table₀ : List (List ℕ)} {first
       → RowsPut Put table k past table′ → RowsPut Put table₀ first past table′
   rows-join {k} w low high v =
       record {
-        size = v .size;
+        size = v .size ∙ w .size;
         put = λ q b c. ⊎-elim (λ d. rw (v .rest q (λ e f. omega arith)) (w .put q b d)) (λ d. v .put q d c) (order q k);
         rest = λ q off. v .rest q (λ b c. off (omega arith) c) ∙ w .rest q (λ b c. off b (omega arith));
       }
@@ -49,7 +49,7 @@ module _ {Put : ℕ → List ℕ → Type 0} {table₀ : List (List ℕ)} {first
   -- or over what was written there before.
   pub rows-over : {Old : ℕ → List ℕ → Type 0} {k : ℕ} {table table′ : List (List ℕ)} → RowsPut Old table₀ first k table
       → RowsPut Put table first k table′ → RowsPut Put table₀ first k table′
-  rows-over w v = record { size = v .size; put = v .put; rest = λ q off. v .rest q off ∙ w .rest q off }
+  rows-over w v = record { size = v .size ∙ w .size; put = v .put; rest = λ q off. v .rest q off ∙ w .rest q off }
 
   -- Rows that are as `Old` says are as `Put` says, where one follows from the other for each.
   pub rows-are : {Old : ℕ → List ℕ → Type 0} {k : ℕ} {table : List (List ℕ)}
@@ -58,8 +58,8 @@ module _ {Put : ℕ → List ℕ → Type 0} {table₀ : List (List ℕ)} {first
 
 -- The groups are done one after the other: none at first, then one more, and all in the end.
 module _ {Put : ℕ → List ℕ → Type 0} {table₀ : List (List ℕ)} {p : ℕ} where
-  pub groups-none : length table₀ ≡ 32 → GroupsPut Put table₀ p 0 table₀
-  groups-none size = let none : min 0 p ≡ 0 = omega arith in record { begins = refl; rows = rw none (rows-none size) }
+  pub groups-none : GroupsPut Put table₀ p 0 table₀
+  groups-none = let none : min 0 p ≡ 0 = omega arith in record { begins = refl; rows = rw none rows-none }
 
   pub groups-more : {first past : ℕ} {table table′ : List (List ℕ)} → GroupsPut Put table₀ p first table → first < p → past ≡ min (first + 8) p
       → RowsPut Put table first past table′ → GroupsPut Put table₀ p (first + 8) table′
@@ -73,26 +73,18 @@ module _ {Put : ℕ → List ℕ → Type 0} {table₀ : List (List ℕ)} {p : �
 -- The links of all nodes to the destinations of a group are written node by node.
 module _ {nodes : ℕ} {links : List (List ℕ)} {times : List ℕ} (group : List ℕ) (g : EachSearchable nodes links times group) {table₀ : List (List ℕ)}
     {first past : ℕ} where
-  pub put-none : length table₀ ≡ 32 → RowsEmpty first past table₀ → OpenPut nodes links times group 0 table₀ first past table₀
+  pub put-none : RowsEmpty first past table₀ → OpenPut nodes links times group 0 table₀ first past table₀
   unfolding noLinks
-  put-none size empty = record { size = size; put = λ q b c. rw (empty q b c) filled-none; rest = λ q off. refl }
+  put-none empty = record { size = refl; put = λ q b c. rw (empty q b c) filled-none; rest = λ q off. refl }
 
   pub put-more : {j : ℕ} {table table′ : List (List ℕ)} → OpenPut nodes links times group j table₀ first past table → j < 128
       → NodePut nodes links times group j table first past table′ → OpenPut nodes links times group (j + 1) table₀ first past table′
   put-more w h v =
       record {
-        size = v .size;
+        size = v .size ∙ w .size;
         put = λ q b c. rw (v .put q b c) (filled-more h refl (w .put q b c));
         rest = λ q off. v .rest q off ∙ w .rest q off;
       }
-
--- Among the trips to destinations to which nobody goes each number is 0.
-pub unused-at : (nodes : ℕ) (trips : List ℕ) {first past i : ℕ} → first * nodes ≤ i → i < past * nodes → Unused nodes trips first past
-    → getD trips i 0 ≡ 0
-unused-at nodes trips {first} {past} {i} low high nobody =
-    let some-node : 0 < nodes = on-equal nodes 0 (λ none. absurd (omega (arith, rw none at high))) (λ some. omega (arith, some)) in
-    rw (div-add-mod' i nodes)
-    at (nobody (i / nodes) (le-div-iff-mul-le some-node .1 low) (div-lt-iff-lt-mul some-node .1 high) (i % nodes) (mod-lt i some-node))
 
 -- A group of destinations, which are those from `first` on and below `past`.
 module _ {nodes : ℕ} {links : List (List ℕ)} {destinations times : List ℕ} (g : AllSearchable nodes links destinations times) {first past : ℕ}
@@ -100,6 +92,10 @@ module _ {nodes : ℕ} {links : List (List ℕ)} {destinations times : List ℕ}
   -- It has at most eight,
   pub group-span : (first ≤ past) × (past ≤ first + 8) × (past ≤ 32)
   group-span = (omega (arith, inside, past≡), omega (arith, past≡), omega (arith, past≡, g .few-destinations))
+
+  -- which have their rows in a table with a row for each destination,
+  pub span-rows : {rows : ℕ} → length destinations ≤ rows → past ≤ rows
+  span-rows room = omega (arith, past≡)
 
   -- and its trips are among all trips.
   pub trips-within : {size : ℕ} → size ≡ length destinations * nodes → (nodes ≤ 128) × (first ≤ past) × (past ≤ 32) × (past * nodes ≤ size)
@@ -144,7 +140,7 @@ module _ {nodes : ℕ} {links : List (List ℕ)} {destinations times : List ℕ}
     all-kept found somebody =
         groups-more w inside past≡
         (record {
-          size = w .rows .size;
+          size = refl;
           put = λ q b c.
               w .rows .rest q (λ e d. omega arith)
               ∙ ⊎-elim (λ e. e)

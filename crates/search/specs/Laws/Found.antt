@@ -9,7 +9,7 @@ use mathlib.Core.Option.{none, some, Option·some-injective}
 use lib.ListN.{length, getD, List·getD-eq-default}
 use lib.Dec.{ltb}
 use borrow.Author.Tests.{lt-ltb, ltb-true, le-ltb}
-use Rattle.theory.specs.Study.{tail, head, mayUse}
+use Rattle.theory.specs.Study.{tail, head, nodeOf, mayUse}
 use Rattle.theory.specs.Routes.{Routing, distances, distance}
 use Rattle.theory.specs.Laws.Cases.{on-test, none-some}
 use Rattle.theory.specs.Laws.Finite.{order, sum-bound}
@@ -74,7 +74,7 @@ module _ {nodes : ℕ} {links : List (List ℕ)} {times : List ℕ} {s : ℕ} (g
         let fits : getD d (tail links l) 0 < unreached = omega (arith, g .roads .short-time l h, reached-few d) in
         (getD d (tail links l) 0, some-distance (getD d (tail links l) 0) fits, omega arith)
 
-    attained : (j y : ℕ) → j < nodes → (j ≡ s → ⊥) → distanceOf (getD d j 0) ≡ some y
+    attained : (j y : ℕ) → j < nodes → (j ≡ nodeOf s → ⊥) → distanceOf (getD d j 0) ≡ some y
         → (l : ℕ) × Through (routingFrom nodes links times s) (λ i. distanceOf (getD d i 0)) j y l
     unfolding routingFrom
     attained j y h away e =

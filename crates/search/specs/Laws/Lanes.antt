@@ -11,9 +11,9 @@ use borrow.Author.Count.{below-more}
 use Rattle.theory.specs.Finite.{sum}
 use Rattle.theory.specs.Laws.Cases.{on-equal}
 use Rattle.theory.specs.Laws.Finite.{below-suc, sum-mono, length-tabulate, getD-tabulate}
-use Rattle.theory.specs.Study.{tail, noLink}
+use Rattle.theory.specs.Study.{tail, nodeOf, ofLorries, noLink}
 use Rattle.search.specs.Search.{unreached}
-use Rattle.search.specs.Given.{longest}
+use Rattle.search.specs.Given.{longest, classOf}
 use Rattle.search.specs.Chains.{chainOf}
 use Rattle.search.specs.Rows.{Worked}
 use Rattle.search.specs.Marks.{allUnreached, total, Hands, Entered}
@@ -116,16 +116,21 @@ sum-less (suc n) f g i h most less =
     (below-suc n i h)
 
 module _ {nodes : ℕ} {links : List (List ℕ)} {times group : List ℕ} (g : EachSearchable nodes links times group) where
+  -- The chains of the group are those of the class of each destination.
+  pub own-chain : (end : ℕ) {chain : List ℕ} → chain ≡ chainOf (classOf group) links end → (i : ℕ) → i < 8
+      → chain ≡ chainOf (ofLorries (getD group i 0)) links end
+  own-chain end e i b = e ∙ ap (λ lorries. chainOf lorries links end) (sym (g .one-class i b))
+
   -- A scan of a place begins with no link relaxed,
-  module _ {into : List ℕ} (chain : into ≡ chainOf links 1) {place : ℕ} {ahead : List ℕ} {table₀ : List (List ℕ)} where
-    pub each-begins : {l : ℕ} → EachSearching nodes links times group table₀ → EachHands nodes links times group place ahead table₀ → place < 256
+  module _ {into : List ℕ} (chain : into ≡ chainOf (classOf group) links 1) {place : ℕ} {ahead : List ℕ} {table₀ : List (List ℕ)} where
+    pub each-begins : {l : ℕ} → EachSearching nodes links times group table₀ → EachHands nodes links times group place ahead table₀ → place < 384
         → l ≡ getD into place 0 → EachScanning nodes links times group place ahead table₀ table₀ l
-    each-begins w hands h e = record { shaped = w .shaped; each = λ i b. scan-begins (g i b) chain (w .each i b) (hands .each i b) h e }
+    each-begins w hands h e = record { shaped = w .shaped; each = λ i b. scan-begins (g .each i b) (own-chain 1 chain i b) (w .each i b) (hands .each i b) h e }
 
     module _ {table : List (List ℕ)} {l : ℕ} (at : EachScanning nodes links times group place ahead table₀ table l) where
       -- ends past the last,
       pub each-ends : l ≡ noLink → EachScanned nodes links times group place ahead table₀ table
-      each-ends e = record { shaped = at .shaped; each = λ i b. scan-ends (g i b) chain (at .each i b) e }
+      each-ends e = record { shaped = at .shaped; each = λ i b. scan-ends (g .each i b) (own-chain 1 chain i b) (at .each i b) e }
 
       pub each-marked : Marked table
       each-marked i h = at .each i h .searching .marked
@@ -135,29 +140,29 @@ module _ {nodes : ℕ} {links : List (List ℕ)} {times group : List ℕ} (g : E
         pub each-at : (a < length links) × (a < 512) × (tail links a < 128) × (getD times a 0 ≤ longest)
         each-at =
             let b : 0 < 8 = omega arith in
-            let (below, tail-node) = scan-at (g 0 b) chain (at .each 0 b) some-link a≡ in
-            (below, omega (arith, g 0 b .roads .few-links), tail-node, g 0 b .roads .short-time a below)
+            let (below, tail-node) = scan-at (g .each 0 b) (own-chain 1 chain 0 b) (at .each 0 b) some-link a≡ in
+            (below, omega (arith, g .each 0 b .roads .few-links), tail-node, g .each 0 b .roads .short-time a below)
 
         -- and goes on to a higher one.
         pub each-goes : {t : ℕ} {table′ : List (List ℕ)} {l′ : ℕ} → t ≡ tail links a → EachRelaxed table table′ t ahead (getD times a 0)
-            → l′ ≡ getD into (256 + a) 0 → (l < l′) × EachScanning nodes links times group place ahead table₀ table′ l′
+            → l′ ≡ getD into (384 + a) 0 → (l < l′) × EachScanning nodes links times group place ahead table₀ table′ l′
         each-goes t≡ r l≡ =
             let b : 0 < 8 = omega arith in (
-              scan-goes (g 0 b) chain (at .each 0 b) some-link a≡ t≡ (r .each 0 b) l≡ .0,
+              scan-goes (g .each 0 b) (own-chain 1 chain 0 b) (at .each 0 b) some-link a≡ t≡ (r .each 0 b) l≡ .0,
               record {
                 shaped = r .shaped;
-                each = λ i b. scan-goes (g i b) chain (at .each i b) some-link a≡ t≡ (r .each i b) l≡ .1;
+                each = λ i b. scan-goes (g .each i b) (own-chain 1 chain i b) (at .each i b) some-link a≡ t≡ (r .each i b) l≡ .1;
               },
             )
 
   -- An open node hands on its marks,
   pub each-hands : {table : List (List ℕ)} {k : ℕ} → k < nodes → EachHands nodes links times group k (getD table k []) table
   each-hands {table} {k} h =
-      record { each = λ i b. hands-open (g i b) h (sym (lane-at i table k (omega (arith, g i b .roads .few-nodes)))) }
+      record { each = λ i b. hands-open (g .each i b) h (sym (lane-at i table k (omega (arith, g .each i b .roads .few-nodes)))) }
 
   -- and the links into a closed destination of the group hand on its own.
   module _ {k : ℕ} (h : k < 8) {table : List (List ℕ)} (w : EachEntered nodes links times group k table) where
-    pub enter-hands : {s : ℕ} {ahead : List ℕ} → s ≡ getD group k 0 → ahead ≡ set (replicate 8 unreached) k 0
+    pub enter-hands : {s : ℕ} {ahead : List ℕ} → s ≡ nodeOf (getD group k 0) → ahead ≡ set (replicate 8 unreached) k 0
         → EachHands nodes links times group (128 + s) ahead table
     enter-hands {s} {ahead} s≡ ahead≡ =
         record {
@@ -167,24 +172,24 @@ module _ {nodes : ℕ} {links : List (List ℕ)} {times group : List ℕ} (g : E
         own : (i : ℕ) → (b : i < 8) → i ≡ k → Hands nodes links times (getD group i 0) (128 + s) (getD ahead i 0) (lane i table)
         own i b e =
             let mark : getD ahead i 0 ≡ 0 = rw (ahead≡, e) (own-lane k h) in
-            let place : 128 + s ≡ 128 + getD group i 0 = rw (s≡, e) in
-            rw (mark, place) (hands-own (g i b) (w .searching .each i b))
+            let place : 128 + s ≡ 128 + nodeOf (getD group i 0) = rw (s≡, e) in
+            rw (mark, place) (hands-own (g .each i b) (w .searching .each i b))
 
-    pub enter-more : {s : ℕ} {ahead : List ℕ} {table′ : List (List ℕ)} → s ≡ getD group k 0 → ahead ≡ set (replicate 8 unreached) k 0
+    pub enter-more : {s : ℕ} {ahead : List ℕ} {table′ : List (List ℕ)} → s ≡ nodeOf (getD group k 0) → ahead ≡ set (replicate 8 unreached) k 0
         → EachScanned nodes links times group (128 + s) ahead table table′ → EachEntered nodes links times group (k + 1) table′
     enter-more {s} {ahead} {table′} s≡ ahead≡ r =
         record {
           searching = record { shaped = r .shaped; each = λ i b. r .each i b .searching };
           entered = λ i c b.
               on-equal i k (λ e. here i b e)
-              (λ away. entered-lower (g i b) (lane i table) (lane i table′) (w .entered i (omega (arith, away)) b) (r .each i b .no-more));
+              (λ away. entered-lower (g .each i b) (lane i table) (lane i table′) (w .entered i (omega (arith, away)) b) (r .each i b .no-more));
         }
       where
         here : (i : ℕ) → (b : i < 8) → i ≡ k → Entered nodes links times (getD group i 0) (lane i table′)
         here i b e =
             let mark : getD ahead i 0 ≡ 0 = rw (ahead≡, e) (own-lane k h) in
-            let place : 128 + s ≡ 128 + getD group i 0 = rw (s≡, e) in
-            scanned-entered (g i b) (rw (mark, place) at (r .each i b))
+            let place : 128 + s ≡ 128 + nodeOf (getD group i 0) = rw (s≡, e) in
+            scanned-entered (g .each i b) (rw (mark, place) at (r .each i b))
 
   module _ {table scanned : List (List ℕ)} (w : EachScans nodes links times group table scanned) where
     pub each-searching : EachSearching nodes links times group table
@@ -217,7 +222,7 @@ module _ {nodes : ℕ} {links : List (List ℕ)} {times group : List ℕ} (g : E
             scans = record {
               shaped = r .shaped;
               shaped-scans = shaped-set (w .shaped-scans) k (getD table k []) (w .shaped .rows k h);
-              each = λ i b. rw (stored i) (scans-more (g i b) (w .each i b) inside (rw (← lane-at i table k h) at (r .each i b)));
+              each = λ i b. rw (stored i) (scans-more (g .each i b) (w .each i b) inside (rw (← lane-at i table k h) at (r .each i b)));
             };
             falls = fewer;
             few = omega arith;
@@ -231,7 +236,7 @@ module _ {nodes : ℕ} {links : List (List ℕ)} {times group : List ℕ} (g : E
 
           of-lane : (i : ℕ) → i < 8
               → total (lane i (set scanned k (getD table k []))) + getD (lane i scanned) k 0 ≡ total (lane i scanned) + getD (lane i table) k 0
-          of-lane i b = rw (stored i) (scans-total (g i b) (w .each i b) inside)
+          of-lane i b = rw (stored i) (scans-total (g .each i b) (w .each i b) inside)
 
           fewer : totals (set scanned k (getD table k [])) + 1 ≤ totals scanned
           fewer =
@@ -272,7 +277,7 @@ module _ {nodes : ℕ} {links : List (List ℕ)} {times group : List ℕ} (g : E
         rest = λ i h b. lane-unreached i allRowsUnreached (λ j c. all-unreached i b j c);
       }
 
-  pub set-more : {k s : ℕ} {table : List (List ℕ)} → k < 8 → s ≡ getD group k 0 → SetOut group k table
+  pub set-more : {k s : ℕ} {table : List (List ℕ)} → k < 8 → s ≡ nodeOf (getD group k 0) → SetOut group k table
       → SetOut group (k + 1) (set table s (set (getD table s []) k 0))
   set-more {k} {s} {table} h s≡ w =
       record {
@@ -282,12 +287,12 @@ module _ {nodes : ℕ} {links : List (List ℕ)} {times group : List ℕ} (g : E
       }
     where
       node : s < 128
-      node = omega (arith, g k h .destination-node, g k h .roads .few-nodes)
+      node = omega (arith, g .each k h .destination-node, g .each k h .roads .few-nodes)
 
       stored : (i : ℕ) → lane i (set table s (set (getD table s []) k 0)) ≡ set (lane i table) s (getD (set (getD table s []) k 0) i 0)
       stored i = lane-set i table s (set (getD table s []) k 0) (w .shaped .size)
 
-      here : lane k (set table s (set (getD table s []) k 0)) ≡ set allUnreached (getD group k 0) 0
+      here : lane k (set table s (set (getD table s []) k 0)) ≡ set allUnreached (nodeOf (getD group k 0)) 0
       here =
           stored k
           ∙ ap (set (lane k table) s) (getD-set-same (getD table s []) k 0 0 (omega (arith, w .shaped .rows s node)))
@@ -302,7 +307,7 @@ module _ {nodes : ℕ} {links : List (List ℕ)} {times group : List ℕ} (g : E
   pub set-all : {table : List (List ℕ)} → SetOut group 8 table → EachEntered nodes links times group 0 table
   set-all w =
       record {
-        searching = record { shaped = w .shaped; each = λ i h. rw (w .marked i h) (sets-out (g i h)) };
+        searching = record { shaped = w .shaped; each = λ i h. rw (w .marked i h) (sets-out (g .each i h)) };
         entered = λ i c b. absurd (omega arith);
       }
 
@@ -313,7 +318,7 @@ module _ {nodes : ℕ} {links : List (List ℕ)} {times group : List ℕ} (g : E
         shaped = w .searching .shaped;
         shaped-scans = unreached-shaped;
         each = λ i h.
-            scans-none (g i h) (w .searching .each i h) (w .entered i h h) (length-lane i allRowsUnreached)
+            scans-none (g .each i h) (w .searching .each i h) (w .entered i h h) (length-lane i allRowsUnreached)
             (λ j b. omega (arith, all-unreached i h j b));
       }
 
@@ -322,6 +327,6 @@ module _ {nodes : ℕ} {links : List (List ℕ)} {times group : List ℕ} (g : E
       → Found nodes links times group table
   sweep-found w e =
       record {
-        least = λ i h. search-found (g i h) (w .scans .each i h .searching) (scans-settled (g i h) (w .scans .each i h) (w .quiet e i h));
+        least = λ i h. search-found (g .each i h) (w .scans .each i h .searching) (scans-settled (g .each i h) (w .scans .each i h) (w .quiet e i h));
         marked = λ i h. w .scans .each i h .searching .marked;
       }

@@ -3,7 +3,7 @@ use Prim.Native.Nat.{ℕ, zero, suc, _+_, _*_, _%_, _≤_, _<_, min}
 use native.Mathlib.Nat.{le-refl}
 use native.Mathlib.Omega.{arith}
 use mathlib.Core.Path.{_≡_, refl, sym, _∙_, ap}
-use mathlib.Core.Bool.{true}
+use mathlib.Core.Bool.{true, false}
 use mathlib.Core.List.{List}
 use mathlib.Core.Logic.{inl, inr, ⊎-elim}
 use lib.ListN.{length, getD, set, length-set, length-replicate, getD-replicate}
@@ -12,8 +12,8 @@ use borrow.Author.Tests.{lt-ltb, le-ltb}
 use Rattle.theory.specs.Finite.{sum}
 use Rattle.theory.specs.Laws.Cases.{on-equal}
 use Rattle.theory.specs.Laws.Finite.{below-suc, order, sum-cong}
-use Rattle.theory.specs.Study.{tail, head, closed, mayUse, noLink}
-use Rattle.theory.specs.Laws.Permission.{may-open, may-own, may-closed}
+use Rattle.theory.specs.Study.{tail, head, closed, nodeOf, ofLorries, barredTo, mayUse, noLink}
+use Rattle.theory.specs.Laws.Permission.{may-open, may-own, may-closed, not-barred}
 use Rattle.search.specs.Search.{unreached}
 use Rattle.search.specs.Given.{Searchable, longest}
 use Rattle.search.specs.Chains.{endOf, chainOf}
@@ -68,32 +68,32 @@ module _ {nodes : ℕ} {links : List (List ℕ)} {times : List ℕ} {s : ℕ} (g
   unfolding allUnreached
   at-unreached j h = getD-replicate 128 j unreached 0 h
 
-  inside : s < length allUnreached
+  inside : nodeOf s < length allUnreached
   inside = omega (arith, length-unreached)
 
-  at-destination : getD (set allUnreached s 0) s 0 ≡ 0
-  at-destination = getD-set-same allUnreached s 0 0 inside
+  at-destination : getD (set allUnreached (nodeOf s) 0) (nodeOf s) 0 ≡ 0
+  at-destination = getD-set-same allUnreached (nodeOf s) 0 0 inside
 
-  elsewhere : (j : ℕ) → j < 128 → (j ≡ s → ⊥) → getD (set allUnreached s 0) j 0 ≡ unreached
-  elsewhere j h away = getD-set-other allUnreached s j 0 0 away ∙ at-unreached j h
+  elsewhere : (j : ℕ) → j < 128 → (j ≡ nodeOf s → ⊥) → getD (set allUnreached (nodeOf s) 0) j 0 ≡ unreached
+  elsewhere j h away = getD-set-other allUnreached (nodeOf s) j 0 0 away ∙ at-unreached j h
 
-  one-reached : 1 ≤ reached (set allUnreached s 0)
+  one-reached : 1 ≤ reached (set allUnreached (nodeOf s) 0)
   unfolding reached
   one-reached =
-      let a = sum-set reach allUnreached s 0 inside 128 (omega arith) in
-      let b : reach (getD allUnreached s 0) ≡ 0 = ap reach (at-unreached s (omega arith)) in
+      let a = sum-set reach allUnreached (nodeOf s) 0 inside 128 (omega arith) in
+      let b : reach (getD allUnreached (nodeOf s) 0) ≡ 0 = ap reach (at-unreached (nodeOf s) (omega arith)) in
       omega arith
 
-  pub sets-out : Searching nodes links times s (set allUnreached s 0)
+  pub sets-out : Searching nodes links times s (set allUnreached (nodeOf s) 0)
   sets-out =
       record {
-        size = length-set allUnreached s 0 ∙ length-unreached;
+        size = length-set allUnreached (nodeOf s) 0 ∙ length-unreached;
         destination = at-destination;
-        marked = λ j h. on-equal j s (λ e. rw e (omega (arith, at-destination))) (λ away. omega (arith, elsewhere j h away));
+        marked = λ j h. on-equal j (nodeOf s) (λ e. rw e (omega (arith, at-destination))) (λ away. omega (arith, elsewhere j h away));
         outside = λ j h k. elsewhere j k (λ e. omega arith);
         attained = λ j h away r. absurd (omega (arith, elsewhere j (omega arith) away));
         bounded = λ j h r.
-            on-equal j s (λ e. rw e (omega (arith, at-destination, one-reached))) (λ away. absurd (omega (arith, elsewhere j h away)));
+            on-equal j (nodeOf s) (λ e. rw e (omega (arith, at-destination, one-reached))) (λ away. absurd (omega (arith, elsewhere j h away)));
       }
 
   -- A link l from t to k with time x that gives its tail less than its mark.
@@ -127,7 +127,7 @@ module _ {nodes : ℕ} {links : List (List ℕ)} {times : List ℕ} {s : ℕ} (g
         let b : reach (x + getD d k 0) ≡ 1 = omega (arith, tail-mark) in
         omega (arith, ap reached d≡)
 
-    attained-then : (j : ℕ) → j < nodes → (j ≡ s → ⊥) → getD d′ j 0 < unreached → Attained nodes links times s d′ j
+    attained-then : (j : ℕ) → j < nodes → (j ≡ nodeOf s → ⊥) → getD d′ j 0 < unreached → Attained nodes links times s d′ j
     attained-then j b away r = on-equal j t here there
       where
         here : j ≡ t → Attained nodes links times s d′ j
@@ -172,7 +172,7 @@ module _ {nodes : ℕ} {links : List (List ℕ)} {times : List ℕ} {s : ℕ} (g
     lower-searching =
         record {
           size = ap length d≡ ∙ length-set d t (x + getD d k 0) ∙ w .size;
-          destination = omega (arith, lower-no-more s, w .destination);
+          destination = omega (arith, lower-no-more (nodeOf s), w .destination);
           marked = λ j b. omega (arith, lower-no-more j, w .marked j b);
           outside = λ j b c. off-tail j (λ e. omega (arith, e, t-node)) ∙ w .outside j b c;
           attained = attained-then;
@@ -194,7 +194,7 @@ module _ {nodes : ℕ} {links : List (List ℕ)} {times : List ℕ} {s : ℕ} (g
         rw (← relaxed-same d (tail links l) ahead (getD times l 0) settled)
         (record { searching = w; no-more = λ j. le-refl (getD d j 0); kept = hands; settled = settled })
 
-    relaxing-lower : {place k : ℕ} → ((a : ℕ) → a < length links → endOf links 1 a ≡ place → mayUse links s a ≡ true) → mayUse links s l ≡ true
+    relaxing-lower : {place k : ℕ} → ((a : ℕ) → a < length links → endOf (ofLorries s) links 1 a ≡ place → mayUse links s a ≡ true) → mayUse links s l ≡ true
         → head links l ≡ k → k ≡ place % 128 → getD times l 0 + getD d k 0 < getD d (tail links l) 0
         → Relaxing d l place (getD d k 0) (relaxed d (tail links l) (getD d k 0) (getD times l 0))
     relaxing-lower {place} {k} usable may k≡ node less =
@@ -208,7 +208,7 @@ module _ {nodes : ℕ} {links : List (List ℕ)} {times : List ℕ} {s : ℕ} (g
           settled = omega (arith, at-tail w h may refl k≡ refl less d≡);
         }
 
-    relaxing : {place ahead : ℕ} → endOf links 1 l ≡ place → Hands nodes links times s place ahead d
+    relaxing : {place ahead : ℕ} → endOf (ofLorries s) links 1 l ≡ place → Hands nodes links times s place ahead d
         → Relaxing d l place ahead (relaxed d (tail links l) ahead (getD times l 0))
     relaxing {place} {ahead} e hands = ⊎-elim none given (hands .on)
       where
@@ -218,18 +218,18 @@ module _ {nodes : ℕ} {links : List (List ℕ)} {times : List ℕ} {s : ℕ} (g
         none : ahead ≡ unreached → Relaxing d l place ahead (relaxed d (tail links l) ahead (getD times l 0))
         none a≡ = relaxing-same hands (omega (arith, tail-most))
 
-        given : ((a : ℕ) → a < length links → endOf links 1 a ≡ place → mayUse links s a ≡ true) × (ahead ≡ getD d (place % 128) 0)
+        given : ((a : ℕ) → a < length links → endOf (ofLorries s) links 1 a ≡ place → mayUse links s a ≡ true) × (ahead ≡ getD d (place % 128) 0)
             → Relaxing d l place ahead (relaxed d (tail links l) ahead (getD times l 0))
         given (usable, a≡) =
-            let node = place-node links 1 l (omega (arith, g .roads .head-node l h, g .roads .few-nodes)) e in
+            let node = place-node (ofLorries s) links 1 l (omega (arith, g .roads .head-node l h, g .roads .few-nodes)) e in
             ⊎-elim
             (λ less. rw a≡ (relaxing-lower usable (usable l h e) node refl (omega (arith, less, a≡))))
             (relaxing-same hands)
             (order (getD times l 0 + ahead) (getD d (tail links l) 0))
 
   -- A scan of a place begins with no link relaxed,
-  module _ {into : List ℕ} (chain : into ≡ chainOf links 1) {place ahead : ℕ} {d₀ : List ℕ} where
-    pub scan-begins : {l : ℕ} → Searching nodes links times s d₀ → Hands nodes links times s place ahead d₀ → place < 256 → l ≡ getD into place 0
+  module _ {into : List ℕ} (chain : into ≡ chainOf (ofLorries s) links 1) {place ahead : ℕ} {d₀ : List ℕ} where
+    pub scan-begins : {l : ℕ} → Searching nodes links times s d₀ → Hands nodes links times s place ahead d₀ → place < 384 → l ≡ getD into place 0
         → Scanning nodes links times s place ahead d₀ d₀ l
     scan-begins w hands h e =
         record { searching = w; no-more = λ j. le-refl (getD d₀ j 0); kept = hands; settled = chain-begins (g .roads .few-links) chain h e }
@@ -254,7 +254,7 @@ module _ {nodes : ℕ} {links : List (List ℕ)} {times : List ℕ} {s : ℕ} (g
 
         -- and goes on to a higher one.
         pub scan-goes : {t : ℕ} {d′ : List ℕ} {l′ : ℕ} → t ≡ tail links i → d′ ≡ relaxed d t ahead (getD times i 0)
-            → l′ ≡ getD into (256 + i) 0 → (l < l′) × Scanning nodes links times s place ahead d₀ d′ l′
+            → l′ ≡ getD into (384 + i) 0 → (l < l′) × Scanning nodes links times s place ahead d₀ d′ l′
         scan-goes {d′ = d′} t≡ d≡ l≡ =
             let (below, enters) = at .settled .on-chain some-link in
             let r : Relaxing d l place ahead d′ = rw (d≡, t≡, i≡) (relaxing (at .searching) l below enters (at .kept)) in
@@ -278,30 +278,33 @@ module _ {nodes : ℕ} {links : List (List ℕ)} {times : List ℕ} {s : ℕ} (g
       let node : k ≡ k % 128 = omega arith in
       record {
         on = inr (
-          λ l b p. may-open links s l (place-of-open links 1 l below p .0),
+          λ l b p. let (on, is-open, at) = place-of-open (ofLorries s) links 1 l below p in may-open links s l on is-open,
           e ∙ ap (λ j. getD d j 0) node,
         );
       }
 
   -- and a closed one only if it is the destination.
-  pub hands-own : {d : List ℕ} → Searching nodes links times s d → Hands nodes links times s (128 + s) 0 d
+  pub hands-own : {d : List ℕ} → Searching nodes links times s d → Hands nodes links times s (128 + nodeOf s) 0 d
   hands-own {d} w =
-      let below : s < 128 = omega (arith, g .destination-node, g .roads .few-nodes) in
-      let node : s ≡ (128 + s) % 128 = omega arith in
+      let below : nodeOf s < 128 = omega (arith, g .destination-node, g .roads .few-nodes) in
+      let node : nodeOf s ≡ (128 + nodeOf s) % 128 = omega arith in
       record {
         on = inr (
-          λ l b p. may-own links s l (place-of-closed links 1 l (omega (arith, g .roads .head-node l b, g .roads .few-nodes)) p .1),
+          λ l b p.
+              let inside : head links l < 128 = omega (arith, g .roads .head-node l b, g .roads .few-nodes) in
+              let (on, shut, at) = place-of-closed (ofLorries s) links 1 l below inside p in
+              may-own links s l on at,
           sym (w .destination) ∙ ap (λ j. getD d j 0) node,
         );
       }
 
   -- After a scan of the links into the destination as a closed node no such link gives its tail less than its mark,
-  pub scanned-entered : {d₀ d : List ℕ} → Scanned nodes links times s (128 + s) 0 d₀ d → Entered nodes links times s d
-  scanned-entered r l b shut e = omega (arith, r .settled l b (place-closed links 1 l shut ∙ ap (λ j. 128 + j) e))
+  pub scanned-entered : {d₀ d : List ℕ} → Scanned nodes links times s (128 + nodeOf s) 0 d₀ d → Entered nodes links times s d
+  scanned-entered r l b on shut e = omega (arith, r .settled l b (place-closed (ofLorries s) links 1 l on shut ∙ ap (λ j. 128 + j) e))
 
   -- which holds of lower marks too.
   pub entered-lower : (d d′ : List ℕ) → Entered nodes links times s d → ((j : ℕ) → getD d′ j 0 ≤ getD d j 0) → Entered nodes links times s d′
-  entered-lower d d′ w no-more l b shut e = omega (arith, w l b shut e, no-more (tail links l))
+  entered-lower d d′ w no-more l b on shut e = omega (arith, w l b on shut e, no-more (tail links l))
 
   -- Before the first sweep no node is scanned.
   pub scans-none : {d p : List ℕ} → Searching nodes links times s d → Entered nodes links times s d → length p ≡ 128
@@ -312,7 +315,7 @@ module _ {nodes : ℕ} {links : List (List ℕ)} {times : List ℕ} {s : ℕ} (g
         entered = entered;
         size = size;
         above = λ j h. omega (arith, w .marked j h, least j h);
-        settled = λ l h is-open.
+        settled = λ l h on is-open.
             omega (
               arith,
               w .marked (tail links l) (omega (arith, g .roads .tail-node l h, g .roads .few-nodes)),
@@ -346,12 +349,12 @@ module _ {nodes : ℕ} {links : List (List ℕ)} {times : List ℕ} {s : ℕ} (g
             on-equal j k (λ e. rw e (omega (arith, here, r .no-more k)))
             (λ away. omega (arith, off j away, r .no-more j, w .above j b))
 
-        settled-then : (l : ℕ) → l < length links → (closed links l ≡ 1 → ⊥)
+        settled-then : (l : ℕ) → l < length links → barredTo links (ofLorries s) l ≡ false → (closed links l ≡ 1 → ⊥)
             → getD d′ (tail links l) 0 ≤ getD times l 0 + getD (set p k (getD d k 0)) (head links l) 0
-        settled-then l b is-open =
+        settled-then l b on is-open =
             on-equal (head links l) k
-            (λ e. rw e (omega (arith, here, r .settled l b (place-open links 1 l is-open ∙ e))))
-            (λ away. omega (arith, off (head links l) away, r .no-more (tail links l), w .settled l b is-open))
+            (λ e. rw e (omega (arith, here, r .settled l b (place-open (ofLorries s) links 1 l on is-open ∙ e))))
+            (λ away. omega (arith, off (head links l) away, r .no-more (tail links l), w .settled l b on is-open))
 
     -- The sum of the marks at the last scans does not rise by it, and falls where the node's mark had fallen.
     pub scans-total : total (set p k (getD d k 0)) + getD p k 0 ≡ total p + getD d k 0
@@ -362,6 +365,7 @@ module _ {nodes : ℕ} {links : List (List ℕ)} {times : List ℕ} {s : ℕ} (g
   pub scans-settled : {d p : List ℕ} → Scans nodes links times s d p → ((j : ℕ) → j < nodes → getD p j 0 ≤ getD d j 0)
       → (l : ℕ) → l < length links → mayUse links s l ≡ true → getD d (tail links l) 0 ≤ getD times l 0 + getD d (head links l) 0
   scans-settled w quiet l h may =
+      let on = not-barred links s l may in
       on-equal (closed links l) 1
-      (λ shut. omega (arith, w .entered l h shut (may-closed links s l shut may)))
-      (λ is-open. omega (arith, w .settled l h is-open, quiet (head links l) (omega (arith, g .roads .head-node l h))))
+      (λ shut. omega (arith, w .entered l h on shut (may-closed links s l shut may)))
+      (λ is-open. omega (arith, w .settled l h on is-open, quiet (head links l) (omega (arith, g .roads .head-node l h))))

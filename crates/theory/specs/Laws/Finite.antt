@@ -103,6 +103,12 @@ sum-more n (suc m) f h = go (below-suc (suc m) n (omega arith)) (sum-more n m f)
     go (inr e) r = rw e (omega arith)
 
 -- Of the terms that are counted only at k, the sum has the one at k.
+-- The sum of a list in two parts.
+pub sum-append : (a b : ℕ) (f : ℕ → ℕ) → sum (a + b) f ≡ sum a f + sum b (λ k. f (a + k))
+unfolding sum
+sum-append a zero f = let e : a + 0 ≡ a = omega arith in rw e (omega arith)
+sum-append a (suc b) f = let e : a + suc b ≡ suc (a + b) = omega arith in rw e (omega (arith, sum-append a b f))
+
 pub sum-pick : (n : ℕ) (f : ℕ → ℕ) (k : ℕ) → k < n → sum n (λ i. cond (eqb k i) (f i) 0) ≡ f k
 unfolding sum
 sum-pick zero f k h = omega arith
@@ -269,6 +275,14 @@ getD-rows (suc n) m row h d k l p q =
     here e =
         let place : k * m + l ≡ length (rows n row) + l = omega (arith, ap (λ i. i * m) e, size) in
         rw place (getD-append-add (rows n row) (row n) l d ∙ ap (λ i. getD (row i) l d) (sym e))
+
+-- The rows of two lists, one after the other.
+pub rows-append : (a b : ℕ) (row : ℕ → List ℕ) → rows (a + b) row ≡ rows a row ++ rows b (λ k. row (a + k))
+unfolding rows
+rows-append a zero row = let e : a + 0 ≡ a = omega arith in rw e (sym (append-nil (rows a row)))
+rows-append a (suc b) row =
+    let e : a + suc b ≡ suc (a + b) = omega arith in
+    rw e (ap (λ xs. xs ++ row (a + b)) (rows-append a b row) ∙ append-assoc (rows a row) (rows b (λ k. row (a + k))) (row (a + b)))
 
 -- The lowest number below n of which a test holds.
 pub record Lowest (n : ℕ) (t : ℕ → Bool) (i : ℕ) : Type 0 where

@@ -3,9 +3,9 @@ use Prim.Native.Nat.{ℕ, _+_, _*_, _-_, _≤_, _<_}
 use native.Mathlib.Nat.{mul-le-mul, mul-le-mul-right}
 use native.Mathlib.Omega.{arith}
 use mathlib.Core.Path.{_≡_, sym, _∙_, ap}
-use mathlib.Core.List.{List, _++_}
-use lib.ListN.{length, getD, take, drop, length-append, length-take, length-drop, List·getD-append}
-use lib.Seq.{getD-append-add, getD-drop, getD-take}
+use mathlib.Core.List.{List, [], _++_, append-nil}
+use lib.ListN.{length, getD, take, drop, length-append, length-take, length-drop, drop-of-length-le, List·getD-append}
+use lib.Seq.{getD-append-add, getD-drop, getD-take, take-all, drop-at}
 
 abbrev pub part : List ℕ → ℕ → ℕ → List ℕ
 part xs first size = take (first + size - first) (drop first xs)
@@ -70,3 +70,43 @@ module _ (xs : List ℕ) (first size : ℕ) where
           ∙ getD-drop (first + size - first) (drop first xs) (i - first - size) 0
           ∙ getD-drop first xs (first + size - first + (i - first - size)) 0
           ∙ ap (λ x. getD xs x 0) (omega arith)
+
+-- A list from a place on, as a slice lends it.
+abbrev pub behind : {A : Type 0} → List A → ℕ → List A
+behind xs first = take (length xs - first) (drop first xs)
+
+module _ {A : Type 0} (xs : List A) (first : ℕ) where
+  pub behind-is : behind xs first ≡ drop first xs
+  behind-is = take-all (length xs - first) (drop first xs) (omega (arith, length-drop first xs))
+
+  pub behind-at : (i : ℕ) (d : A) → getD (behind xs first) i d ≡ getD xs (first + i) d
+  behind-at i d = ap (λ ys. getD ys i d) behind-is ∙ getD-drop first xs i d
+
+  pub length-behind : length (behind xs first) ≡ length xs - first
+  length-behind = ap length behind-is ∙ length-drop first xs
+
+-- The list after what stands from a place on has become another one, as long.
+abbrev pub replacedBehind : {A : Type 0} → List A → ℕ → List A → List A
+replacedBehind xs first ys = take first xs ++ (ys ++ drop (length xs - first) (drop first xs))
+
+module _ {A : Type 0} (xs : List A) (first : ℕ) (within : first ≤ length xs) (ys : List A) (long : length ys ≡ length xs - first) where
+  first-long : length (take first xs) ≡ first
+  first-long = omega (arith, length-take first xs)
+
+  -- Nothing is left behind it.
+  none-left : drop (length xs - first) (drop first xs) ≡ []
+  none-left = drop-of-length-le (drop first xs) {i = length xs - first} (omega (arith, length-drop first xs))
+
+  replaced-is : replacedBehind xs first ys ≡ take first xs ++ ys
+  replaced-is = ap (λ rest. take first xs ++ (ys ++ rest)) none-left ∙ ap (λ zs. take first xs ++ zs) (append-nil ys)
+
+  pub behind-replaced : behind (replacedBehind xs first ys) first ≡ ys
+  behind-replaced =
+      behind-is (replacedBehind xs first ys) first ∙ ap (drop first) replaced-is ∙ drop-at (take first xs) ys first first-long
+
+  pub before-replaced : (i : ℕ) (d : A) → i < first → getD (replacedBehind xs first ys) i d ≡ getD xs i d
+  before-replaced i d h =
+      ap (λ zs. getD zs i d) replaced-is ∙ List·getD-append (take first xs) ys d i (omega (arith, first-long)) ∙ getD-take first xs i d h
+
+  pub length-behind-replaced : length (replacedBehind xs first ys) ≡ length xs
+  length-behind-replaced = ap length replaced-is ∙ omega (arith, length-append (take first xs) ys, first-long)

@@ -3,10 +3,11 @@
 //!
 //! Same studies, same process, turn about. Prints Markdown: for each study and
 //! call the median processor time of either with its quartiles, and the median
-//! of the ratios of neighbouring measurements; then the stack that each call
-//! needs. Where ILSTROVAN_BEFORE names the static library of an earlier build,
-//! its calls are timed in the same turns; calls that it lacks and studies that it
-//! refuses have a dash.
+//! of the ratios of neighbouring measurements; then the same of studies with
+//! lorries beside their cars alone; then the stack that each call needs. Where
+//! ILSTROVAN_BEFORE names the static library of an earlier build, its calls are
+//! timed in the same turns; calls that it lacks and studies that it refuses have a
+//! dash.
 
 #[cfg(before)]
 #[macro_use]
@@ -23,6 +24,7 @@ mod before {
         false
     }
 }
+mod lorries;
 mod measure;
 mod stack;
 mod studies;
@@ -45,16 +47,32 @@ fn main() {
     println!("|---|---:|---:|---:|---:|---|---:|---:|---:|{rules}");
     for study in &studies {
         for (call, comparison) in calls(study) {
-            println!("| {} | {call} | {comparison} |", study.columns());
+            // An earlier build without this call, or one that refuses the study.
+            let missing = match comparison.ways() {
+                2 if cfg!(before) => " | – | –",
+                _ => "",
+            };
+            println!("| {} | {call} | {comparison}{missing} |", study.columns());
         }
     }
     println!();
     println!("Processor time: median, and in brackets the quartiles.");
     println!();
-    println!("| call | stack, bytes | study |");
-    println!("|---|---:|---|");
-    for (call, bytes, study) in stack::needs(&studies) {
-        println!("| {call} | {bytes} | {study} |");
+    lorries::print(&studies);
+    println!();
+    print_stack(&studies);
+}
+
+/// The stack of each call with a study of versions 1 to 3 and with one of version
+/// 4.
+fn print_stack(studies: &[Study]) {
+    let (freight, others): (Vec<_>, Vec<_>) =
+        studies.iter().partition(|study| study.cars_alone.is_some());
+    println!("| call | stack, bytes | study | with lorries, bytes | study |");
+    println!("|---|---:|---|---:|---|");
+    let needs = stack::needs(&others).into_iter();
+    for ((call, bytes, study), (_, most, other)) in needs.zip(stack::needs(&freight)) {
+        println!("| {call} | {bytes} | {study} | {most} | {other} |");
     }
 }
 

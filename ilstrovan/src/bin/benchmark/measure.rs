@@ -15,24 +15,36 @@ const MEASUREMENT: Duration = Duration::from_millis(2);
 /// Most calls in a measurement.
 const MOST_CALLS: usize = 2_000;
 
-/// Times of the proved call, of the second implementation's and, where there is
-/// one, of an earlier build's, and the ratios of the first to the others.
+/// Times of two ways or of three, and the ratios of the first to the others.
 pub struct Comparison {
-    proved: Spread,
-    second: Spread,
-    ratio: Spread,
-    before: Option<(Spread, Spread)>,
+    first: Spread,
+    /// Times and ratios of the others.
+    others: Vec<(Spread, Spread)>,
+}
+
+impl Comparison {
+    /// How many ways there are.
+    pub fn ways(&self) -> usize {
+        1 + self.others.len()
+    }
+
+    /// The same of two ways for each of so many parts that they consist of.
+    pub fn of_parts(mut self, parts: [u32; 2]) -> Self {
+        let [first, second] = parts.map(f64::from);
+        self.first.divide(first);
+        for (time, ratio) in &mut self.others {
+            time.divide(second);
+            ratio.divide(first / second);
+        }
+        self
+    }
 }
 
 impl fmt::Display for Comparison {
     fn fmt(&self, out: &mut fmt::Formatter<'_>) -> fmt::Result {
-        write!(out, "{} | {} | {}", self.proved, self.second, self.ratio)?;
-        match &self.before {
-            Some((before, ratio)) => write!(out, " | {before} | {ratio}"),
-            // An earlier build without this call, or one that refuses the study.
-            None if cfg!(before) => write!(out, " | – | –"),
-            None => Ok(()),
-        }
+        write!(out, "{}", self.first)?;
+        let mut others = self.others.iter();
+        others.try_for_each(|(time, ratio)| write!(out, " | {time} | {ratio}"))
     }
 }
 
@@ -53,6 +65,12 @@ impl Spread {
             upper: at(3),
         }
     }
+
+    fn divide(&mut self, by: f64) {
+        self.lower /= by;
+        self.median /= by;
+        self.upper /= by;
+    }
 }
 
 impl fmt::Display for Spread {
@@ -68,9 +86,8 @@ impl fmt::Display for Spread {
 /// One way to do it.
 pub type Way<'a> = &'a mut dyn FnMut(&mut [u32]);
 
-/// Compares the proved way, the second implementation's and perhaps an earlier
-/// build's, in this order. Each call has a table of its own that holds what
-/// `table` does.
+/// Compares the first way with the others. Each call has a table of its own that
+/// holds what `table` does.
 pub fn compare(table: &[u32], ways: &mut [Way<'_>]) -> Comparison {
     let once: f64 = ways.iter_mut().map(|way| time(table, 1, way)).sum();
     let calls = (ways.len() as f64 * MEASUREMENT.as_secs_f64() * 1e6 / once) as usize;
@@ -83,17 +100,17 @@ pub fn compare(table: &[u32], ways: &mut [Way<'_>]) -> Comparison {
             times[way].push(deeper(turn, &mut || time(table, calls, &mut ways[way])));
         }
     }
-    let ratio = |other: &Vec<f64>| {
-        let pairs = times[0].iter().zip(other);
-        Spread::of(pairs.map(|(proved, other)| proved / other).collect())
+    let first = times.remove(0);
+    let ratio = |other: &[f64]| {
+        let pairs = first.iter().zip(other);
+        Spread::of(pairs.map(|(first, other)| first / other).collect())
     };
+    let others = times.into_iter();
     Comparison {
-        ratio: ratio(&times[1]),
-        before: times
-            .get(2)
-            .map(|before| (Spread::of(before.clone()), ratio(before))),
-        proved: Spread::of(times[0].clone()),
-        second: Spread::of(times[1].clone()),
+        others: others
+            .map(|other| (Spread::of(other.clone()), ratio(&other)))
+            .collect(),
+        first: Spread::of(first.clone()),
     }
 }
 

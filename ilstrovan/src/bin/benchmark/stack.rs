@@ -35,7 +35,7 @@ unsafe extern "C" {
 
 /// For each call the most bytes of stack that it used, and the study with which
 /// it did.
-pub fn needs(studies: &[Study]) -> Vec<(&'static str, usize, &str)> {
+pub fn needs<'a>(studies: &[&'a Study]) -> Vec<(&'static str, usize, &'a str)> {
     let nothing = used(&mut || {});
     let mut needs: Vec<(&str, usize, &str)> = vec![];
     for study in studies {

@@ -5,7 +5,6 @@ use std::path::Path;
 use ilstrovan::{LINE_BYTES, LONGEST_NOTE};
 use second::draft::{Dice, Draft, DraftLink, Plan, Versioned, grid};
 use study_tool::exact::Fraction;
-use study_tool::format::{self, Version};
 use study_tool::source::Source;
 use study_tool::tntp::{Options, convert};
 
@@ -20,6 +19,9 @@ pub struct Study {
     pub file: Vec<u8>,
     /// Numbers in its table.
     pub table_length: usize,
+    /// Where there are lorries, the file of version 3 with its cars alone: the
+    /// same network without them.
+    pub cars_alone: Option<Vec<u8>>,
 }
 
 impl Study {
@@ -102,16 +104,39 @@ impl Study {
         Study::of_powers(&format!("{name}, trips to 8"), &eight)
     }
 
+    /// The study of version 4 in which a fifth of the trips are made by lorries,
+    /// and links are barred to them.
+    fn of_lorries(name: &str, draft: &Draft) -> Self {
+        let mut cars = draft.clone();
+        let mut lorries = draft.trips.clone();
+        let both = cars.trips.iter_mut().zip(&mut lorries);
+        for (cars, lorries) in both.flat_map(|(cars, lorries)| cars.iter_mut().zip(lorries)) {
+            *lorries /= 5;
+            *cars -= *lorries;
+        }
+        let study = cars.with_lorries(lorries);
+        let barred = barred_links(&study);
+        let name = format!("{name}, lorries, {} links barred", barred.len());
+        Study::of(&name, &study.barring(&barred))
+    }
+
     fn of(name: &str, study: &Versioned) -> Self {
         let draft = &study.draft;
+        let cars_alone = study.lorries.as_ref().map(|_| Versioned {
+            powers: Some(study.powers.clone().unwrap_or_default()),
+            lorries: None,
+            barred: None,
+            ..study.clone()
+        });
         Study {
             name: name.to_string(),
             nodes: usize::from(draft.nodes),
             links: draft.links.len(),
             destinations: draft.destinations.len(),
-            trips: draft.total(),
+            trips: study.total(),
             file: study.file(),
-            table_length: draft.table_length(),
+            table_length: study.table_length(),
+            cars_alone: cars_alone.map(|study| study.file()),
         }
     }
 }
@@ -138,15 +163,17 @@ impl Moved {
 const MOST_PASSES: usize = 8;
 
 /// The town, Sioux Falls, and grids and random networks up to the largest study;
-/// three of them once more with their zones closed, five with other powers, and
-/// one with trips to few of its destinations.
+/// three of them once more with their zones closed, five with other powers, one
+/// with trips to few of its destinations, and four with lorries.
 pub fn all() -> Vec<Study> {
-    let town = Draft::town();
+    let (town, sioux_falls) = (Draft::town(), sioux_falls());
     let mut studies = vec![
         Study::of_draft("town", &town),
         Study::of_powers("town", &town),
-        sioux_falls(),
-        sioux_falls_with_powers(),
+        town_with_a_lorry(),
+        Study::of_draft("Sioux Falls", &sioux_falls),
+        Study::of_powers("Sioux Falls", &sioux_falls),
+        Study::of_lorries("Sioux Falls", &sioux_falls),
     ];
     let mut dice = Dice::new(31);
     for (wide, high) in [(4, 4), (8, 4), (8, 8), (16, 8)] {
@@ -164,6 +191,7 @@ pub fn all() -> Vec<Study> {
         if nodes == 128 {
             studies.push(Study::of_powers(&name, &draft));
             studies.push(Study::of_eight(&name, &draft));
+            studies.push(Study::of_lorries(&name, &draft));
         }
     }
     for nodes in [16, 32, 64, 128] {
@@ -177,8 +205,30 @@ pub fn all() -> Vec<Study> {
         if nodes == 16 || nodes == 128 {
             studies.push(Study::of_powers(&name, &draft));
         }
+        if nodes == 128 {
+            studies.push(Study::of_lorries(&name, &draft));
+        }
     }
     studies
+}
+
+/// Two cars and a lorry, and road 0 barred to it.
+fn town_with_a_lorry() -> Study {
+    let town = Draft::town().with_lorries(vec![vec![1, 0]]);
+    Study::of("town, a lorry, 1 link barred", &town.barring(&[0]))
+}
+
+/// Every tenth link that can be barred with a path left for all lorries: each in
+/// turn that can with those before it.
+fn barred_links(study: &Versioned) -> Vec<usize> {
+    let mut barred = vec![];
+    for link in (0..study.draft.links.len()).step_by(10) {
+        barred.push(link);
+        if second::check(&study.clone().barring(&barred).file()) != 0 {
+            barred.pop();
+        }
+    }
+    barred
 }
 
 /// Destinations that can be closed with a path left for all trips: each in turn
@@ -194,36 +244,9 @@ fn closed_zones(draft: &Draft) -> Vec<u16> {
     closed
 }
 
-/// The field's standard test network, ten vehicles to a trip.
-fn sioux_falls() -> Study {
-    of_tool("Sioux Falls", &converted())
-}
-
-/// The same in version 3, whose links have the powers 1 to 4 in turn.
-fn sioux_falls_with_powers() -> Study {
-    let mut study = converted();
-    study.version = Version::first(Version::has_powers);
-    for (link, power) in study.links.iter_mut().zip([1, 2, 3, 4].into_iter().cycle()) {
-        link.power = power;
-    }
-    of_tool("Sioux Falls, powers 1 to 4", &study)
-}
-
-/// A study that the study tool has converted.
-fn of_tool(name: &str, study: &format::Study) -> Study {
-    Study {
-        name: name.to_string(),
-        nodes: usize::from(study.nodes),
-        links: study.links.len(),
-        destinations: study.destinations.len(),
-        trips: u64::from(study.total()),
-        file: study.packed(),
-        table_length: study.destinations.len() * study.links.len(),
-    }
-}
-
-/// Sioux Falls, converted from the tool's test data.
-fn converted() -> format::Study {
+/// The field's standard test network, ten vehicles to a trip, converted from the
+/// tool's test data.
+fn sioux_falls() -> Draft {
     let data = Path::new(env!("CARGO_MANIFEST_DIR")).join("../tool/tests/data");
     let open = |name| Source::open(&data.join(name)).expect("the tool's test data");
     let options = Options {
@@ -235,7 +258,22 @@ fn converted() -> format::Study {
         &open("SiouxFalls_trips.tntp"),
         &options,
     );
-    conversion.expect("an acceptable study").study
+    let study = conversion.expect("an acceptable study").study;
+    let links = study.links.iter();
+    let draft = Draft {
+        nodes: study.nodes,
+        links: links
+            .map(|link| [link.tail, link.head, link.free, link.rise, link.capacity])
+            .collect(),
+        destinations: study.destinations.iter().map(|to| to.node).collect(),
+        trips: study
+            .destinations
+            .iter()
+            .map(|to| to.trips.clone())
+            .collect(),
+    };
+    assert_eq!(draft.file(), study.packed(), "a study of version 1");
+    draft
 }
 
 fn any_link(dice: &mut Dice, nodes: u16) -> DraftLink {

@@ -1,7 +1,7 @@
 -- `assignment::audit` meets its contract: there is room for the file in the places that it lends.
 use borrow.Author.Needs.{needs}
 use mathlib.Core.Path.{refl, sym, _∙_}
-use Rattle.network.specs.Laws.Decoding.{room-most, room-short}
+use Rattle.network.specs.Laws.Decoding.{room-most, room-cars, room-short}
 use Rattle.refusals.specs.Laws.Places.{small-length, small-curves, curves-most, curves-counted}
 use Rattle.assignment.proofs.auditing.audit.Statement.{statement}
 use Rattle.assignment.proofs.auditing.audit.Tie as tie
@@ -35,6 +35,9 @@ array-borrow-prefix-curves c = rw (c .curve-places .ensures) (curves-most _)
 slice-aggregate-curves : tie.Need-slice-aggregate-curves
 slice-aggregate-curves c = curves-counted _ _ refl (c .before .curve-places .ensures)
 
+has-lorries-requires : tie.Need-has-lorries-requires
+has-lorries-requires c κs = search needs
+
 slice-aggregate-audit-in-4 : tie.Need-slice-aggregate-audit-in-4
 slice-aggregate-audit-in-4 c = search needs
 
@@ -43,11 +46,26 @@ slice-aggregate-audit-in-5 c = search needs
 
 audit-in-requires-2 : tie.Need-audit-in-requires-2
 audit-in-requires-2 c κs =
-    let are = c .before .before .before .curve-places .ensures in
+    let are = c .before .before .before .before .before .curve-places .ensures in
     (room-most _ refl refl, sym (curves-counted _ _ refl are) ∙ are)
 
 returns-2 : tie.Need-returns-2
 returns-2 c = c .before .before .before .audit-in2 .ensures
+
+slice-aggregate-audit-in-6 : tie.Need-slice-aggregate-audit-in-6
+slice-aggregate-audit-in-6 c = search needs
+
+slice-aggregate-audit-in-7 : tie.Need-slice-aggregate-audit-in-7
+slice-aggregate-audit-in-7 c = search needs
+
+audit-in-requires-3 : tie.Need-audit-in-requires-3
+audit-in-requires-3 c κs =
+    let else = c .before .before in
+    let are = else .before .before .before .curve-places .ensures in
+    (room-cars _ (sym (else .before .has-lorries .ensures) ∙ else .if2 .left) refl refl, sym (curves-counted _ _ refl are) ∙ are)
+
+returns-3 : tie.Need-returns-3
+returns-3 c = c .before .before .before .audit-in3 .ensures
 
 pub audit-spec : {M : Type 1} → statement M
 audit-spec =
@@ -62,7 +80,12 @@ audit-spec =
     curve-places-requires
     array-borrow-prefix-curves
     slice-aggregate-curves
+    has-lorries-requires
     slice-aggregate-audit-in-4
     slice-aggregate-audit-in-5
     audit-in-requires-2
-    returns-2)
+    returns-2
+    slice-aggregate-audit-in-6
+    slice-aggregate-audit-in-7
+    audit-in-requires-3
+    returns-3)

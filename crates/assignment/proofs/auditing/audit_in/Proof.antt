@@ -4,7 +4,7 @@ use mathlib.Core.Path.{_≡_, refl, sym, _∙_}
 use borrow.Author.Needs.{needs}
 use denote.Ref.{now}
 use Rattle.calls.specs.Calls.{tableNumber}
-use Rattle.network.specs.Laws.Decoding.{trips-few, links-counted, destinations-counted, trips-counted}
+use Rattle.network.specs.Laws.Decoding.{trips-few, links-counted, commodities-counted, trips-counted}
 use Rattle.refusals.specs.Laws.Parts.{parts-decoded}
 use Rattle.refusals.specs.Laws.Places.{parts-room, table-passed}
 use Rattle.refusals.specs.Laws.Ready.{table-ready}
@@ -22,10 +22,10 @@ slice-aggregate-links : tie.Need-slice-aggregate-links
 slice-aggregate-links c = links-counted (c .before .before .before .before .decode .ensures)
 
 array-share-prefix-places : tie.Need-array-share-prefix-places
-array-share-prefix-places c = c .before .before .before .before .decode .ensures .destinations-within
+array-share-prefix-places c = c .before .before .before .before .decode .ensures .commodities-within
 
-slice-aggregate-destinations : tie.Need-slice-aggregate-destinations
-slice-aggregate-destinations c = destinations-counted (c .before .before .before .before .before .decode .ensures)
+slice-aggregate-commodities : tie.Need-slice-aggregate-commodities
+slice-aggregate-commodities c = commodities-counted (c .before .before .before .before .before .decode .ensures)
 
 mul-trips : tie.Need-mul-trips
 mul-trips c = omega (arith, trips-few (c .before .before .before .before .before .decode .ensures))
@@ -91,7 +91,7 @@ audit-in-spec =
     slice-reshare-prefix-links
     slice-aggregate-links
     array-share-prefix-places
-    slice-aggregate-destinations
+    slice-aggregate-commodities
     mul-trips
     slice-reshare-prefix-trips
     slice-aggregate-trips

@@ -1,7 +1,7 @@
 -- `assignment::run` meets its contract: there is room for the file in the places that it lends.
 use borrow.Author.Needs.{needs}
 use mathlib.Core.Path.{refl, sym, _∙_}
-use Rattle.network.specs.Laws.Decoding.{room-most, room-short}
+use Rattle.network.specs.Laws.Decoding.{room-most, room-cars, room-short}
 use Rattle.refusals.specs.Laws.Places.{small-length, small-curves, curves-most, curves-counted}
 use Rattle.assignment.proofs.running.run.Statement.{statement}
 use Rattle.assignment.proofs.running.run.Tie as tie
@@ -38,6 +38,9 @@ array-borrow-prefix-curves c = rw (c .curve-places .ensures) (curves-most _)
 slice-aggregate-curves : tie.Need-slice-aggregate-curves
 slice-aggregate-curves c = curves-counted _ _ refl (c .before .curve-places .ensures)
 
+has-lorries-requires : tie.Need-has-lorries-requires
+has-lorries-requires c κs = search needs
+
 slice-aggregate-run-in-4 : tie.Need-slice-aggregate-run-in-4
 slice-aggregate-run-in-4 c = search needs
 
@@ -46,7 +49,7 @@ slice-aggregate-run-in-5 c = search needs
 
 run-in-requires-2 : tie.Need-run-in-requires-2
 run-in-requires-2 c κs =
-    let are = c .before .before .before .before .curve-places .ensures in
+    let are = c .before .before .before .before .before .before .curve-places .ensures in
     (room-most _ refl refl, sym (curves-counted _ _ refl are) ∙ are)
 
 same-length-2 : tie.Need-same-length-2
@@ -54,6 +57,25 @@ same-length-2 c = search needs
 
 returns-2 : tie.Need-returns-2
 returns-2 c = c .before .before .before .before .before .run-in2 .ensures
+
+slice-aggregate-run-in-6 : tie.Need-slice-aggregate-run-in-6
+slice-aggregate-run-in-6 c = search needs
+
+slice-aggregate-run-in-7 : tie.Need-slice-aggregate-run-in-7
+slice-aggregate-run-in-7 c = search needs
+
+run-in-requires-3 : tie.Need-run-in-requires-3
+run-in-requires-3 c κs =
+    let else = c .before .before .before in
+    let asked = else .before in
+    let are = asked .before .before .curve-places .ensures in
+    (room-cars _ (sym (asked .has-lorries .ensures) ∙ else .if2 .left) refl refl, sym (curves-counted _ _ refl are) ∙ are)
+
+same-length-3 : tie.Need-same-length-3
+same-length-3 c = search needs
+
+returns-3 : tie.Need-returns-3
+returns-3 c = c .before .before .before .before .before .run-in3 .ensures
 
 pub run-spec : {M : Type 1} → statement M
 run-spec =
@@ -69,8 +91,14 @@ run-spec =
     curve-places-requires
     array-borrow-prefix-curves
     slice-aggregate-curves
+    has-lorries-requires
     slice-aggregate-run-in-4
     slice-aggregate-run-in-5
     run-in-requires-2
     same-length-2
-    returns-2)
+    returns-2
+    slice-aggregate-run-in-6
+    slice-aggregate-run-in-7
+    run-in-requires-3
+    same-length-3
+    returns-3)

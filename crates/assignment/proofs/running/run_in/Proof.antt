@@ -5,7 +5,7 @@ use borrow.Author.Needs.{needs}
 use denote.Ref.{now}
 use Rattle.calls.specs.Calls.{runNumber}
 use Rattle.calls.specs.Laws.Calls.{run-kept}
-use Rattle.network.specs.Laws.Decoding.{trips-few, links-counted, destinations-counted, trips-counted}
+use Rattle.network.specs.Laws.Decoding.{trips-few, links-counted, commodities-counted, trips-counted}
 use Rattle.refusals.specs.Laws.Parts.{parts-decoded, parts-opened}
 use Rattle.assignment.specs.Laws.Answers.{run-refusal, run-opened}
 use Rattle.assignment.proofs.running.run_in.Statement.{statement}
@@ -21,10 +21,10 @@ slice-aggregate-links : tie.Need-slice-aggregate-links
 slice-aggregate-links c = links-counted (c .before .before .before .before .decode .ensures)
 
 array-share-prefix-places : tie.Need-array-share-prefix-places
-array-share-prefix-places c = c .before .before .before .before .decode .ensures .destinations-within
+array-share-prefix-places c = c .before .before .before .before .decode .ensures .commodities-within
 
-slice-aggregate-destinations : tie.Need-slice-aggregate-destinations
-slice-aggregate-destinations c = destinations-counted (c .before .before .before .before .before .decode .ensures)
+slice-aggregate-commodities : tie.Need-slice-aggregate-commodities
+slice-aggregate-commodities c = commodities-counted (c .before .before .before .before .before .decode .ensures)
 
 mul-trips : tie.Need-mul-trips
 mul-trips c = omega (arith, trips-few (c .before .before .before .before .before .decode .ensures))
@@ -95,7 +95,7 @@ run-in-spec =
     slice-reshare-prefix-links
     slice-aggregate-links
     array-share-prefix-places
-    slice-aggregate-destinations
+    slice-aggregate-commodities
     mul-trips
     slice-reshare-prefix-trips
     slice-aggregate-trips

@@ -1,16 +1,12 @@
 -- `assignment::start_in` meets its contract: it fills a table that its questions accept, and leaves any other.
-use Prim.Native.Nat.{ℕ}
 use native.Mathlib.Omega.{arith}
-use mathlib.Core.Path.{_≡_, refl, sym, _∙_}
+use mathlib.Core.Path.{_≡_, sym, _∙_}
 use borrow.Author.Needs.{needs}
 use denote.Ref.{now}
 use Rattle.calls.specs.Calls.{startNumber}
 use Rattle.calls.specs.Laws.Calls.{start-kept}
-use Rattle.network.specs.Laws.Decoding.{trips-few, links-counted, destinations-counted, trips-counted}
-use Rattle.judging.specs.Laws.Judged.{zeros-lent}
-use Rattle.judging.specs.Laws.Study.{chainable}
-use Rattle.travel.specs.Laws.Powers.{link-powers}
-use Rattle.refusals.specs.Laws.Places.{curve-room, parts-room, start-passed}
+use Rattle.network.specs.Laws.Decoding.{trips-few, links-counted, commodities-counted, trips-counted}
+use Rattle.refusals.specs.Laws.Places.{parts-room, start-passed}
 use Rattle.refusals.specs.Laws.Parts.{parts-decoded}
 use Rattle.refusals.specs.Laws.Ready.{start-ready, start-holds}
 use Rattle.assignment.specs.Laws.Answers.{start-leaves}
@@ -27,10 +23,10 @@ slice-aggregate-links : tie.Need-slice-aggregate-links
 slice-aggregate-links c = links-counted (c .before .before .before .before .decode .ensures)
 
 array-share-prefix-places : tie.Need-array-share-prefix-places
-array-share-prefix-places c = c .before .before .before .before .decode .ensures .destinations-within
+array-share-prefix-places c = c .before .before .before .before .decode .ensures .commodities-within
 
-slice-aggregate-destinations : tie.Need-slice-aggregate-destinations
-slice-aggregate-destinations c = destinations-counted (c .before .before .before .before .before .decode .ensures)
+slice-aggregate-commodities : tie.Need-slice-aggregate-commodities
+slice-aggregate-commodities c = commodities-counted (c .before .before .before .before .before .decode .ensures)
 
 mul-trips : tie.Need-mul-trips
 mul-trips c = omega (arith, trips-few (c .before .before .before .before .before .decode .ensures))
@@ -68,24 +64,12 @@ given c = read c .before .before .before .before .before .before .before .before
 accepted : (c : tie.Else1) → startNumber (now (given c .args .file)) (now (given c .args .table)) ≡ 0
 accepted c = sym (c .before .start-refusal .ensures) ∙ c .if1 .left
 
-put-powers-requires : tie.Need-put-powers-requires
-put-powers-requires c κs =
-    let else = c .before in
-    curve-room _ (start-passed _ _ (accepted else)) (given else .pre .1) .room
-
-link-chains-requires : tie.Need-link-chains-requires
-link-chains-requires c κs =
-    let else = c .before .before .before .before in
-    chainable (start-ready _ _ (parts-decoded (read else .decode .ensures)) (accepted else))
-
-start-table-requires : tie.Need-start-table-requires
-start-table-requires c κs =
-    let chained = c .before .before .before .before .before .before .before in
-    let put = chained .before .before .before in
-    let else = put .before .before in
+load-start-requires : tie.Need-load-start-requires
+load-start-requires c κs =
+    let else = c .before .before in
     let parts = parts-decoded (read else .decode .ensures) in (
-      (start-ready _ _ parts (accepted else), record { chains-are = chained .link-chains .ensures; powers-are = link-powers (parts-room parts (start-passed _ _ (accepted else)) (given else .pre .1)) (put .put-powers .ensures) }),
-      (start-holds _ _ parts (accepted else), (zeros-lent _ refl refl refl refl, refl)),
+      (start-ready _ _ parts (accepted else), parts-room parts (start-passed _ _ (accepted else)) (given else .pre .1)),
+      start-holds _ _ parts (accepted else),
     )
 
 same-length-4 : tie.Need-same-length-4
@@ -102,8 +86,9 @@ same-length-7 c = search needs
 
 returns-2 : tie.Need-returns-2
 returns-2 c =
-    let else = c .before .before .before .before .before .before .before .before .before .before .before .before .before .before .before in
-    (sym (accepted else), start-leaves _ _ (parts-decoded (read else .decode .ensures)) _ (accepted else) (c .before .before .start-table .ensures .0))
+    let loaded = c .before .before .before .before in
+    let else = loaded .before .before .before in
+    (sym (accepted else), start-leaves _ _ (parts-decoded (read else .decode .ensures)) _ (accepted else) (loaded .load-start .ensures))
 
 pub start-in-spec : {M : Type 1} → statement M
 start-in-spec =
@@ -113,7 +98,7 @@ start-in-spec =
     slice-reshare-prefix-links
     slice-aggregate-links
     array-share-prefix-places
-    slice-aggregate-destinations
+    slice-aggregate-commodities
     mul-trips
     slice-reshare-prefix-trips
     slice-aggregate-trips
@@ -122,9 +107,7 @@ start-in-spec =
     same-length-2
     same-length-3
     returns
-    put-powers-requires
-    link-chains-requires
-    start-table-requires
+    load-start-requires
     same-length-4
     same-length-5
     same-length-6

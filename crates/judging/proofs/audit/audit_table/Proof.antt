@@ -6,20 +6,20 @@ use lib.ListN.{length}
 use borrow.Author.Needs.{needs}
 use Rattle.travel.specs.Laws.Powers.{link-powers}
 use Rattle.travel.specs.Laws.Padded.{zeros-clear}
-use Rattle.judging.specs.Laws.Study.{links-fit, chainable, searchable}
+use Rattle.judging.specs.Laws.Study.{links-fit}
 use Rattle.judging.specs.Laws.Judged.{share-fits, totals-within, cost-is, over-is, least-fits, defined-gap}
 use Rattle.judging.proofs.audit.audit_table.Statement.{statement}
 use Rattle.judging.proofs.audit.audit_table.Tie as tie
 
--- The places at which the powers, times, the chain, least times and the times spent are there, each with the one before.
+-- The places at which the powers, times, least times and the times spent are there, each with the one before.
 abbrev of-powers : tie.After-put-powers → tie.Start
 of-powers c = c .before .before .before .before .before .before
 
 abbrev of-times : tie.After-times2 → tie.After-put-powers
 of-times c = c .before .before .before .before .before
 
-abbrev of-least : tie.After-least-times → tie.After-into-chain
-of-least c = c .before .before .before
+abbrev of-least : tie.After-least-times → tie.After-times2
+of-least c = c .before .before
 
 abbrev of-spent : tie.After-product → tie.After-least-times
 of-spent c = c .before .before
@@ -35,17 +35,11 @@ times-requires c κs = let at = c .before .before .before .before in
       (link-powers (start .pre .1 .1) (at .put-powers .ensures), zeros-clear (length (start .args .links .now))),
     )
 
-into-chain-requires : tie.Need-into-chain-requires
-into-chain-requires c κs = chainable (of-powers (of-times c) .pre .0 .ready)
-
 least-times-requires : tie.Need-least-times-requires
-least-times-requires c κs = let chained = c .before .before in
-    let timed = chained .before in
-    let ready = of-powers (of-times timed) .pre .0 .ready in
-    ((searchable ready (timed .times2 .ensures .1), chained .into-chain .ensures), ready .trips-long)
+least-times-requires c κs = let timed = c .before in (of-powers (of-times timed) .pre .0 .ready, timed .times2 .ensures .1)
 
 product-requires : tie.Need-product-requires
-product-requires c κs = let timed = of-least (c .before) .before in
+product-requires c κs = let timed = of-least (c .before) in
     let at = of-times timed in
     let given = of-powers at .pre .0 in
     (given .ready .few-links, timed .times2 .ensures .1 .times-fit, totals-within given (of-powers at .pre .1 .0))
@@ -53,10 +47,10 @@ product-requires c κs = let timed = of-least (c .before) .before in
 -- W × the least times are at most the times spent.
 least :
     (c : tie.After-product) →
-    of-powers (of-times (of-least (of-spent c) .before)) .args .share * of-spent c .least-times .result ≤ c .product .result
+    of-powers (of-times (of-least (of-spent c))) .args .share * of-spent c .least-times .result ≤ c .product .result
 least c =
     let found = of-spent c in
-    let timed = of-least found .before in
+    let timed = of-least found in
     let at = of-times timed in
     let given = of-powers at .pre .0 in
     let most = least-fits given (of-powers at .pre .1 .0) (timed .times2 .ensures .0) (timed .times2 .ensures .1) in
@@ -71,7 +65,7 @@ sub-gap : tie.Need-sub-gap
 sub-gap c = least c
 
 cost-requires : tie.Need-cost-requires
-cost-requires c κs = let at = of-times (of-least (of-spent (c .before)) .before) in
+cost-requires c κs = let at = of-times (of-least (of-spent (c .before))) in
     let given = of-powers at .pre .0 in (
       (links-fit (given .ready), share-fits given, totals-within given (of-powers at .pre .1 .0)),
       link-powers (of-powers at .pre .1 .1) (at .put-powers .ensures),
@@ -83,7 +77,7 @@ same-length c = search needs
 returns : tie.Need-returns
 returns c = let spent = c .before .before in
     let found = of-spent spent in
-    let timed = of-least found .before in
+    let timed = of-least found in
     let at = of-times timed in
     let given = of-powers at .pre .0 in
     let share = of-powers at .args .share in
@@ -101,7 +95,6 @@ audit-table-spec =
     (tie.spec
     put-powers-requires
     times-requires
-    into-chain-requires
     least-times-requires
     product-requires
     mul-gap

@@ -4,6 +4,7 @@ use native.Mathlib.Omega.{arith}
 use mathlib.Core.Path.{refl, _∙_}
 use borrow.Author.Needs.{needs}
 use Rattle.theory.specs.Laws.Cases.{true-false}
+use Rattle.judging.specs.Laws.Classes.{few-commodities}
 use Rattle.judging.specs.Laws.Judged.{known-lent}
 use Rattle.judging.specs.Laws.Start.{no-flows-within, start-addable, start-is}
 use Rattle.judging.proofs.start.start_table.Statement.{statement}
@@ -14,7 +15,7 @@ abbrev of-judge : tie.After-judge → tie.Start
 of-judge c = c .before .before .before .before .before .before .before .before .before
 
 abbrev of-emptied : tie.After-empty-flows → tie.After-judge
-of-emptied c = c .before .before
+of-emptied c = c .before .before .before .before
 
 judge-requires : tie.Need-judge-requires
 judge-requires c κs =
@@ -24,14 +25,14 @@ judge-requires c κs =
     )
 
 mul-empty-flows : tie.Need-mul-empty-flows
-mul-empty-flows c = let ready = of-judge (c .before) .pre .0 .0 in
-    omega (arith, mul-le-mul {n₂ = 32} {m₂ = 512} (ready .few-destinations) (ready .few-links))
+mul-empty-flows c = let ready = of-judge (c .before .before .before) .pre .0 .0 in
+    omega (arith, mul-le-mul {n₂ = 64} {m₂ = 512} (few-commodities ready) (ready .few-links))
 
 empty-flows-requires : tie.Need-empty-flows-requires
-empty-flows-requires c κs = of-judge (c .before) .pre .1 .0
+empty-flows-requires c κs = of-judge (c .before .before .before) .pre .1 .0
 
-add-loadings-requires : tie.Need-add-loadings-requires
-add-loadings-requires c κs = let emptied = c .before .before .before .before .before in
+add-classes-requires : tie.Need-add-classes-requires
+add-classes-requires c κs = let emptied = c .before .before .before .before .before in
     let judged = of-emptied emptied .judge .ensures in
     let at = of-judge (of-emptied emptied) in
     let ((ready, prepared), (holds, (lent, none))) = at .pre in
@@ -40,6 +41,12 @@ add-loadings-requires c κs = let emptied = c .before .before .before .before .b
 same-length : tie.Need-same-length
 same-length c = search needs
 
+same-length-2 : tie.Need-same-length-2
+same-length-2 c = search needs
+
+same-length-3 : tie.Need-same-length-3
+same-length-3 c = search needs
+
 returns : tie.Need-returns
 returns c = let added = c .before .before in
     let emptied = added .before .before .before .before .before .before in
@@ -47,7 +54,7 @@ returns c = let added = c .before .before in
     let at = of-judge (of-emptied emptied) in
     let ((ready, prepared), (holds, (lent, none))) = at .pre in (
       start-is ready (judged .known) (judged .totals-kept ∙ none) (at .args .table .now) holds (emptied .empty-flows .ensures)
-          (added .add-loadings .ensures),
+          (added .add-classes .ensures),
       (known-lent ready (judged .known), judged .totals-kept ∙ none),
     )
 
@@ -58,6 +65,8 @@ start-table-spec =
     judge-requires
     mul-empty-flows
     empty-flows-requires
-    add-loadings-requires
+    add-classes-requires
     same-length
+    same-length-2
+    same-length-3
     returns)

@@ -24,7 +24,7 @@ start c = c .before .before .before .before .before .before .before .before .bef
 
 -- The places at which the gap is there, is too large, j is there, and it is known that there is a move.
 abbrev of-gap : tie.After-gap-of → tie.After-judge
-of-gap c = c .before .before .before
+of-gap c = c .before .before .before .before .before
 
 abbrev of-above : tie.Else1 → tie.After-gap-of
 of-above c = c .before .before
@@ -44,7 +44,7 @@ judged c = of-gap (of-above (of-chosen c))
 
 -- The study that is judged.
 abbrev study : tie.Start → Study
-study c = let x = c .args in studyOf (x .nodes) (x .links .now) (x .destinations .now) (x .trips .now)
+study c = let x = c .args in studyOf (x .nodes) (x .links .now) (x .commodities .now) (x .trips .now)
 
 -- The gap is the table's.
 gap-of :
@@ -76,7 +76,7 @@ judge-requires c κs =
     ((judgeable .ready, share-fits judgeable, prepared), (stands .known, (lent, totals-within judgeable (stands .totals-are))))
 
 gap-of-requires : tie.Need-gap-of-requires
-gap-of-requires c κs = let at = c .before .before in
+gap-of-requires c κs = let at = c .before .before .before .before in
     let given = start at .pre in
     gap-fits (given .0 .0) (at .judge .ensures) (given .1 .1 .totals-are)
 
@@ -89,6 +89,12 @@ mul-if1 c = let given = start (of-gap (c .before)) .pre in
 
 turned-requires : tie.Need-turned-requires
 turned-requires c κs = search needs
+
+same-length : tie.Need-same-length
+same-length c = search needs
+
+same-length-2 : tie.Need-same-length-2
+same-length-2 c = search needs
 
 returns : tie.Need-returns
 returns c = let at = c .before .before .before in
@@ -114,6 +120,12 @@ can-move-requires c κs = start (judged c) .pre .0 .0 .share-most
 turned-requires-2 : tie.Need-turned-requires-2
 turned-requires-2 c κs = search needs
 
+same-length-3 : tie.Need-same-length-3
+same-length-3 c = search needs
+
+same-length-4 : tie.Need-same-length-4
+same-length-4 c = search needs
+
 returns-2 : tie.Need-returns-2
 returns-2 c = let last = c .before in
     let chose = last .before .before in
@@ -132,6 +144,12 @@ returns-2 c = let last = c .before in
 
 turned-requires-3 : tie.Need-turned-requires-3
 turned-requires-3 c κs = search needs
+
+same-length-5 : tie.Need-same-length-5
+same-length-5 c = search needs
+
+same-length-6 : tie.Need-same-length-6
+same-length-6 c = search needs
 
 returns-3 : tie.Need-returns-3
 returns-3 c = let last = c .before in
@@ -164,8 +182,14 @@ move-table-requires c κs = let chose = of-can (of-moved (c .before .before .bef
 turned-requires-4 : tie.Need-turned-requires-4
 turned-requires-4 c κs = search needs
 
-same-length : tie.Need-same-length
-same-length c = search needs
+same-length-7 : tie.Need-same-length-7
+same-length-7 c = search needs
+
+same-length-8 : tie.Need-same-length-8
+same-length-8 c = search needs
+
+same-length-9 : tie.Need-same-length-9
+same-length-9 c = search needs
 
 returns-4 : tie.Need-returns-4
 returns-4 c = let moving = c .before .before .before in
@@ -207,15 +231,23 @@ turn-table-spec =
     cast-if1
     mul-if1
     turned-requires
+    same-length
+    same-length-2
     returns
     chosen-requires
     can-move-requires
     turned-requires-2
+    same-length-3
+    same-length-4
     returns-2
     turned-requires-3
+    same-length-5
+    same-length-6
     returns-3
     move-totals-requires
     move-table-requires
     turned-requires-4
-    same-length
+    same-length-7
+    same-length-8
+    same-length-9
     returns-4)

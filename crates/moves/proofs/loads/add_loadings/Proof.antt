@@ -24,14 +24,14 @@ within :
     (c : tie.In-loop Inv-loop μ-loop) →
     let x = c .before .before .before .args in
     let k = c .before .loop .k in
-    (k * x .m + x .m ≤ length (c .before .loop .table)) × (k * x .m + x .m ≤ 16384)
+    (k * x .m + x .m ≤ length (c .before .loop .table)) × (k * x .m + x .m ≤ 32768)
 within c =
     let given = c .before .before .before .pre in
     let inside = c .loop-test .taken in
-    (rows-within given inside (c .before .loop .inv .1), row-most 32 512 inside (given .few-destinations) (given .few-links))
+    (rows-within given inside (c .before .loop .inv .1), row-most 64 512 inside (given .few-commodities) (given .few-links))
 
-few : (c : tie.In-loop Inv-loop μ-loop) → c .before .loop .k < 32
-few c = omega (arith, c .before .before .before .pre .few-destinations, c .loop-test .taken)
+few : (c : tie.In-loop Inv-loop μ-loop) → c .before .loop .k < 64
+few c = omega (arith, c .before .before .before .pre .few-commodities, c .loop-test .taken)
 
 mul-start : tie.Need-mul-start Inv-loop μ-loop
 mul-start c = omega (arith, within c)
@@ -54,14 +54,16 @@ part-add-volumes-end c = omega (arith, within c)
 mul-add-volumes-2 : tie.Need-mul-add-volumes-2 Inv-loop μ-loop
 mul-add-volumes-2 c = omega (arith, few (c .before))
 
-index-1-add-volumes : tie.Need-index-1-add-volumes Inv-loop μ-loop
-index-1-add-volumes c = few (c .before)
+shared-slice-element-add-volumes : tie.Need-shared-slice-element-add-volumes Inv-loop μ-loop
+shared-slice-element-add-volumes c =
+    let turn = c .before in omega (arith, turn .before .before .before .pre .has-rows .0, turn .loop-test .taken)
 
 mul-add-volumes-3 : tie.Need-mul-add-volumes-3 Inv-loop μ-loop
 mul-add-volumes-3 c = omega (arith, few (c .before .before))
 
-index-1-add-volumes-2 : tie.Need-index-1-add-volumes-2 Inv-loop μ-loop
-index-1-add-volumes-2 c = few (c .before .before)
+shared-slice-element-add-volumes-2 : tie.Need-shared-slice-element-add-volumes-2 Inv-loop μ-loop
+shared-slice-element-add-volumes-2 c =
+    let turn = c .before .before in omega (arith, turn .before .before .before .pre .has-rows .1, turn .loop-test .taken)
 
 add-volumes-requires : tie.Need-add-volumes-requires Inv-loop μ-loop
 add-volumes-requires c κs =
@@ -104,9 +106,9 @@ add-loadings-spec =
     part-add-volumes-start
     part-add-volumes-end
     mul-add-volumes-2
-    index-1-add-volumes
+    shared-slice-element-add-volumes
     mul-add-volumes-3
-    index-1-add-volumes-2
+    shared-slice-element-add-volumes-2
     add-volumes-requires
     add-k
     loop-less

@@ -1,13 +1,13 @@
--- `network::decode` meets its contract: the sections of the file are decoded one by one.
+-- `network::decode` meets its contract: the rows, the commodities and the trips of an accepted file are decoded one after the other.
 use borrow.Author.Needs.{needs}
 use denote.Ref.{now}
 use mathlib.Core.Path.{_≡_, sym, _∙_}
+use native.Mathlib.Omega.{arith}
 use Rattle.study.specs.Laws.{accepted, nodes-field, links-field, destinations-field}
 use Rattle.study.specs.Questions.{refusal}
-use native.Mathlib.Omega.{arith}
-use Rattle.questions.specs.Laws.Questions.{entries-fit}
+use Rattle.calls.specs.Laws.Commodities.{commodities-long}
 use Rattle.network.specs.Decoded.{Counts}
-use Rattle.network.specs.Laws.Decoding.{holds-own, counts, room-links, room-entries, links-there, destinations-there, trips-there, decoded, decoded-refused}
+use Rattle.network.specs.Laws.Decoding.{counts, lorries-most, room-links, room-entries, decoded, decoded-refused}
 use Rattle.network.proofs.decoding.decode.Statement.{statement}
 use Rattle.network.proofs.decoding.decode.Tie as tie
 
@@ -41,49 +41,22 @@ counted c =
     counts _ (c .before .before .node-field .ensures .0 ∙ sym (nodes-field _ open′)) (c .before .link-field .ensures .0 ∙ sym (links-field _ open′))
     (c .destination-field .ensures .0 ∙ sym (destinations-field _ open′))
 
-accepted-section-requires : tie.Need-accepted-section-requires
-accepted-section-requires c κs = (opened (c .before .before .before), search needs)
+lorry-destinations-requires : tie.Need-lorry-destinations-requires
+lorry-destinations-requires c κs = (opened (c .before .before .before), counted c .destinations-are)
 
-accepted-section-requires-2 : tie.Need-accepted-section-requires-2
-accepted-section-requires-2 c κs = (opened (c .before .before .before .before), search needs)
+decode-rows-requires : tie.Need-decode-rows-requires
+decode-rows-requires c κs = (opened (c .before .before .before .before .before), counted (c .before .before) .links-are, room-links (counted (c .before .before)) (start (c .before .before) .pre .0))
 
-accepted-section-requires-3 : tie.Need-accepted-section-requires-3
-accepted-section-requires-3 c κs = (opened (c .before .before .before .before .before), search needs)
+decode-commodities-requires : tie.Need-decode-commodities-requires
+decode-commodities-requires c κs = ((opened (c .before .before .before .before .before .before .before .before), counted (c .before .before .before .before .before) .destinations-are, c .before .before .before .before .lorry-destinations .ensures), start (c .before .before .before .before .before) .pre .1)
 
-accepted-section-requires-4 : tie.Need-accepted-section-requires-4
-accepted-section-requires-4 c κs = (opened (c .before .before .before .before .before .before), search needs)
+decode-entries-requires : tie.Need-decode-entries-requires
+decode-entries-requires c κs =
+    let known = counted (c .before .before .before .before .before .before .before) in
+    ((opened (c .before .before .before .before .before .before .before .before .before .before), known .nodes-are, known .destinations-are, c .before .before .before .before .before .before .lorry-destinations .ensures), room-entries known (start (c .before .before .before .before .before .before .before) .pre .0) (c .before .before .before .before .before .before .lorry-destinations .ensures))
 
-link-size-requires : tie.Need-link-size-requires
-link-size-requires c κs = opened (c .before .before .before .before .before .before .before)
-
-decode-links-requires : tie.Need-decode-links-requires
-decode-links-requires c κs =
-    let parted = c .before .before in
-    let after = parted .before .before .before .before in
-    (room-links (counted after) (start after .pre .0), rw (c .before .link-size .ensures) (links-there (counted after) (parted .before .before .before .accepted-section .ensures)))
-
-decode-closed-requires : tie.Need-decode-closed-requires
-decode-closed-requires c κs =
-    let held = c .before .before .decode-links .ensures in
-    let after = c .before .before .before .before .before .before .before .before .before in
-    (rw (held .long) (room-links (counted after) (start after .pre .0)), holds-own _ held)
-
-decode-destinations-requires : tie.Need-decode-destinations-requires
-decode-destinations-requires c κs =
-    let parted = c .before .before .before .before .before .before .before .before in
-    let after = parted .before .before .before .before in
-    (counted after .destinations-most, destinations-there (counted after) (parted .before .before .accepted-section2 .ensures), start after .pre .1)
-
-mul-decode-trips : tie.Need-mul-decode-trips
-mul-decode-trips c =
-    let known = counted (c .before .before .before .before .before .before .before .before .before .before .before .before .before) in
-    omega (arith, entries-fit (known .nodes-most) (known .destinations-most))
-
-decode-trips-requires : tie.Need-decode-trips-requires
-decode-trips-requires c κs =
-    let parted = c .before .before .before .before .before .before .before .before .before .before in
-    let after = parted .before .before .before .before in
-    (room-entries (counted after) (start after .pre .0), trips-there (counted after) (parted .before .accepted-section3 .ensures))
+add-t18 : tie.Need-add-t18
+add-t18 c = omega (arith, counted (c .before .before .before .before .before .before .before .before .before .before), c .before .before .before .before .before .before .before .before .before .lorry-destinations .ensures, lorries-most (now (start (c .before .before .before .before .before .before .before .before .before .before) .args .file)))
 
 same-length : tie.Need-same-length
 same-length c = search needs
@@ -93,13 +66,9 @@ same-length-2 c = search needs
 
 returns-2 : tie.Need-returns-2
 returns-2 c =
-    let sized = c .before .before .before .before .before .before .before .before .before .before .before .before in
-    let parted = sized .before in
-    let after = parted .before .before .before .before in
-    let rows = rw (sized .link-size .ensures, c .before .before .before .before .before .before .before .before .before .before .decode-links .ensures .long) at (c .before .before .before .before .before .before .before .decode-closed .ensures) in
-    decoded _ _ (start after .pre .0) (after .before .before .before .before .refusal .ensures) (counted after) (parted .before .before .before .accepted-section .ensures)
-    (parted .before .before .accepted-section2 .ensures) (parted .before .accepted-section3 .ensures) (parted .accepted-section4 .ensures) rows
-    (c .before .before .before .before .decode-destinations .ensures) (c .before .before .decode-trips .ensures)
+    let known = counted (c .before .before .before .before .before .before .before .before .before .before) in
+    decoded _ _ (start (c .before .before .before .before .before .before .before .before .before .before) .pre .0) (c .before .before .before .before .before .before .before .before .before .before .before .before .before .before .refusal .ensures) known (omega (arith, known, c .before .before .before .before .before .before .before .before .before .lorry-destinations .ensures, commodities-long (now (start (c .before .before .before .before .before .before .before .before .before .before) .args .file))))
+    (c .before .before .before .before .before .before .before .decode-rows .ensures) (c .before .before .before .before .decode-commodities .ensures) (c .before .before .decode-entries .ensures)
 
 pub decode-spec : {M : Type 1} → statement M
 decode-spec =
@@ -110,16 +79,11 @@ decode-spec =
     node-field-requires
     link-field-requires
     destination-field-requires
-    accepted-section-requires
-    accepted-section-requires-2
-    accepted-section-requires-3
-    accepted-section-requires-4
-    link-size-requires
-    decode-links-requires
-    decode-closed-requires
-    decode-destinations-requires
-    mul-decode-trips
-    decode-trips-requires
+    lorry-destinations-requires
+    decode-rows-requires
+    decode-commodities-requires
+    decode-entries-requires
+    add-t18
     same-length
     same-length-2
     returns-2)

@@ -12,24 +12,24 @@ use Rattle.network.proofs.decoding.decode_destinations.Statement.{state
 use Rattle.network.proofs.decoding.decode_destinations.Tie as tie
 
 abbrev Inv-loop : tie.InvT-loop
-Inv-loop bytes p destinations₀ k₀ destinations k = (k ≤ p) × Holds 32 (nodesIn bytes k) destinations
+Inv-loop bytes p commodities₀ k₀ commodities k = (k ≤ p) × Holds 64 (nodesIn bytes k) commodities
 
 abbrev μ-loop : tie.MeasureT-loop
-μ-loop bytes p destinations₀ k₀ destinations k = p - k
+μ-loop bytes p commodities₀ k₀ commodities k = p - k
 
 loop-holds : tie.Need-loop-holds Inv-loop μ-loop
 unfolding nodesIn tabulate
-loop-holds c = (search needs, holds-none 32 (c .before .pre .2))
+loop-holds c = (search needs, holds-none 64 (c .before .pre .2))
 
 destination-requires : tie.Need-destination-requires Inv-loop μ-loop
 unfolding HasDestinations
 destination-requires c κs = c .before .before .before .pre .1 (c .before .loop .k) (search needs)
 
-mul-destinations : tie.Need-mul-destinations Inv-loop μ-loop
-mul-destinations c = search needs
+mul-commodities : tie.Need-mul-commodities Inv-loop μ-loop
+mul-commodities c = search needs
 
-element-write-destinations : tie.Need-element-write-destinations Inv-loop μ-loop
-element-write-destinations c = search needs
+element-write-commodities : tie.Need-element-write-commodities Inv-loop μ-loop
+element-write-commodities c = search needs
 
 add-k : tie.Need-add-k Inv-loop μ-loop
 add-k c = search needs
@@ -41,7 +41,7 @@ loop-again : tie.Need-loop-again Inv-loop μ-loop
 unfolding nodesIn
 loop-again c =
     let bytes = now (c .before .before .before .before .args .bytes) in
-    (search needs, holds-next 32 (destination bytes) (c .before .before .loop .k) (search needs) (c .before .before .loop .inv .1) (c .destination .ensures))
+    (search needs, holds-next 64 (destination bytes) (c .before .before .loop .k) (search needs) (c .before .before .loop .inv .1) (c .destination .ensures))
 
 returns : tie.Need-returns Inv-loop μ-loop
 returns c =
@@ -57,8 +57,8 @@ decode-destinations-spec =
     μ-loop
     loop-holds
     destination-requires
-    mul-destinations
-    element-write-destinations
+    mul-commodities
+    element-write-commodities
     add-k
     loop-less
     loop-again

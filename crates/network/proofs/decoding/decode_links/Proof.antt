@@ -15,7 +15,7 @@ use Rattle.network.proofs.decoding.decode_links.Statement.{statement}
 use Rattle.network.proofs.decoding.decode_links.Tie as tie
 
 abbrev Inv-loop : tie.InvT-loop
-Inv-loop bytes size m links₀ l₀ links l = (l ≤ m) × Holds (length links₀) (linkRowsIn bytes size [] l) links
+Inv-loop bytes size m links₀ l₀ links l = (l ≤ m) × Holds (length links₀) (linkRowsIn bytes size [] [] l) links
 
 abbrev μ-loop : tie.MeasureT-loop
 μ-loop bytes size m links₀ l₀ links l = m - l
@@ -72,7 +72,7 @@ loop-again c =
     let x = read .before .before .before .before .before .before .before .before .args in
     let loop = read .before .before .before .before .before .before .loop in (
       search needs,
-      holds-next _ (linkRow (now (x .bytes)) (x .size) []) (loop .l) (omega arith) (loop .inv .1)
+      holds-next _ (linkRow (now (x .bytes)) (x .size) [] []) (loop .l) (omega arith) (loop .inv .1)
           (row-read _ _ _ (read .before .before .before .before .tail .ensures) (read .before .before .before .head .ensures)
           (read .before .before .free-time .ensures) (read .before .rise .ensures) (read .capacity .ensures)
           (c .power-byte .ensures ∙ ap asByte (c .before .power .ensures))),

@@ -12,7 +12,7 @@ use Rattle.calls.specs.Laws.Questions.{check-passed}
 use Rattle.calls.specs.Questions.{packedSize}
 use Rattle.network.specs.Decoded.{Counts}
 use Rattle.network.specs.Laws.Decoding.{counts}
-use Rattle.network.specs.Laws.Packing.{size-is, pack-refused, pack-short, pack-written}
+use Rattle.network.specs.Laws.Packing.{end-is, pack-refused, pack-short, pack-written}
 use Rattle.network.proofs.packing.pack.Statement.{statement}
 use Rattle.network.proofs.packing.pack.Tie as tie
 
@@ -48,31 +48,30 @@ counted c =
 version-requires : tie.Need-version-requires
 version-requires c κs = accepted _ (opened (c .before .before .before)) .length-least
 
-places-of-requires : tie.Need-places-of-requires
-places-of-requires c κs =
+packed-end-requires : tie.Need-packed-end-requires
+packed-end-requires c κs =
     let counts = counted (c .before) in
     (rw (c .version .ensures) (accepted _ (opened (c .before .before .before .before)) .version-known), (counts .nodes-most, counts .links-most, counts .destinations-most))
 
 -- The end of the packed study is its packed size.
-end-is : (c : tie.After-places-of) → c .places-of .result .end ≡ packedSize (now (c .before .before .before .before .before .before .before .before .before .args .file))
-end-is c = rw (c .places-of .ensures, c .before .version .ensures) (size-is (counted (c .before .before)))
+packed-at : (c : tie.After-packed-end) → c .packed-end .result ≡ packedSize (now (c .before .before .before .before .before .before .before .before .before .args .file))
+packed-at c = rw (c .packed-end .ensures, c .before .version .ensures) (end-is (counted (c .before .before)))
 
 returns-2 : tie.Need-returns-2
-returns-2 c = pack-short _ _ (passed (c .before .before .before .before .before .before .before)) (omega (arith, end-is (c .before .before)))
+returns-2 c = pack-short _ _ (passed (c .before .before .before .before .before .before)) (omega (arith, packed-at (c .before)))
 
 -- The output is long enough.
-held : (c : tie.Else2) → packedSize (now (c .before .before .before .before .before .before .before .before .before .before .before .args .file)) ≤ length (now (c .before .before .before .before .before .before .before .before .before .before .before .args .output))
-held c = omega (arith, end-is (c .before .before))
+held : (c : tie.Else2) → packedSize (now (c .before .before .before .before .before .before .before .before .before .before .args .file)) ≤ length (now (c .before .before .before .before .before .before .before .before .before .before .args .output))
+held c = omega (arith, packed-at (c .before))
 
 write-study-requires : tie.Need-write-study-requires
-write-study-requires c κs =
-    ((counted (c .before .before .before .before .before), opened (c .before .before .before .before .before .before .before .before)), held (c .before))
+write-study-requires c κs = ((counted (c .before .before .before .before), opened (c .before .before .before .before .before .before .before)), held (c .before))
 
 same-length : tie.Need-same-length
 same-length c = search needs
 
 returns-3 : tie.Need-returns-3
-returns-3 c = pack-written _ _ (passed (c .before .before .before .before .before .before .before .before .before .before .before)) (held (c .before .before .before .before)) (c .before .before .write-study .ensures)
+returns-3 c = pack-written _ _ (passed (c .before .before .before .before .before .before .before .before .before .before)) (held (c .before .before .before .before)) (c .before .before .write-study .ensures)
 
 pub pack-spec : {M : Type 1} → statement M
 pack-spec =
@@ -84,7 +83,7 @@ pack-spec =
     link-field-requires
     destination-field-requires
     version-requires
-    places-of-requires
+    packed-end-requires
     returns-2
     write-study-requires
     same-length

@@ -16,14 +16,14 @@ use Rattle.notes.proofs.following.follow_row.Statement.{statement}
 use Rattle.notes.proofs.following.follow_row.Tie as tie
 
 abbrev Inv-loop : tie.InvT-loop
-Inv-loop nodes links s trips note first next₀ origin₀ j₀ next origin j =
+Inv-loop nodes links commodity trips note first next₀ origin₀ j₀ next origin j =
     (j ≤ nodes)
-    × (rowLeads nodes links s note first (λ i. getD trips i 0) j ≡ true)
-    × Followed nodes links s note first (λ i. getD trips i 0) j next
+    × (rowLeads nodes links commodity note first (λ i. getD trips i 0) j ≡ true)
+    × Followed nodes links commodity note first (λ i. getD trips i 0) j next
     × Origins nodes j next origin
 
 abbrev μ-loop : tie.MeasureT-loop
-μ-loop nodes links s trips note first next₀ origin₀ j₀ next origin j = nodes - j
+μ-loop nodes links commodity trips note first next₀ origin₀ j₀ next origin j = nodes - j
 
 loop-holds : tie.Need-loop-holds Inv-loop μ-loop
 loop-holds c = let given = c .before .before .before .pre in (omega arith, row-none (given .0) _, followed-none (given .0) _, origins-none (given .0) (given .2))

@@ -10,6 +10,7 @@ use borrow.Author.Tests.{not-true, not-false, eq-eqb, ne-eqb}
 use denote.Ref.{now}
 use lib.ListN.{length, getD}
 use lib.Dec.{eqb}
+use Rattle.theory.specs.Study.{nodeOf}
 use Rattle.theory.specs.Laws.Cases.{on-equal, true-false}
 use Rattle.notes.specs.Followed.{Readable, Tracing, isSettled, mayFollow}
 use Rattle.notes.specs.Laws.Followed.{unsettled-both, walking-stuck, walking-long, tracing-none, tracing-on, link-below, node-within, home-leads, home-traced, earlier-leads, earlier-traced, round-leads}
@@ -17,10 +18,10 @@ use Rattle.notes.proofs.following.trace.Statement.{statement}
 use Rattle.notes.proofs.following.trace.Tie as tie
 
 abbrev Inv-loop : tie.InvT-loop
-Inv-loop nodes links s note first next₀ origin₀ from j₀ steps₀ next origin j steps = Tracing nodes links s note first from next₀ j steps next origin
+Inv-loop nodes links commodity note first next₀ origin₀ from j₀ steps₀ next origin j steps = Tracing nodes links commodity note first from next₀ j steps next origin
 
 abbrev μ-loop : tie.MeasureT-loop
-μ-loop nodes links s note first next₀ origin₀ from j₀ steps₀ next origin j steps = nodes - steps
+μ-loop nodes links commodity note first next₀ origin₀ from j₀ steps₀ next origin j steps = nodes - steps
 
 -- The beginning, from a turn of the loop, and the turn, from where its node is not settled.
 abbrev given : tie.At-loop Inv-loop μ-loop → tie.Start Inv-loop μ-loop
@@ -36,14 +37,14 @@ loop-holds c = let begin = c .before in tracing-none (begin .pre .0) (begin .pre
 node : (c : tie.At-loop Inv-loop μ-loop) → c .loop .j < 128
 node c = omega (arith, c .loop .inv .walking .node, given c .pre .0 .few-nodes)
 
-readable : (c : tie.Then1 Inv-loop μ-loop) → let x = given (turn-of c) .args in Readable (x .nodes) (now (x .links)) (x .s) (now (x .note)) (x .first)
+readable : (c : tie.Then1 Inv-loop μ-loop) → let x = given (turn-of c) .args in Readable (x .nodes) (now (x .links)) (x .commodity) (now (x .note)) (x .first)
 readable c = given (turn-of c) .pre .0
 
-unsettled : (c : tie.Then1 Inv-loop μ-loop) → isSettled (turn-of c .loop .next) (given (turn-of c) .args .s) (turn-of c .loop .j) ≡ false
+unsettled : (c : tie.Then1 Inv-loop μ-loop) → isSettled (turn-of c .loop .next) (nodeOf (given (turn-of c) .args .commodity)) (turn-of c .loop .j) ≡ false
 unsettled c = sym (c .before .is-settled .ensures) ∙ not-true _ (c .if1 .taken)
 
-away : (c : tie.Then1 Inv-loop μ-loop) → turn-of c .loop .j ≢ given (turn-of c) .args .s
-away c = unsettled-both (turn-of c .loop .next) (given (turn-of c) .args .s) (turn-of c .loop .j) (unsettled c) .0
+away : (c : tie.Then1 Inv-loop μ-loop) → turn-of c .loop .j ≢ nodeOf (given (turn-of c) .args .commodity)
+away c = unsettled-both (turn-of c .loop .next) (nodeOf (given (turn-of c) .args .commodity)) (turn-of c .loop .j) (unsettled c) .0
 
 is-settled-requires : tie.Need-is-settled-requires Inv-loop μ-loop
 is-settled-requires c κs = node (c .before)
@@ -134,35 +135,39 @@ loop-again c =
 abbrev last : tie.Else1 Inv-loop μ-loop → tie.At-loop Inv-loop μ-loop
 last c = c .before .before .before
 
-settled : (c : tie.Else1 Inv-loop μ-loop) → isSettled (last c .loop .next) (given (last c) .args .s) (last c .loop .j) ≡ true
+settled : (c : tie.Else1 Inv-loop μ-loop) → isSettled (last c .loop .next) (nodeOf (given (last c) .args .commodity)) (last c .loop .j) ≡ true
 settled c = sym (c .before .is-settled .ensures) ∙ not-false _ (c .if1 .left)
+
+node-of-requires : tie.Need-node-of-requires Inv-loop μ-loop
+node-of-requires c κs = search needs
 
 returns-3 : tie.Need-returns-3 Inv-loop μ-loop
 returns-3 c =
-    let else = c .before in
+    let else = c .before .before in
     let turn = last else in
-    let r = given turn .pre .0 in (
-      sym (home-leads r (turn .loop .inv) (settled else) (c .if4 .taken)),
-      (λ e. home-traced r (turn .loop .inv) (settled else) (c .if4 .taken), turn .loop .inv .origins .size),
+    let r = given turn .pre .0 in
+    let home = c .if4 .taken ∙ c .before .node-of .ensures in (
+      sym (home-leads r (turn .loop .inv) (settled else) home),
+      (λ e. home-traced r (turn .loop .inv) (settled else) home, turn .loop .inv .origins .size),
     )
 
 mul-index-2 : tie.Need-mul-index-2 Inv-loop μ-loop
-mul-index-2 c = omega (arith, node (last (c .before)))
+mul-index-2 c = omega (arith, node (last (c .before .before)))
 
 element-copy-out-index : tie.Need-element-copy-out-index Inv-loop μ-loop
-element-copy-out-index c = node (last (c .before))
+element-copy-out-index c = node (last (c .before .before))
 
 index-requires-3 : tie.Need-index-requires-3 Inv-loop μ-loop
 index-requires-3 c κs = search needs
 
 returns-4 : tie.Need-returns-4 Inv-loop μ-loop
 returns-4 c =
-    let else = c .before .before .before in
+    let else = c .before .before .before .before in
     let turn = last else in
     let from = given turn .args .from in
     let r = given turn .pre .0 in
     let inv = turn .loop .inv in
-    let off = c .before .before .if4 .left in
+    let off : turn .loop .j ≢ nodeOf (given turn .args .commodity) = λ e. c .before .before .if4 .left (e ∙ sym (c .before .before .before .node-of .ensures)) in
     on-equal
     (c .index3 .result)
     from
@@ -201,6 +206,7 @@ trace-spec =
     add-steps
     loop-less
     loop-again
+    node-of-requires
     returns-3
     mul-index-2
     element-copy-out-index

@@ -25,7 +25,7 @@ loop-holds : tie.Need-loop-holds Inv-loop μ-loop
 unfolding all
 loop-holds c = (search needs, refl)
 
--- The place at which the function begins, from that at which a turn does; and the turn in which a destination is looked at, and a part put.
+-- The place at which the function begins, from that at which a turn does; and the turn in which a commodity is looked at, and a part put.
 abbrev start : tie.In-loop Inv-loop μ-loop → tie.Start Inv-loop μ-loop
 start c = c .before .before .before
 
@@ -40,7 +40,7 @@ within :
     (c : tie.After-put-part Inv-loop μ-loop) →
     let x = start (turn c) .args in
     let k = turn c .before .loop .k in
-    (k * x .m + x .m ≤ length (x .table .now)) × (k * x .m + x .m ≤ 16384)
+    (k * x .m + x .m ≤ length (x .table .now)) × (k * x .m + x .m ≤ 32768)
 within c =
     let given = start (turn c) .pre in
     let inside = turn c .loop-test .taken in
@@ -49,27 +49,27 @@ within c =
 mul-any-trips : tie.Need-mul-any-trips Inv-loop μ-loop
 mul-any-trips c = search needs
 
-index-1-any-trips : tie.Need-index-1-any-trips Inv-loop μ-loop
-index-1-any-trips c = search needs
+shared-slice-element-any-trips : tie.Need-shared-slice-element-any-trips Inv-loop μ-loop
+shared-slice-element-any-trips c = search needs
 
 any-trips-requires : tie.Need-any-trips-requires Inv-loop μ-loop
 any-trips-requires c κs = search needs
 
--- Where no trips leave any node to the destination, its volumes are 0.
+-- Where no trips leave any node of the commodity, its volumes are 0.
 idle : (c : tie.Else1 Inv-loop μ-loop) → ZeroBelow 128 (getD (now (start (seen (c .before)) .args .volumes)) (seen (c .before) .before .loop .k) [])
 idle c i h = c .before .any-trips .ensures (c .if1 .left) i (omega (arith, c .before .before .any-trips-arg2 .given))
 
 mul-put-part : tie.Need-mul-put-part Inv-loop μ-loop
 mul-put-part c = search needs
 
-index-1-put-part : tie.Need-index-1-put-part Inv-loop μ-loop
-index-1-put-part c = search needs
+shared-slice-element-put-part : tie.Need-shared-slice-element-put-part Inv-loop μ-loop
+shared-slice-element-put-part c = search needs
 
 mul-put-part-2 : tie.Need-mul-put-part-2 Inv-loop μ-loop
 mul-put-part-2 c = search needs
 
-index-1-put-part-2 : tie.Need-index-1-put-part-2 Inv-loop μ-loop
-index-1-put-part-2 c = search needs
+shared-slice-element-put-part-2 : tie.Need-shared-slice-element-put-part-2 Inv-loop μ-loop
+shared-slice-element-put-part-2 c = search needs
 
 put-part-requires : tie.Need-put-part-requires Inv-loop μ-loop
 put-part-requires c κs = let turn = seen (c .before .before .before .before) in row-scatterable (start turn .pre) (turn .loop-test .taken)
@@ -137,12 +137,12 @@ holds-part-spec =
     μ-loop
     loop-holds
     mul-any-trips
-    index-1-any-trips
+    shared-slice-element-any-trips
     any-trips-requires
     mul-put-part
-    index-1-put-part
+    shared-slice-element-put-part
     mul-put-part-2
-    index-1-put-part-2
+    shared-slice-element-put-part-2
     put-part-requires
     mul-start
     add-end

@@ -1,5 +1,5 @@
--- `put_links` meets its contract. The invariant: the rows of the first `k` destinations stand behind the first number. The measure is what is
--- left of the destinations.
+-- `put_links` meets its contract. The invariant: the rows of the first `k` commodities stand behind the first number. The measure is what is
+-- left of the commodities.
 use Prim.Native.Nat.{_-_, _≤_}
 use mathlib.Core.Path.{_≡_}
 use native.Mathlib.Omega.{arith}
@@ -25,8 +25,8 @@ loop-holds c = (search needs, links-none _ _ _ _)
 mul-put-row : tie.Need-mul-put-row Inv-loop μ-loop
 mul-put-row c = search needs
 
-index-1-put-row : tie.Need-index-1-put-row Inv-loop μ-loop
-index-1-put-row c = search needs
+shared-slice-element-put-row : tie.Need-shared-slice-element-put-row Inv-loop μ-loop
+shared-slice-element-put-row c = search needs
 
 put-row-requires : tie.Need-put-row-requires Inv-loop μ-loop
 put-row-requires c κs =
@@ -68,7 +68,7 @@ put-links-spec =
     slice-write-note
     loop-holds
     mul-put-row
-    index-1-put-row
+    shared-slice-element-put-row
     put-row-requires
     add-k
     loop-less

@@ -6,7 +6,7 @@ use denote.Ref.{now}
 use Rattle.calls.specs.Calls.{pageNumber}
 use Rattle.calls.specs.Laws.Calls.{page-kept}
 use Rattle.calls.specs.Laws.Questions.{Passed}
-use Rattle.network.specs.Laws.Decoding.{decoded-counts, trips-few, links-counted, destinations-counted, trips-counted}
+use Rattle.network.specs.Laws.Decoding.{decoded-counts, trips-few, links-counted, commodities-counted, trips-counted}
 use Rattle.travel.specs.Laws.Powers.{link-powers}
 use Rattle.refusals.specs.Laws.Parts.{parts-decoded}
 use Rattle.refusals.specs.Laws.Places.{curve-room, parts-room, table-passed}
@@ -24,10 +24,10 @@ slice-aggregate-links : tie.Need-slice-aggregate-links
 slice-aggregate-links c = links-counted (c .before .before .before .before .decode .ensures)
 
 array-share-prefix-places : tie.Need-array-share-prefix-places
-array-share-prefix-places c = c .before .before .before .before .decode .ensures .destinations-within
+array-share-prefix-places c = c .before .before .before .before .decode .ensures .commodities-within
 
-slice-aggregate-destinations : tie.Need-slice-aggregate-destinations
-slice-aggregate-destinations c = destinations-counted (c .before .before .before .before .before .decode .ensures)
+slice-aggregate-commodities : tie.Need-slice-aggregate-commodities
+slice-aggregate-commodities c = commodities-counted (c .before .before .before .before .before .decode .ensures)
 
 mul-trips : tie.Need-mul-trips
 mul-trips c = omega (arith, trips-few (c .before .before .before .before .before .decode .ensures))
@@ -126,7 +126,7 @@ page-in-spec =
     slice-reshare-prefix-links
     slice-aggregate-links
     array-share-prefix-places
-    slice-aggregate-destinations
+    slice-aggregate-commodities
     mul-trips
     slice-reshare-prefix-trips
     slice-aggregate-trips

@@ -1,7 +1,7 @@
 -- `passes::pass` meets its contract: there is room for the file in the places that it lends.
 use borrow.Author.Needs.{needs}
 use mathlib.Core.Path.{refl, sym, _∙_}
-use Rattle.network.specs.Laws.Decoding.{room-most, room-short}
+use Rattle.network.specs.Laws.Decoding.{room-most, room-cars, room-short}
 use Rattle.refusals.specs.Laws.Places.{small-length, small-curves, curves-most, curves-counted}
 use Rattle.passes.proofs.passing.pass.Statement.{statement}
 use Rattle.passes.proofs.passing.pass.Tie as tie
@@ -38,6 +38,9 @@ array-borrow-prefix-curves c = rw (c .curve-places .ensures) (curves-most _)
 slice-aggregate-curves : tie.Need-slice-aggregate-curves
 slice-aggregate-curves c = curves-counted _ _ refl (c .before .curve-places .ensures)
 
+has-lorries-requires : tie.Need-has-lorries-requires
+has-lorries-requires c κs = search needs
+
 slice-aggregate-pass-in-4 : tie.Need-slice-aggregate-pass-in-4
 slice-aggregate-pass-in-4 c = search needs
 
@@ -46,7 +49,7 @@ slice-aggregate-pass-in-5 c = search needs
 
 pass-in-requires-2 : tie.Need-pass-in-requires-2
 pass-in-requires-2 c κs =
-    let are = c .before .before .before .before .before .curve-places .ensures in
+    let are = c .before .before .before .before .before .before .before .curve-places .ensures in
     (room-most _ refl refl, sym (curves-counted _ _ refl are) ∙ are)
 
 same-length-2 : tie.Need-same-length-2
@@ -60,6 +63,27 @@ same-length-4 c = search needs
 
 returns-2 : tie.Need-returns-2
 returns-2 c = c .before .before .before .before .before .before .before .pass-in2 .ensures
+
+slice-aggregate-pass-in-6 : tie.Need-slice-aggregate-pass-in-6
+slice-aggregate-pass-in-6 c = search needs
+
+slice-aggregate-pass-in-7 : tie.Need-slice-aggregate-pass-in-7
+slice-aggregate-pass-in-7 c = search needs
+
+pass-in-requires-3 : tie.Need-pass-in-requires-3
+pass-in-requires-3 c κs =
+    let else = c .before .before .before .before in
+    let are = else .before .before .before .curve-places .ensures in
+    (room-cars _ (sym (else .before .has-lorries .ensures) ∙ else .if2 .left) refl refl, sym (curves-counted _ _ refl are) ∙ are)
+
+same-length-5 : tie.Need-same-length-5
+same-length-5 c = search needs
+
+same-length-6 : tie.Need-same-length-6
+same-length-6 c = search needs
+
+returns-3 : tie.Need-returns-3
+returns-3 c = c .before .before .before .before .before .before .before .pass-in3 .ensures
 
 pub pass-spec : {M : Type 1} → statement M
 pass-spec =
@@ -76,9 +100,16 @@ pass-spec =
     curve-places-requires
     array-borrow-prefix-curves
     slice-aggregate-curves
+    has-lorries-requires
     slice-aggregate-pass-in-4
     slice-aggregate-pass-in-5
     pass-in-requires-2
     same-length-3
     same-length-4
-    returns-2)
+    returns-2
+    slice-aggregate-pass-in-6
+    slice-aggregate-pass-in-7
+    pass-in-requires-3
+    same-length-5
+    same-length-6
+    returns-3)

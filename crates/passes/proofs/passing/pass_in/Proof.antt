@@ -7,7 +7,7 @@ use borrow.Author.Needs.{needs}
 use denote.Ref.{now}
 use Rattle.calls.specs.Calls.{passNumber}
 use Rattle.calls.specs.Laws.Calls.{pass-kept, note-kept}
-use Rattle.network.specs.Laws.Decoding.{trips-few, links-counted, destinations-counted, trips-counted}
+use Rattle.network.specs.Laws.Decoding.{trips-few, links-counted, commodities-counted, trips-counted}
 use Rattle.refusals.specs.Laws.Parts.{parts-decoded}
 use Rattle.refusals.specs.Laws.Places.{parts-room, table-passed}
 use Rattle.passes.specs.Laws.{pass-refusal, table-accepted, pass-ready, note-room, pass-answers, pass-leaves, pass-notes}
@@ -24,10 +24,10 @@ slice-aggregate-links : tie.Need-slice-aggregate-links
 slice-aggregate-links c = links-counted (c .before .before .before .before .decode .ensures)
 
 array-share-prefix-places : tie.Need-array-share-prefix-places
-array-share-prefix-places c = c .before .before .before .before .decode .ensures .destinations-within
+array-share-prefix-places c = c .before .before .before .before .decode .ensures .commodities-within
 
-slice-aggregate-destinations : tie.Need-slice-aggregate-destinations
-slice-aggregate-destinations c = destinations-counted (c .before .before .before .before .before .decode .ensures)
+slice-aggregate-commodities : tie.Need-slice-aggregate-commodities
+slice-aggregate-commodities c = commodities-counted (c .before .before .before .before .before .decode .ensures)
 
 mul-trips : tie.Need-mul-trips
 mul-trips c = omega (arith, trips-few (c .before .before .before .before .before .decode .ensures))
@@ -122,7 +122,7 @@ pass-in-spec =
     slice-reshare-prefix-links
     slice-aggregate-links
     array-share-prefix-places
-    slice-aggregate-destinations
+    slice-aggregate-commodities
     mul-trips
     slice-reshare-prefix-trips
     slice-aggregate-trips

@@ -4,9 +4,9 @@ use mathlib.Core.Path.{_≡_, refl, sym, _∙_}
 use borrow.Author.Needs.{needs}
 use denote.Ref.{now}
 use Rattle.calls.specs.Calls.{passNumber}
-use Rattle.network.specs.Laws.Decoding.{trips-few, links-counted, destinations-counted, trips-counted}
+use Rattle.network.specs.Laws.Decoding.{trips-few, links-counted, commodities-counted, trips-counted}
 use Rattle.refusals.specs.Laws.Parts.{parts-decoded}
-use Rattle.passes.specs.Laws.{back-refused, back-kept, takeable, back-answers, back-leaves}
+use Rattle.passes.specs.Laws.{back-refused, back-kept, takeable, few-cars, back-answers, back-leaves}
 use Rattle.passes.proofs.taking.take_back_in.Statement.{statement}
 use Rattle.passes.proofs.taking.take_back_in.Tie as tie
 
@@ -20,10 +20,10 @@ slice-aggregate-links : tie.Need-slice-aggregate-links
 slice-aggregate-links c = links-counted (c .before .before .before .before .decode .ensures)
 
 array-share-prefix-places : tie.Need-array-share-prefix-places
-array-share-prefix-places c = c .before .before .before .before .decode .ensures .destinations-within
+array-share-prefix-places c = c .before .before .before .before .decode .ensures .commodities-within
 
-slice-aggregate-destinations : tie.Need-slice-aggregate-destinations
-slice-aggregate-destinations c = destinations-counted (c .before .before .before .before .before .decode .ensures)
+slice-aggregate-commodities : tie.Need-slice-aggregate-commodities
+slice-aggregate-commodities c = commodities-counted (c .before .before .before .before .before .decode .ensures)
 
 mul-trips : tie.Need-mul-trips
 mul-trips c = omega (arith, trips-few (c .before .before .before .before .before .decode .ensures))
@@ -64,8 +64,11 @@ given c = read c .before .before .before .before .before .before .before .before
 accepted : (c : tie.Else1) → let x = given c .args in passNumber (now (x .file)) (now (x .table)) (x .share) (now (x .note)) ≡ 0
 accepted c = sym (c .before .note-refusal .ensures .0) ∙ c .if1 .left
 
-take-back-table-requires : tie.Need-take-back-table-requires
-take-back-table-requires c κs = let else = c .before in takeable _ _ _ _ (parts-decoded (read else .decode .ensures)) (accepted else)
+take-by-note-requires : tie.Need-take-by-note-requires
+take-by-note-requires c κs =
+    let else = c .before in
+    let parts = parts-decoded (read else .decode .ensures) in
+    (takeable _ _ _ _ parts (accepted else), few-cars _ _ _ _ parts (accepted else))
 
 same-length-4 : tie.Need-same-length-4
 same-length-4 c = search needs
@@ -81,7 +84,7 @@ returns-2 c =
     let took = c .before .before in
     let else = took .before .before in
     let parts = parts-decoded (read else .decode .ensures) in
-    (back-answers _ _ _ _ parts (accepted else) _ _ (took .take-back-table .ensures), back-leaves _ _ _ _ parts (accepted else) _ _ (took .take-back-table .ensures))
+    (back-answers _ _ _ _ parts (accepted else) _ _ (took .take-by-note .ensures), back-leaves _ _ _ _ parts (accepted else) _ _ (took .take-by-note .ensures))
 
 pub take-back-in-spec : {M : Type 1} → statement M
 take-back-in-spec =
@@ -91,7 +94,7 @@ take-back-in-spec =
     slice-reshare-prefix-links
     slice-aggregate-links
     array-share-prefix-places
-    slice-aggregate-destinations
+    slice-aggregate-commodities
     mul-trips
     slice-reshare-prefix-trips
     slice-aggregate-trips
@@ -101,7 +104,7 @@ take-back-in-spec =
     same-length-2
     same-length-3
     returns
-    take-back-table-requires
+    take-by-note-requires
     same-length-4
     same-length-5
     same-length-6

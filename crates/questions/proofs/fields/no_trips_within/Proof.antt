@@ -1,4 +1,4 @@
--- `questions::questions::no_trips_within` meets its contract: the destinations before k have no trips of their own.
+-- `questions::questions::no_trips_within` meets its contract: the commodities before k have no trips of their own.
 use borrow.Author.Needs.{needs}
 use denote.Ref.{now}
 use mathlib.Core.Bool.{true}
@@ -10,37 +10,37 @@ use lib.ListN.{length, getD}
 use Prim.Native.Nat.{_+_, _*_, _≤_, _<_, _-_}
 use borrow.Author.Tests.{eq-eqb, ne-eqb}
 use Rattle.theory.specs.Finite.{all}
-use Rattle.questions.specs.Laws.Questions.{all-more, all-failed, all-held, withinTest, within-all, destination-below}
+use Rattle.questions.specs.Laws.Questions.{all-more, all-failed, all-held, withinTest, within-all}
 use Rattle.questions.proofs.fields.no_trips_within.Statement.{statement}
 use Rattle.questions.proofs.fields.no_trips_within.Tie as tie
 
 abbrev Inv-loop : tie.InvT-loop
-Inv-loop nodes destinations trips k₀ k =
-    (k ≤ length destinations) × (all k (withinTest nodes destinations trips) ≡ true)
+Inv-loop nodes commodities trips k₀ k =
+    (k ≤ length commodities) × (all k (withinTest nodes commodities trips) ≡ true)
 
 abbrev μ-loop : tie.MeasureT-loop
-μ-loop nodes destinations trips k₀ k = length destinations - k
+μ-loop nodes commodities trips k₀ k = length commodities - k
 
 loop-holds : tie.Need-loop-holds Inv-loop μ-loop
 unfolding all
 loop-holds c = (search needs, refl)
 
-mul-node : tie.Need-mul-node Inv-loop μ-loop
-mul-node c = search needs
+mul-node-of : tie.Need-mul-node-of Inv-loop μ-loop
+mul-node-of c = search needs
 
-shared-slice-read-node : tie.Need-shared-slice-read-node Inv-loop μ-loop
-shared-slice-read-node c = search needs
+shared-slice-read-node-of : tie.Need-shared-slice-read-node-of Inv-loop μ-loop
+shared-slice-read-node-of c = search needs
 
-node-requires : tie.Need-node-requires Inv-loop μ-loop
-node-requires c κs = search needs
+node-of-requires : tie.Need-node-of-requires Inv-loop μ-loop
+node-of-requires c κs = search needs
 
 -- The place of D(s,s) among the entries.
-place : (c : tie.After-node Inv-loop μ-loop) → c .before .before .before .loop .k * c .before .before .before .before .before .before .args .nodes + c .node .result < length (now (c .before .before .before .before .before .before .args .trips))
+place : (c : tie.After-node-of Inv-loop μ-loop) → c .before .before .before .loop .k * c .before .before .before .before .before .before .args .nodes + c .node-of .result < length (now (c .before .before .before .before .before .before .args .trips))
 place c =
     let start = c .before .before .before .before .before .before in
     let k = c .before .before .before .loop .k in
-    let node-below : c .node .result < start .args .nodes = rw (c .node .ensures) (destination-below _ (now (start .args .destinations)) (start .pre .1) k (search needs)) in
-    omega (arith, digits-lt {q = k} {m = length (now (start .args .destinations))} {r = c .node .result} {c = start .args .nodes} (search needs) node-below, start .pre .0)
+    let node-below : c .node-of .result < start .args .nodes = rw (c .node-of .ensures) (start .pre .1 k (search needs)) in
+    omega (arith, digits-lt {q = k} {m = length (now (start .args .commodities))} {r = c .node-of .result} {c = start .args .nodes} (search needs) node-below, start .pre .0)
 
 mul-if1 : tie.Need-mul-if1 Inv-loop μ-loop
 mul-if1 c = omega (arith, place c)
@@ -54,9 +54,9 @@ mul-if1-2 c = omega (arith, place c)
 shared-slice-read-if1 : tie.Need-shared-slice-read-if1 Inv-loop μ-loop
 shared-slice-read-if1 c = place (c .before)
 
-tested : (c : tie.After-node Inv-loop μ-loop) → eqb (getD (now (c .before .before .before .before .before .before .args .trips)) (c .before .before .before .loop .k * c .before .before .before .before .before .before .args .nodes + c .node .result) 0) 0 ≡ withinTest (c .before .before .before .before .before .before .args .nodes) (now (c .before .before .before .before .before .before .args .destinations)) (now (c .before .before .before .before .before .before .args .trips)) (c .before .before .before .loop .k)
+tested : (c : tie.After-node-of Inv-loop μ-loop) → eqb (getD (now (c .before .before .before .before .before .before .args .trips)) (c .before .before .before .loop .k * c .before .before .before .before .before .before .args .nodes + c .node-of .result) 0) 0 ≡ withinTest (c .before .before .before .before .before .before .args .nodes) (now (c .before .before .before .before .before .before .args .commodities)) (now (c .before .before .before .before .before .before .args .trips)) (c .before .before .before .loop .k)
 unfolding withinTest
-tested c = rw (c .node .ensures)
+tested c = rw (c .node-of .ensures)
 
 returns : tie.Need-returns Inv-loop μ-loop
 returns c =
@@ -82,9 +82,9 @@ no-trips-within-spec =
     Inv-loop
     μ-loop
     loop-holds
-    mul-node
-    shared-slice-read-node
-    node-requires
+    mul-node-of
+    shared-slice-read-node-of
+    node-of-requires
     mul-if1
     add-if1
     mul-if1-2

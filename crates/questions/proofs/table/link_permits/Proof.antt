@@ -1,4 +1,4 @@
--- `link_permits` meets its contract: the link may carry the flow to each destination before k.
+-- `link_permits` meets its contract: the link may carry the flow of each commodity before k.
 use Prim.Native.Nat.{_+_, _*_, _-_, _≤_, _<_}
 use mathlib.Core.Path.{_≡_, refl, sym, _∙_}
 use mathlib.Core.Bool.{true}
@@ -8,26 +8,24 @@ use lib.Arith.{digits-lt}
 use lib.ListN.{length}
 use Rattle.study.proofs.Flags.{was-yes, was-no}
 use Rattle.theory.specs.Finite.{all}
+use Rattle.theory.specs.Study.{mayUse, barredTo}
 use Rattle.questions.specs.Laws.Questions.{all-more, all-failed, all-held}
-use Rattle.questions.specs.Laws.Rows.{carryTest, closed-permits}
+use Rattle.questions.specs.Laws.Rows.{carryTest, permits-all}
 use Rattle.questions.proofs.table.link_permits.Statement.{statement}
 use Rattle.questions.proofs.table.link_permits.Tie as tie
 
 abbrev Inv-loop : tie.InvT-loop
-Inv-loop links l destinations table m head k₀ k =
-    (k ≤ length destinations) × (all k (carryTest links destinations table l) ≡ true)
+Inv-loop links l commodities table m link k₀ k =
+    (k ≤ length commodities) × (all k (carryTest links commodities table l) ≡ true)
 
 abbrev μ-loop : tie.MeasureT-loop
-μ-loop links l destinations table m head k₀ k = length destinations - k
+μ-loop links l commodities table m link k₀ k = length commodities - k
 
-mul-head : tie.Need-mul-head Inv-loop μ-loop
-mul-head c = search needs
+mul-link : tie.Need-mul-link Inv-loop μ-loop
+mul-link c = search needs
 
-index-1-head : tie.Need-index-1-head Inv-loop μ-loop
-index-1-head c = search needs
-
-index-2-head : tie.Need-index-2-head Inv-loop μ-loop
-index-2-head c = search needs
+shared-slice-copy-out-link : tie.Need-shared-slice-copy-out-link Inv-loop μ-loop
+shared-slice-copy-out-link c = search needs
 
 loop-holds : tie.Need-loop-holds Inv-loop μ-loop
 unfolding all
@@ -39,14 +37,14 @@ mul-may-carry c = search needs
 shared-slice-read-may-carry : tie.Need-shared-slice-read-may-carry Inv-loop μ-loop
 shared-slice-read-may-carry c = search needs
 
--- The entry of destination k stands in the table.
+-- The entry of commodity k stands in the table.
 place :
     (c : tie.In-loop Inv-loop μ-loop) →
     let x = c .before .before .before .before .before .args in
     c .before .loop .k * length (x .links .now) + x .l < length (x .table .now)
 place c =
     let start = c .before .before .before .before .before in
-    omega (arith, digits-lt (c .loop-test .taken) (start .pre .0), start .pre .2)
+    omega (arith, digits-lt (c .loop-test .taken) (start .pre .0), start .pre .1)
 
 mul-may-carry-2 : tie.Need-mul-may-carry-2 Inv-loop μ-loop
 mul-may-carry-2 c = omega (arith, place (c .before))
@@ -63,16 +61,16 @@ shared-slice-read-may-carry-2 c = place (c .before .before)
 may-carry-requires : tie.Need-may-carry-requires Inv-loop μ-loop
 may-carry-requires c κs = search needs
 
--- The test of destination k.
+-- The test of commodity k.
 tested :
     (c : tie.After-may-carry Inv-loop μ-loop) →
     let x = c .before .before .before .before .before .before .before .before .args in
-    c .may-carry .result ≡ carryTest (x .links .now) (x .destinations .now) (x .table .now) (x .l) (c .before .before .before .before .loop .k)
-unfolding carryTest
+    c .may-carry .result ≡ carryTest (x .links .now) (x .commodities .now) (x .table .now) (x .l) (c .before .before .before .before .loop .k)
+unfolding carryTest mayUse barredTo
 tested c = c .may-carry .ensures
 
 returns : tie.Need-returns Inv-loop μ-loop
-returns c = all-failed _ _ _ (search needs) (was-no (tested (c .before)) (c .if1 .taken)) ∙ sym (closed-permits _ _ _ _ (c .before .before .before .before .before .before .before .before .before .pre .1))
+returns c = all-failed _ _ _ (search needs) (was-no (tested (c .before)) (c .if1 .taken)) ∙ sym (permits-all _ _ _ _)
 
 add-k : tie.Need-add-k Inv-loop μ-loop
 add-k c = search needs
@@ -85,7 +83,7 @@ loop-again c = (search needs, all-more _ _ (c .before .before .before .before .b
 
 returns-2 : tie.Need-returns-2 Inv-loop μ-loop
 returns-2 c =
-    all-held _ _ (c .before .loop .inv .0) (c .loop-test .left) (c .before .loop .inv .1) ∙ sym (closed-permits _ _ _ _ (c .before .before .before .before .before .pre .1))
+    all-held _ _ (c .before .loop .inv .0) (c .loop-test .left) (c .before .loop .inv .1) ∙ sym (permits-all _ _ _ _)
 
 pub link-permits-spec : {M : Type 1} → statement M
 link-permits-spec =
@@ -93,9 +91,8 @@ link-permits-spec =
     (tie.spec
     Inv-loop
     μ-loop
-    mul-head
-    index-1-head
-    index-2-head
+    mul-link
+    shared-slice-copy-out-link
     loop-holds
     mul-may-carry
     shared-slice-read-may-carry

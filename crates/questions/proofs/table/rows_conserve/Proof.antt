@@ -15,13 +15,13 @@ use Rattle.questions.proofs.table.rows_conserve.Statement.{statement}
 use Rattle.questions.proofs.table.rows_conserve.Tie as tie
 
 abbrev Inv-loop : tie.InvT-loop
-Inv-loop nodes links destinations trips table share m out₀ into₀ k₀ out into k =
-    (k ≤ length destinations)
-    × (rowsBefore nodes links destinations trips share table k ≡ true)
+Inv-loop nodes links commodities trips table share m out₀ into₀ k₀ out into k =
+    (k ≤ length commodities)
+    × (rowsBefore nodes links commodities trips share table k ≡ true)
     × (ClearPast 128 nodes out × ClearPast 128 nodes into)
 
 abbrev μ-loop : tie.MeasureT-loop
-μ-loop nodes links destinations trips table share m out₀ into₀ k₀ out into k = length destinations - k
+μ-loop nodes links commodities trips table share m out₀ into₀ k₀ out into k = length commodities - k
 
 loop-holds : tie.Need-loop-holds Inv-loop μ-loop
 loop-holds c = (search needs, rows-none _ _ _ _ _ _, (zeros-past 128 _, zeros-past 128 _))
@@ -32,16 +32,16 @@ within :
     let x = c .before .before .before .before .before .args in
     let k = c .before .loop .k in
     let m = length (x .links .now) in
-    (k * x .nodes + x .nodes ≤ length (x .trips .now)) × (k * x .nodes + x .nodes ≤ 4096)
-    × (k * m + m ≤ length (x .table .now)) × (k * m + m ≤ 16384)
+    (k * x .nodes + x .nodes ≤ length (x .trips .now)) × (k * x .nodes + x .nodes ≤ 8192)
+    × (k * m + m ≤ length (x .table .now)) × (k * m + m ≤ 32768)
 within c =
     let x = c .before .before .before .before .before .args in
     let given = c .before .before .before .before .before .pre .0 in
     let inside = c .loop-test .taken in (
       omega (arith, row-within (x .nodes) inside, given .has-trips),
-      row-most 32 128 inside (given .few-destinations) (given .few-nodes),
+      row-most 64 128 inside (given .few-commodities) (given .few-nodes),
       omega (arith, row-within (length (x .links .now)) inside, given .holds),
-      row-most 32 512 inside (given .few-destinations) (given .few-links),
+      row-most 64 512 inside (given .few-commodities) (given .few-links),
     )
 
 mul-start : tie.Need-mul-start Inv-loop μ-loop
@@ -56,14 +56,14 @@ mul-first c = omega (arith, within c)
 add-past : tie.Need-add-past Inv-loop μ-loop
 add-past c = omega (arith, within c)
 
-mul-node : tie.Need-mul-node Inv-loop μ-loop
-mul-node c = search needs
+mul-node-of : tie.Need-mul-node-of Inv-loop μ-loop
+mul-node-of c = search needs
 
-shared-slice-read-node : tie.Need-shared-slice-read-node Inv-loop μ-loop
-shared-slice-read-node c = search needs
+shared-slice-read-node-of : tie.Need-shared-slice-read-node-of Inv-loop μ-loop
+shared-slice-read-node-of c = search needs
 
-node-requires : tie.Need-node-requires Inv-loop μ-loop
-node-requires c κs = search needs
+node-of-requires : tie.Need-node-of-requires Inv-loop μ-loop
+node-of-requires c κs = search needs
 
 mul-row-balances : tie.Need-mul-row-balances Inv-loop μ-loop
 mul-row-balances c = omega (arith, within (c .before .before))
@@ -111,7 +111,7 @@ row-balances-requires c κs = let turn = c .before .before .before .before .befo
 returns : tie.Need-returns Inv-loop μ-loop
 returns c = let turn = c .before .before .before .before .before .before .before .before in
     sym
-    (rows-fail _ _ _ _ _ _ (turn .before .loop .k) _ (c .before .before .before .before .before .before .node .ensures) (turn .loop-test .taken)
+    (rows-fail _ _ _ _ _ _ (turn .before .loop .k) _ (c .before .before .before .before .before .before .node-of .ensures) (turn .loop-test .taken)
     (sym (c .before .row-balances .ensures .0) ∙ not-true _ (c .if1 .taken)))
 
 add-k : tie.Need-add-k Inv-loop μ-loop
@@ -123,7 +123,7 @@ loop-less c = search needs
 loop-again : tie.Need-loop-again Inv-loop μ-loop
 loop-again c = let turn = c .before .before .before .before .before .before .before .before in (
   search needs,
-  rows-pass _ _ _ _ _ _ (turn .before .loop .k) _ (c .before .before .before .before .before .before .node .ensures) (turn .before .loop .inv .1)
+  rows-pass _ _ _ _ _ _ (turn .before .loop .k) _ (c .before .before .before .before .before .before .node-of .ensures) (turn .before .loop .inv .1)
       (sym (c .before .row-balances .ensures .0) ∙ not-false _ (c .if1 .left)),
   c .before .row-balances .ensures .1,
 )
@@ -142,9 +142,9 @@ rows-conserve-spec =
     add-end
     mul-first
     add-past
-    mul-node
-    shared-slice-read-node
-    node-requires
+    mul-node-of
+    shared-slice-read-node-of
+    node-of-requires
     mul-row-balances
     sub-row-balances
     part-row-balances-start

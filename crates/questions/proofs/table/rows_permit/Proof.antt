@@ -3,6 +3,7 @@ use Prim.Native.Nat.{_-_, _≤_}
 use mathlib.Core.Path.{_≡_, refl}
 use mathlib.Core.Bool.{true}
 use mathlib.Core.Logic.{⊎-elim}
+use native.Mathlib.Omega.{arith}
 use borrow.Author.Needs.{needs}
 use lib.ListN.{length}
 use Rattle.study.proofs.Flags.{was-yes, was-no}
@@ -14,11 +15,11 @@ use Rattle.questions.proofs.table.rows_permit.Statement.{statement}
 use Rattle.questions.proofs.table.rows_permit.Tie as tie
 
 abbrev Inv-loop : tie.InvT-loop
-Inv-loop links destinations table l₀ l =
-    (l ≤ length links) × (all l (linkPermits links destinations table) ≡ true)
+Inv-loop links commodities table l₀ l =
+    (l ≤ length links) × (all l (linkPermits links commodities table) ≡ true)
 
 abbrev μ-loop : tie.MeasureT-loop
-μ-loop links destinations table l₀ l = length links - l
+μ-loop links commodities table l₀ l = length links - l
 
 loop-holds : tie.Need-loop-holds Inv-loop μ-loop
 unfolding all
@@ -34,7 +35,7 @@ index-2-if1 : tie.Need-index-2-if1 Inv-loop μ-loop
 index-2-if1 c = search needs
 
 link-permits-requires : tie.Need-link-permits-requires Inv-loop μ-loop
-link-permits-requires c κs = (search needs, c .if1 .taken, c .before .before .before .before .before .before .pre)
+link-permits-requires c κs = (search needs, c .before .before .before .before .before .before .pre)
 
 returns : tie.Need-returns Inv-loop μ-loop
 unfolding rowsPermit
@@ -51,7 +52,7 @@ loop-again c =
     let permits =
     ⊎-elim
     (λ w. was-yes (w .1 .ensures) (w .2 .left))
-    (λ w. open-permits _ _ _ _ (w .left))
+    (λ w. open-permits _ _ _ _ (omega (arith, w .left)) (omega (arith, w .left)))
     (c .if1 .came) in
     (search needs, all-more _ _ (c .before .before .before .loop .inv .1) permits)
 

@@ -78,7 +78,7 @@ rows-permit-requires c κs = of-totals (of-fit (c .before .before)) .pre .0 .hol
 conserve :
     (c : tie.Else3) →
     let x = of-totals (of-fit (c .before .before)) .args in
-    rowsConserve (x .nodes) (x .links .now) (x .destinations .now) (x .trips .now) (x .share) (x .table .now) ≡ true
+    rowsConserve (x .nodes) (x .links .now) (x .commodities .now) (x .trips .now) (x .share) (x .table .now) ≡ true
 conserve c = was-yes (c .before .rows-conserve .ensures) (c .if3 .left)
 
 returns-4 : tie.Need-returns-4

@@ -16,7 +16,7 @@ given c = c .before .before .before .before .before
 mul-if1 : tie.Need-mul-if1
 mul-if1 c =
     let few = parts-sized (given c .pre .0) in
-    omega (arith, mul-le-mul (few .few-destinations) (few .few-nodes))
+    omega (arith, mul-le-mul (few .few-commodities) (few .few-nodes))
 
 start-refusal-requires : tie.Need-start-refusal-requires
 start-refusal-requires c κs = search needs

@@ -30,7 +30,7 @@ started c = sym (c .before .start-refusal .ensures) ∙ c .if1 .left
 total-trips-requires : tie.Need-total-trips-requires
 total-trips-requires c κs =
     let few = parts-sized (given c .pre .0) in
-    omega (arith, few .entries-long, mul-le-mul (few .few-destinations) (few .few-nodes))
+    omega (arith, few .entries-long, mul-le-mul (few .few-commodities) (few .few-nodes))
 
 table-refusal-requires : tie.Need-table-refusal-requires
 table-refusal-requires c κs =

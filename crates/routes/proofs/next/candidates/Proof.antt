@@ -6,16 +6,17 @@ use native.Mathlib.Omega.{arith}
 use borrow.Author.Needs.{needs}
 use lib.ListN.{length, getD}
 use Rattle.theory.specs.Study.{head, noLink}
+use Rattle.search.specs.Given.{classOf}
 use Rattle.routes.specs.Next.{EachCandidate}
 use Rattle.routes.specs.Laws.Candidates.{walk-begins, walk-ends, walk-at, walk-goes}
 use Rattle.routes.proofs.next.candidates.Statement.{statement}
 use Rattle.routes.proofs.next.candidates.Tie as tie
 
 abbrev Inv-loop : tie.InvT-loop
-Inv-loop links times out lows j own row₀ l₀ row l = EachCandidate links times lows j l row
+Inv-loop links times group out lows j own row₀ l₀ row l = EachCandidate (classOf group) links times lows j l row
 
 abbrev μ-loop : tie.MeasureT-loop
-μ-loop links times out lows j own row₀ l₀ row l = noLink - l
+μ-loop links times group out lows j own row₀ l₀ row l = noLink - l
 
 mul-own : tie.Need-mul-own Inv-loop μ-loop
 mul-own c = search needs
@@ -96,8 +97,8 @@ higher :
     (c : tie.After-l2 Inv-loop μ-loop) →
     let after-index = index-of (c .before .before) in
     let x = after-index .before .before .before .before .before .args in
-    let l = getD (x .out .now) (256 + after-index .index .result) 0 in
-    (after-index .before .before .loop .l < l) × EachCandidate (x .links .now) (x .times .now) (x .lows .now) (x .j) l (c .before .keep-row .last .0)
+    let l = getD (x .out .now) (384 + after-index .index .result) 0 in
+    (after-index .before .before .loop .l < l) × EachCandidate (classOf (x .group .now)) (x .links .now) (x .times .now) (x .lows .now) (x .j) l (c .before .keep-row .last .0)
 higher c =
     let after-low = c .before .before in
     let after-index = index-of after-low in

@@ -16,13 +16,13 @@ abbrev μ-loop : tie.MeasureT-loop
 μ-loop table₀ first past k₀ table k = past - k
 
 loop-holds : tie.Need-loop-holds Inv-loop μ-loop
-loop-holds c = (search needs, search needs, rows-none (c .pre .2))
+loop-holds c = (search needs, search needs, rows-none)
 
 mul-t7 : tie.Need-mul-t7 Inv-loop μ-loop
 mul-t7 c = search needs
 
-element-set-from-table : tie.Need-element-set-from-table Inv-loop μ-loop
-element-set-from-table c = search needs
+slice-set-from-table : tie.Need-slice-set-from-table Inv-loop μ-loop
+slice-set-from-table c = search needs
 
 add-k : tie.Need-add-k Inv-loop μ-loop
 add-k c = search needs
@@ -33,6 +33,9 @@ loop-less c = search needs
 loop-again : tie.Need-loop-again Inv-loop μ-loop
 unfolding noLinks
 loop-again c = (search needs, search needs, rows-more noLinks (omega arith) refl (omega arith) (c .before .loop .inv .2))
+
+same-length : tie.Need-same-length Inv-loop μ-loop
+same-length c = c .before .loop .inv .2 .size
 
 returns : tie.Need-returns Inv-loop μ-loop
 returns c = let all : c .before .loop .k ≡ c .before .before .args .past = omega arith in rw all at (c .before .loop .inv .2)
@@ -45,8 +48,9 @@ clear-rows-spec =
     μ-loop
     loop-holds
     mul-t7
-    element-set-from-table
+    slice-set-from-table
     add-k
     loop-less
     loop-again
+    same-length
     returns)

@@ -19,7 +19,7 @@ abbrev μ-loop : tie.MeasureT-loop
 
 -- The node is one of 128.
 node : (c : tie.Start Inv-loop μ-loop) → c .args .j < 128
-node c = omega (arith, c .pre .1 .1, c .pre .0 .0 0 (omega arith) .roads .few-nodes)
+node c = omega (arith, c .pre .1 .1, c .pre .0 .0 .each 0 (omega arith) .roads .few-nodes)
 
 mul-own : tie.Need-mul-own Inv-loop μ-loop
 mul-own c = omega (arith, node c)
@@ -102,7 +102,7 @@ higher :
     (c : tie.After-l Inv-loop μ-loop) →
     let after-index = c .before .before .before .before .before .before in
     let x = after-index .before .before .before .before .args in
-    let l = getD (x .out .now) (256 + after-index .index .result) 0 in
+    let l = getD (x .out .now) (384 + after-index .index .result) 0 in
     (after-index .before .before .loop .l < l) × Unfit (x .nodes) (x .links .now) (x .times .now) (getD (x .group .now) (x .k) 0) (x .j) l
 higher c =
     let after-index2 = c .before .before .before .before in

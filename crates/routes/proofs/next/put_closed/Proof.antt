@@ -16,7 +16,7 @@ abbrev μ-loop : tie.MeasureT-loop
 μ-loop table₀ first past nodes links times group into marks k₀ table k = past - k
 
 loop-holds : tie.Need-loop-holds Inv-loop μ-loop
-loop-holds c = (search needs, search needs, rows-none (c .pre .1 .0 .1))
+loop-holds c = (search needs, search needs, rows-none)
 
 mul-put-own : tie.Need-mul-put-own Inv-loop μ-loop
 mul-put-own c = search needs
@@ -32,7 +32,7 @@ put-own-requires c κs =
     let given = c .before .before .before .pre in
     let turn = c .before .before .loop in
     let inside = c .before .loop-test .taken in
-    (given .0, (given .1 .0 .0, omega arith, rw (row-before (turn .inv .2)) (given .1 .0 .2 (turn .k) (turn .inv .0) inside)))
+    (given .0, (given .1 .0 .0, omega arith, rw (row-before (turn .inv .2)) (given .1 .0 .1 (turn .k) (turn .inv .0) inside)))
 
 add-k : tie.Need-add-k Inv-loop μ-loop
 add-k c = search needs
@@ -44,6 +44,9 @@ loop-again : tie.Need-loop-again Inv-loop μ-loop
 loop-again c =
     let inv = c .before .before .before .loop .inv .2 in
     (search needs, search needs, rows-more _ (omega arith) (c .put-own .ensures) (omega arith) inv)
+
+same-length : tie.Need-same-length Inv-loop μ-loop
+same-length c = c .before .loop .inv .2 .size
 
 returns : tie.Need-returns Inv-loop μ-loop
 returns c = let all : c .before .loop .k ≡ c .before .before .args .past = omega arith in rw all at (c .before .loop .inv .2)
@@ -62,4 +65,5 @@ put-closed-spec =
     add-k
     loop-less
     loop-again
+    same-length
     returns)

@@ -16,7 +16,7 @@ abbrev μ-loop : tie.MeasureT-loop
 μ-loop table₀ first past nodes links times group out marks lows j₀ table j = nodes - j
 
 few-nodes : (c : tie.Start Inv-loop μ-loop) → c .args .nodes ≤ 128
-few-nodes c = c .pre .0 .0 0 (omega arith) .roads .few-nodes
+few-nodes c = c .pre .0 .0 .each 0 (omega arith) .roads .few-nodes
 
 put-lows-requires : tie.Need-put-lows-requires Inv-loop μ-loop
 put-lows-requires c κs = (few-nodes (c .before), refl)
@@ -25,14 +25,16 @@ loop-holds : tie.Need-loop-holds Inv-loop μ-loop
 loop-holds c =
     let start = c .before .before in
     let given = start .pre in
-    (search needs, put-none (start .args .group .now) (given .0 .0) (given .1 .0 .1) (given .1 .0 .2))
+    (search needs, put-none (start .args .group .now) (given .0 .0) (given .1 .0 .1))
 
 put-node-requires : tie.Need-put-node-requires Inv-loop μ-loop
 put-node-requires c κs =
     let turn = c .before .before .before in
     let after-lows = turn .before in
     let given = after-lows .before .before .pre in
-    (given .0, ((given .1 .0 .0, after-lows .put-lows .ensures, c .before .before .loop-test .taken), (given .1 .1 .0, given .1 .1 .1, given .1 .1 .2, turn .loop .inv .1 .size)))
+    let (low, high, few, room) = given .1 .1 in
+    let long = turn .loop .inv .1 .size in
+    (given .0, ((given .1 .0 .0, after-lows .put-lows .ensures, c .before .before .loop-test .taken), (low, high, few, omega (arith, room, long))))
 
 add-j : tie.Need-add-j Inv-loop μ-loop
 add-j c = search needs
@@ -42,9 +44,13 @@ loop-less c = search needs
 
 loop-again : tie.Need-loop-again Inv-loop μ-loop
 loop-again c =
-    let turn = c .before .before .before .before in
+    let put = c .before in
+    let turn = put .before .before .before .before in
     let start = turn .before .before .before in
-    (search needs, put-more (start .args .group .now) (start .pre .0 .0) (turn .loop .inv .1) (omega (arith, few-nodes start, c .before .before .before .loop-test .taken)) (c .put-node .ensures))
+    (search needs, put-more (start .args .group .now) (start .pre .0 .0) (turn .loop .inv .1) (omega (arith, few-nodes start, put .before .before .before .loop-test .taken)) (put .put-node .ensures))
+
+same-length : tie.Need-same-length Inv-loop μ-loop
+same-length c = c .before .loop .inv .1 .size
 
 returns : tie.Need-returns Inv-loop μ-loop
 returns c = let all : c .before .loop .j ≡ c .before .before .before .before .args .nodes = omega arith in rw all at (c .before .loop .inv .1)
@@ -61,4 +67,5 @@ put-group-spec =
     add-j
     loop-less
     loop-again
+    same-length
     returns)

@@ -19,13 +19,13 @@ abbrev μ-loop : tie.MeasureT-loop
 
 -- The node is one of 128.
 node : (c : tie.Start Inv-loop μ-loop) → c .args .j < 128
-node c = omega (arith, c .pre .1 .0 .2, c .pre .0 .0 0 (omega arith) .roads .few-nodes)
+node c = omega (arith, c .pre .1 .0 .2, c .pre .0 .0 .each 0 (omega arith) .roads .few-nodes)
 
 candidates-requires : tie.Need-candidates-requires Inv-loop μ-loop
-candidates-requires c κs = (chainable (c .pre .0 .0 0 (omega arith) .roads), c .pre .1 .0 .0, node c)
+candidates-requires c κs = (chainable (c .pre .0 .0 .each 0 (omega arith) .roads), c .pre .1 .0 .0, node c)
 
 loop-holds : tie.Need-loop-holds Inv-loop μ-loop
-loop-holds c = (search needs, search needs, rows-none (c .before .pre .1 .1 .3))
+loop-holds c = (search needs, search needs, rows-none)
 
 sub-i : tie.Need-sub-i Inv-loop μ-loop
 sub-i c = search needs
@@ -70,6 +70,9 @@ loop-again c =
     let inv = c .before .before .loop .inv .2 in
     (search needs, search needs, rows-more _ (omega arith) (rw (row-before inv, c .next-link .ensures)) (omega arith) inv)
 
+same-length : tie.Need-same-length Inv-loop μ-loop
+same-length c = c .before .loop .inv .2 .size
+
 returns : tie.Need-returns Inv-loop μ-loop
 returns c = let all : c .before .loop .k ≡ c .before .before .before .args .past = omega arith in rw all at (c .before .loop .inv .2)
 
@@ -92,4 +95,5 @@ put-node-spec =
     add-k
     loop-less
     loop-again
+    same-length
     returns)

@@ -18,21 +18,21 @@ Inv-loop row₀ nodes links times group into marks k l₀ row l = OwnBelow nodes
 abbrev μ-loop : tie.MeasureT-loop
 μ-loop row₀ nodes links times group into marks k l₀ row l = noLink - l
 
-mul-index : tie.Need-mul-index Inv-loop μ-loop
-mul-index c = search needs
+mul-node-of : tie.Need-mul-node-of Inv-loop μ-loop
+mul-node-of c = search needs
 
-element-copy-out-index : tie.Need-element-copy-out-index Inv-loop μ-loop
-element-copy-out-index c = search needs
+element-copy-out-node-of : tie.Need-element-copy-out-node-of Inv-loop μ-loop
+element-copy-out-node-of c = search needs
 
-index-requires : tie.Need-index-requires Inv-loop μ-loop
-index-requires c κs = search needs
+node-of-requires : tie.Need-node-of-requires Inv-loop μ-loop
+node-of-requires c κs = search needs
 
 -- The destination is one of 128 nodes.
-destination : (c : tie.After-index Inv-loop μ-loop) → c .index .result < 128
+destination : (c : tie.After-node-of Inv-loop μ-loop) → c .node-of .result < 128
 destination c =
     let start = c .before .before in
-    let given = start .pre .0 .0 (start .args .k) (start .pre .1 .1) in
-    omega (arith, c .index .ensures, given .destination-node, given .roads .few-nodes)
+    let given = start .pre .0 .0 .each (start .args .k) (start .pre .1 .1) in
+    omega (arith, c .node-of .ensures, given .destination-node, given .roads .few-nodes)
 
 add-l : tie.Need-add-l Inv-loop μ-loop
 add-l c = omega (arith, destination c)
@@ -47,29 +47,29 @@ loop-holds : tie.Need-loop-holds Inv-loop μ-loop
 loop-holds c =
     let start = c .before .before .before in
     let given = start .pre in
-    own-begins (given .0 .0) (given .0 .1) (given .1 .1) (given .1 .0) (given .1 .2) (ap (λ s. 128 + s) (c .before .index .ensures)) refl
+    own-begins (given .0 .0) (given .0 .1) (given .1 .1) (given .1 .0) (given .1 .2) (ap (λ s. 128 + s) (c .before .node-of .ensures)) refl
 
-index-requires-2 : tie.Need-index-requires-2 Inv-loop μ-loop
-index-requires-2 c κs = search needs
+index-requires : tie.Need-index-requires Inv-loop μ-loop
+index-requires c κs = search needs
 
 -- The beginning, from the place at which the link's number is read.
-abbrev start-of : tie.After-index2 Inv-loop μ-loop → tie.Start Inv-loop μ-loop
+abbrev start-of : tie.After-index Inv-loop μ-loop → tie.Start Inv-loop μ-loop
 start-of c = c .before .before .before .before .before .before
 
 -- The walk stands at a link of the network, between two of 128 nodes.
 at-link :
-    (c : tie.After-index2 Inv-loop μ-loop) →
+    (c : tie.After-index Inv-loop μ-loop) →
     let links = start-of c .args .links .now in
-    let i = c .index2 .result in (i < length links) × (i < 512) × (tail links i < 128) × (head links i < 128)
+    let i = c .index .result in (i < length links) × (i < 512) × (tail links i < 128) × (head links i < 128)
 at-link c =
     let given = start-of c .pre in
-    let few = given .0 .0 (start-of c .args .k) (given .1 .1) .roads .few-nodes in
+    let few = given .0 .0 .each (start-of c .args .k) (given .1 .1) .roads .few-nodes in
     let (below, link, tail-node, head-node) =
-    own-at (given .0 .0) (given .0 .1) (given .1 .1) (given .1 .0) (c .before .before .loop .inv) (c .before .loop-test .taken) (c .index2 .ensures) in
+    own-at (given .0 .0) (given .0 .1) (given .1 .1) (given .1 .0) (c .before .before .loop .inv) (c .before .loop-test .taken) (c .index .ensures) in
     (below, link, omega arith, omega arith)
 
-mul-index-2 : tie.Need-mul-index-2 Inv-loop μ-loop
-mul-index-2 c = omega (arith, at-link c .1)
+mul-index : tie.Need-mul-index Inv-loop μ-loop
+mul-index c = omega (arith, at-link c .1)
 
 index-1-index : tie.Need-index-1-index Inv-loop μ-loop
 index-1-index c = at-link c .0
@@ -77,15 +77,15 @@ index-1-index c = at-link c .0
 index-2-index : tie.Need-index-2-index Inv-loop μ-loop
 index-2-index c = search needs
 
-index-requires-3 : tie.Need-index-requires-3 Inv-loop μ-loop
-index-requires-3 c κs = search needs
+index-requires-2 : tie.Need-index-requires-2 Inv-loop μ-loop
+index-requires-2 c κs = search needs
 
 -- Its tail
-tail-node : (c : tie.After-index3 Inv-loop μ-loop) → c .index3 .result < 128
-tail-node c = omega (arith, c .index3 .ensures, at-link (c .before .before) .2)
+tail-node : (c : tie.After-index2 Inv-loop μ-loop) → c .index2 .result < 128
+tail-node c = omega (arith, c .index2 .ensures, at-link (c .before .before) .2)
 
-mul-index-3 : tie.Need-mul-index-3 Inv-loop μ-loop
-mul-index-3 c = omega (arith, at-link (c .before .before) .1)
+mul-index-2 : tie.Need-mul-index-2 Inv-loop μ-loop
+mul-index-2 c = omega (arith, at-link (c .before .before) .1)
 
 index-1-index-2 : tie.Need-index-1-index-2 Inv-loop μ-loop
 index-1-index-2 c = at-link (c .before .before) .0
@@ -93,12 +93,12 @@ index-1-index-2 c = at-link (c .before .before) .0
 index-2-index-2 : tie.Need-index-2-index-2 Inv-loop μ-loop
 index-2-index-2 c = search needs
 
-index-requires-4 : tie.Need-index-requires-4 Inv-loop μ-loop
-index-requires-4 c κs = search needs
+index-requires-3 : tie.Need-index-requires-3 Inv-loop μ-loop
+index-requires-3 c κs = search needs
 
 -- and its head are among 128 nodes.
-head-node : (c : tie.After-index4 Inv-loop μ-loop) → c .index4 .result < 128
-head-node c = omega (arith, c .index4 .ensures, at-link (c .before .before .before .before) .3)
+head-node : (c : tie.After-index3 Inv-loop μ-loop) → c .index3 .result < 128
+head-node c = omega (arith, c .index3 .ensures, at-link (c .before .before .before .before) .3)
 
 mul-given : tie.Need-mul-given Inv-loop μ-loop
 mul-given c = omega (arith, head-node c)
@@ -120,10 +120,10 @@ element-copy-out-given c = at-link (c .before .before .before .before .before) .
 
 add-given : tie.Need-add-given Inv-loop μ-loop
 add-given c =
-    let after-index4 = c .before .before in
-    let after-index2 = after-index4 .before .before .before .before in
-    let given = start-of after-index2 .pre in
-    omega (arith, gives (given .0 .0) (given .0 .1) (given .1 .1) (at-link after-index2 .0) (after-index4 .index4 .ensures))
+    let after-index3 = c .before .before in
+    let after-index = after-index3 .before .before .before .before in
+    let given = start-of after-index .pre in
+    omega (arith, gives (given .0 .0) (given .0 .1) (given .1 .1) (at-link after-index .0) (after-index3 .index3 .ensures))
 
 mul-lower : tie.Need-mul-lower Inv-loop μ-loop
 mul-lower c = omega (arith, tail-node (c .before .before .before .before))
@@ -147,13 +147,13 @@ lower-requires : tie.Need-lower-requires Inv-loop μ-loop
 lower-requires c κs = search needs
 
 -- The places at which the link's number and its ends are read.
-abbrev link-of : tie.After-lower Inv-loop μ-loop → tie.After-index2 Inv-loop μ-loop
+abbrev link-of : tie.After-lower Inv-loop μ-loop → tie.After-index Inv-loop μ-loop
 link-of c = c .before .before .before .before .before .before .before .before .before
 
-abbrev tail-of : tie.After-lower Inv-loop μ-loop → tie.After-index3 Inv-loop μ-loop
+abbrev tail-of : tie.After-lower Inv-loop μ-loop → tie.After-index2 Inv-loop μ-loop
 tail-of c = c .before .before .before .before .before .before .before
 
-abbrev head-of : tie.After-lower Inv-loop μ-loop → tie.After-index4 Inv-loop μ-loop
+abbrev head-of : tie.After-lower Inv-loop μ-loop → tie.After-index3 Inv-loop μ-loop
 head-of c = c .before .before .before .before .before
 
 mul-row : tie.Need-mul-row Inv-loop μ-loop
@@ -176,16 +176,16 @@ higher :
     (c : tie.After-l2 Inv-loop μ-loop) →
     let after-lower = c .before in
     let x = start-of (link-of after-lower) .args in
-    let l = getD (x .into .now) (256 + link-of after-lower .index2 .result) 0 in
+    let l = getD (x .into .now) (384 + link-of after-lower .index .result) 0 in
     let turn = link-of after-lower .before .before .loop in
     (turn .l < l) × OwnBelow (x .nodes) (x .links .now) (x .times .now) (getD (x .group .now) (x .k) 0) l
-    (set (turn .row) (tail-of after-lower .index3 .result) (after-lower .lower .result))
+    (set (turn .row) (tail-of after-lower .index2 .result) (after-lower .lower .result))
 higher c =
     let after-lower = c .before in
-    let after-index2 = link-of after-lower in
-    let given = start-of after-index2 .pre in
-    own-goes (given .0 .0) (given .0 .1) (given .1 .1) (given .1 .0) (after-index2 .before .before .loop .inv) (after-index2 .before .loop-test .taken)
-    (after-index2 .index2 .ensures) (tail-of after-lower .index3 .ensures) (head-of after-lower .index4 .ensures) (after-lower .lower .ensures) refl
+    let after-index = link-of after-lower in
+    let given = start-of after-index .pre in
+    own-goes (given .0 .0) (given .0 .1) (given .1 .1) (given .1 .0) (after-index .before .before .loop .inv) (after-index .before .loop-test .taken)
+    (after-index .index .ensures) (tail-of after-lower .index2 .ensures) (head-of after-lower .index3 .ensures) (after-lower .lower .ensures) refl
 
 loop-less : tie.Need-loop-less Inv-loop μ-loop
 loop-less c = omega (arith, higher c .0, at-link (link-of (c .before)) .1)
@@ -204,22 +204,22 @@ put-own-spec =
     (tie.spec
     Inv-loop
     μ-loop
-    mul-index
-    element-copy-out-index
-    index-requires
+    mul-node-of
+    element-copy-out-node-of
+    node-of-requires
     add-l
     mul-l
     element-copy-out-l
     loop-holds
-    index-requires-2
-    mul-index-2
+    index-requires
+    mul-index
     index-1-index
     index-2-index
-    index-requires-3
-    mul-index-3
+    index-requires-2
+    mul-index-2
     index-1-index-2
     index-2-index-2
-    index-requires-4
+    index-requires-3
     mul-given
     mul-given-2
     index-1-given

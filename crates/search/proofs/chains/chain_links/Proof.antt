@@ -10,13 +10,13 @@ use Rattle.search.proofs.chains.chain_links.Statement.{statement}
 use Rattle.search.proofs.chains.chain_links.Tie as tie
 
 abbrev Inv-loop : tie.InvT-loop
-Inv-loop links end chain₀ l₀ chain l = (l ≤ length links) × ChainedFrom links end l chain
+Inv-loop links lorries end chain₀ l₀ chain l = (l ≤ length links) × ChainedFrom lorries links end l chain
 
 abbrev μ-loop : tie.MeasureT-loop
-μ-loop links end chain₀ l₀ chain l = l
+μ-loop links lorries end chain₀ l₀ chain l = l
 
 loop-holds : tie.Need-loop-holds Inv-loop μ-loop
-loop-holds c = (search needs, chains-begin _ _ (c .pre .1))
+loop-holds c = (search needs, chains-begin _ _ _ (c .pre .1))
 
 sub-l : tie.Need-sub-l Inv-loop μ-loop
 sub-l c = search needs
@@ -35,14 +35,14 @@ end-of-requires c κs =
 -- The end of the link
 end-is : (c : tie.After-end-of Inv-loop μ-loop) →
     let x = c .before .before .before .before .args in
-    c .end-of .result ≡ endOf (x .links .now) (x .end) (c .before .before .before .loop .l - 1)
-end-is c = let x = c .before .before .before .before .args in c .end-of .ensures ∙ end-row (x .links .now) (x .end) (c .before .before .before .loop .l - 1)
+    c .end-of .result ≡ endOf (x .lorries) (x .links .now) (x .end) (c .before .before .before .loop .l - 1)
+end-is c = let x = c .before .before .before .before .args in c .end-of .ensures ∙ end-row (x .lorries) (x .links .now) (x .end) (c .before .before .before .loop .l - 1)
 
--- is one of 256 places.
-place : (c : tie.After-end-of Inv-loop μ-loop) → c .end-of .result < 256
+-- is one of 384 places.
+place : (c : tie.After-end-of Inv-loop μ-loop) → c .end-of .result < 384
 place c =
     let start = c .before .before .before .before in
-    omega (arith, end-is c, end-place (start .pre .0) (start .args .end) (c .before .before .before .loop .l - 1) (start .pre .2) (omega arith))
+    omega (arith, end-is c, end-place (start .args .lorries) (start .pre .0) (start .args .end) (c .before .before .before .loop .l - 1) (start .pre .2) (omega arith))
 
 mul-chain : tie.Need-mul-chain Inv-loop μ-loop
 mul-chain c = omega (arith, place c)
@@ -78,11 +78,11 @@ loop-again c =
     let start = after-end .before .before .before .before in
     let down : turn .l ≡ turn .l - 1 + 1 = omega arith in (
       search needs,
-      chains-take _ _ (omega arith) (start .pre .0 .few-links) (end-is after-end) (place after-end) (rw down at (turn .inv .1)),
+      chains-take _ _ _ (omega arith) (start .pre .0 .few-links) (end-is after-end) (place after-end) (rw down at (turn .inv .1)),
     )
 
 returns : tie.Need-returns Inv-loop μ-loop
-returns c = let all : c .before .loop .l ≡ 0 = omega arith in chains-end _ _ (rw all at (c .before .loop .inv .1))
+returns c = let all : c .before .loop .l ≡ 0 = omega arith in chains-end _ _ _ (rw all at (c .before .loop .inv .1))
 
 pub chain-links-spec : {M : Type 1} → statement M
 chain-links-spec =

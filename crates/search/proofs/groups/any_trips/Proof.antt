@@ -1,7 +1,8 @@
--- `groups::any_trips` meets its contract. The loop's invariant: if all bits so far are 0, so are the first `i` numbers. The measure is what is
--- left of the numbers.
+-- `groups::any_trips` meets its contract. The loop's invariant: all bits so far are 0 if and only if the first `i` numbers are. The measure is
+-- what is left of the numbers.
 use Prim.Native.Nat.{_-_, _≤_}
-use mathlib.Core.Path.{_≡_}
+use mathlib.Core.Path.{_≡_, refl}
+use mathlib.Core.Logic.{_↔_}
 use native.Mathlib.Omega.{arith}
 use borrow.Author.Needs.{needs}
 use lib.ListN.{length}
@@ -11,13 +12,13 @@ use Rattle.search.proofs.groups.any_trips.Statement.{statement}
 use Rattle.search.proofs.groups.any_trips.Tie as tie
 
 abbrev Inv-loop : tie.InvT-loop
-Inv-loop trips any₀ i₀ any i = (i ≤ length trips) × (any ≡ 0 → ZeroBelow i trips)
+Inv-loop trips any₀ i₀ any i = (i ≤ length trips) × ((any ≡ 0) ↔ ZeroBelow i trips)
 
 abbrev μ-loop : tie.MeasureT-loop
 μ-loop trips any₀ i₀ any i = length trips - i
 
 loop-holds : tie.Need-loop-holds Inv-loop μ-loop
-loop-holds c = (search needs, λ e i h. absurd (omega arith))
+loop-holds c = (search needs, ((λ e i h. absurd (omega arith)), λ none. refl))
 
 mul-any : tie.Need-mul-any Inv-loop μ-loop
 mul-any c = search needs

@@ -32,10 +32,12 @@ any-trips-requires : tie.Need-any-trips-requires
 any-trips-requires c κs = search needs
 
 returns : tie.Need-returns
-returns c none =
+returns c =
     let start = c .before .before .before in
     let x = start .args in
-    no-trips (x .nodes) (x .trips .now) (x .first) (x .past) (start .pre .1) (start .pre .3) (c .any-trips .ensures none)
+    let part = no-trips (x .nodes) (x .trips .now) (x .first) (x .past) (start .pre .1) (start .pre .3) in
+    let any = c .any-trips .ensures in
+    ((λ none. part .0 (any .0 none)), λ nobody. any .1 (part .1 nobody))
 
 pub group-trips-spec : {M : Type 1} → statement M
 group-trips-spec =

@@ -8,7 +8,7 @@ use native.Mathlib.Omega.{arith}
 use borrow.Author.Needs.{needs}
 use lib.ListN.{length}
 use Rattle.search.specs.Least.{mostAtNode, leastBelow}
-use Rattle.search.specs.Laws.Groups.{members-searchable}
+use Rattle.search.specs.Laws.Groups.{group-class, members-searchable}
 use Rattle.search.specs.Laws.Least.{group-adds, all-none, all-more, all-skip, all-below}
 use Rattle.search.proofs.least.least_times.Statement.{statement}
 use Rattle.search.proofs.least.least_times.Tie as tie
@@ -68,7 +68,9 @@ group-of-requires c κs = (start-of (turn-of (c .before)) .pre .0 .0 .few-destin
 search-requires : tie.Need-search-requires Inv-loop μ-loop
 search-requires c κs =
     let given = start-of (turn-of (c .before .before .before)) .pre .0 in
-    (members-searchable (given .0) (c .before .group-of .result) (c .before .group-of .ensures), given .1)
+    let group = c .before .group-of .result in
+    let members = c .before .group-of .ensures in
+    (members-searchable (given .0) group members, rw (group-class (given .0) group members) (given .1))
 
 least-to-group-requires : tie.Need-least-to-group-requires Inv-loop μ-loop
 least-to-group-requires c κs =
@@ -103,7 +105,7 @@ loop-again c =
     ))
     (λ w. rw (w .2) (
       all-skip (x .nodes) (x .links .now) (x .destinations .now) (x .trips .now) (x .times .now) (inside looked) (looked .before .group-end .ensures)
-          so-far (looked .group-trips .ensures (omega (arith, w .0 .left))),
+          so-far (looked .group-trips .ensures .0 (omega (arith, w .0 .left))),
       omega (arith, small),
     ))
     (c .if1 .came)

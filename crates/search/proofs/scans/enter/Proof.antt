@@ -24,20 +24,20 @@ mul-ahead c = search needs
 array-write-ahead : tie.Need-array-write-ahead Inv-loop μ-loop
 array-write-ahead c = search needs
 
-mul-index : tie.Need-mul-index Inv-loop μ-loop
-mul-index c = search needs
+mul-node-of : tie.Need-mul-node-of Inv-loop μ-loop
+mul-node-of c = search needs
 
-array-read-index : tie.Need-array-read-index Inv-loop μ-loop
-array-read-index c = search needs
+array-read-node-of : tie.Need-array-read-node-of Inv-loop μ-loop
+array-read-node-of c = search needs
 
-index-requires : tie.Need-index-requires Inv-loop μ-loop
-index-requires c κs = search needs
+node-of-requires : tie.Need-node-of-requires Inv-loop μ-loop
+node-of-requires c κs = search needs
 
 -- The destination is one of 128 nodes.
-destination : (c : tie.After-index Inv-loop μ-loop) → c .index .result < 128
+destination : (c : tie.After-node-of Inv-loop μ-loop) → c .node-of .result < 128
 destination c =
-    let given = c .before .before .before .pre .0 .0 (c .before .before .loop .k) (c .before .loop-test .taken) in
-    omega (arith, c .index .ensures, given .destination-node, given .roads .few-nodes)
+    let given = c .before .before .before .pre .0 .0 .each (c .before .before .loop .k) (c .before .loop-test .taken) in
+    omega (arith, c .node-of .ensures, given .destination-node, given .roads .few-nodes)
 
 add-place : tie.Need-add-place Inv-loop μ-loop
 add-place c = omega (arith, destination c)
@@ -51,7 +51,7 @@ scan-requires c κs =
       start .pre .0,
       (
         (entered .searching, omega (arith, destination (c .before)), enter-marked (turn .loop .k) inside),
-        enter-hands (start .pre .0 .0) inside entered (c .before .index .ensures) refl,
+        enter-hands (start .pre .0 .0) inside entered (c .before .node-of .ensures) refl,
       ),
     )
 
@@ -65,7 +65,7 @@ loop-again : tie.Need-loop-again Inv-loop μ-loop
 loop-again c =
     let start = c .before .before .before .before .before in
     let turn = c .before .before .before .before in
-    (search needs, enter-more (start .pre .0 .0) (c .before .before .before .loop-test .taken) (turn .loop .inv .1) (c .before .before .index .ensures) refl (c .scan .ensures))
+    (search needs, enter-more (start .pre .0 .0) (c .before .before .before .loop-test .taken) (turn .loop .inv .1) (c .before .before .node-of .ensures) refl (c .scan .ensures))
 
 returns : tie.Need-returns Inv-loop μ-loop
 returns c = let all : c .before .loop .k ≡ 8 = omega arith in rw all at (c .before .loop .inv .1)
@@ -79,9 +79,9 @@ enter-spec =
     loop-holds
     mul-ahead
     array-write-ahead
-    mul-index
-    array-read-index
-    index-requires
+    mul-node-of
+    array-read-node-of
+    node-of-requires
     add-place
     scan-requires
     add-k

@@ -1,13 +1,14 @@
 -- `scans::scan` meets its contract. The loop's invariant: in each lane, whichever group the searches are to, the links below `l` that end at the
 -- place are relaxed, and `l` is such a link, or none. The links of a chain rise, so the measure is what is left to `NO_LINK`.
 use Prim.Native.Nat.{ℕ, _+_, _-_, _≤_, _<_}
-use mathlib.Core.Path.{refl}
+use mathlib.Core.Path.{_≡_, refl}
 use mathlib.Core.List.{List}
 use native.Mathlib.Omega.{arith}
 use borrow.Author.Needs.{needs}
 use lib.ListN.{length, getD}
 use Rattle.theory.specs.Study.{tail, noLink}
-use Rattle.search.specs.Given.{longest}
+use Rattle.search.specs.Given.{longest, classOf}
+use Rattle.search.specs.Chains.{chainOf}
 use Rattle.search.specs.Lanes.{EachSearchable, EachSearching, EachHands, EachScanning}
 use Rattle.search.specs.Laws.Lanes.{each-begins, each-ends, each-marked, each-at, each-goes}
 use Rattle.search.proofs.scans.scan.Statement.{statement}
@@ -15,7 +16,8 @@ use Rattle.search.proofs.scans.scan.Tie as tie
 
 abbrev Inv-loop : tie.InvT-loop
 Inv-loop marks₀ nodes links times into place ahead l₀ marks l =
-    (group : List ℕ) → EachSearchable nodes links times group → EachSearching nodes links times group marks₀
+    (group : List ℕ) → EachSearchable nodes links times group → into ≡ chainOf (classOf group) links 1
+    → EachSearching nodes links times group marks₀
     → EachHands nodes links times group place ahead marks₀ → EachScanning nodes links times group place ahead marks₀ marks l
 
 abbrev μ-loop : tie.MeasureT-loop
@@ -28,13 +30,13 @@ element-copy-out-l : tie.Need-element-copy-out-l Inv-loop μ-loop
 element-copy-out-l c = search needs
 
 loop-holds : tie.Need-loop-holds Inv-loop μ-loop
-loop-holds c group g w hands = let start = c .before in each-begins g (start .pre .0 .1) w hands (start .pre .1 .0 .1) refl
+loop-holds c group g chain w hands = each-begins g chain w hands (omega (arith, c .before .pre .1 .0 .1)) refl
 
 -- The scan for the group.
 under-way : (c : tie.At-loop Inv-loop μ-loop) →
     let x = c .before .before .args in
     EachScanning (x .nodes) (x .links .now) (x .times .now) (x .group) (x .place) (x .ahead) (x .marks .now) (c .loop .marks) (c .loop .l)
-under-way c = let start = c .before .before in c .loop .inv (start .args .group) (start .pre .0 .0) (start .pre .1 .0 .0) (start .pre .1 .1)
+under-way c = let start = c .before .before in c .loop .inv (start .args .group) (start .pre .0 .0) (start .pre .0 .1) (start .pre .1 .0 .0) (start .pre .1 .1)
 
 index-requires : tie.Need-index-requires Inv-loop μ-loop
 index-requires c κs = search needs
@@ -89,26 +91,26 @@ element-copy-out-l-2 c = omega (arith, at-link (c .before .before .before .befor
 higher : (c : tie.After-l2 Inv-loop μ-loop) →
     let after-index = c .before .before .before .before .before .before in
     let x = after-index .before .before .before .before .args in
-    let l = getD (x .into .now) (256 + after-index .index .result) 0 in
+    let l = getD (x .into .now) (384 + after-index .index .result) 0 in
     (group : List ℕ) → EachSearchable (x .nodes) (x .links .now) (x .times .now) group
+    → x .into .now ≡ chainOf (classOf group) (x .links .now) 1
     → EachSearching (x .nodes) (x .links .now) (x .times .now) group (x .marks .now)
     → EachHands (x .nodes) (x .links .now) (x .times .now) group (x .place) (x .ahead) (x .marks .now)
     → (after-index .before .before .loop .l < l)
     × EachScanning (x .nodes) (x .links .now) (x .times .now) group (x .place) (x .ahead) (x .marks .now) (c .before .relax .last .0) l
-higher c group g w hands =
+higher c group g chain w hands =
     let after-index = c .before .before .before .before .before .before in
-    let start = after-index .before .before .before .before in
-    each-goes g (start .pre .0 .1) (after-index .before .before .loop .inv group g w hands) (after-index .before .loop-test .taken)
+    each-goes g chain (after-index .before .before .loop .inv group g chain w hands) (after-index .before .loop-test .taken)
     (after-index .index .ensures) (c .before .before .before .index2 .ensures) (c .before .relax .ensures) refl
 
 loop-less : tie.Need-loop-less Inv-loop μ-loop
 loop-less c =
     let after-index = c .before .before .before .before .before .before in
     let start = after-index .before .before .before .before in
-    omega (arith, higher c (start .args .group) (start .pre .0 .0) (start .pre .1 .0 .0) (start .pre .1 .1) .0, at-link after-index .1)
+    omega (arith, higher c (start .args .group) (start .pre .0 .0) (start .pre .0 .1) (start .pre .1 .0 .0) (start .pre .1 .1) .0, at-link after-index .1)
 
 loop-again : tie.Need-loop-again Inv-loop μ-loop
-loop-again c group g w hands = higher c group g w hands .1
+loop-again c group g chain w hands = higher c group g chain w hands .1
 
 returns : tie.Need-returns Inv-loop μ-loop
 returns c =

@@ -27,14 +27,14 @@ loop-holds : tie.Need-loop-holds Inv-loop μ-loop Inv-loop2 μ-loop2
 unfolding allRowsUnreached
 loop-holds c = (search needs, refl, set-none (c .before .pre .0))
 
-mul-index : tie.Need-mul-index Inv-loop μ-loop Inv-loop2 μ-loop2
-mul-index c = search needs
+mul-node-of : tie.Need-mul-node-of Inv-loop μ-loop Inv-loop2 μ-loop2
+mul-node-of c = search needs
 
-array-read-index : tie.Need-array-read-index Inv-loop μ-loop Inv-loop2 μ-loop2
-array-read-index c = search needs
+array-read-node-of : tie.Need-array-read-node-of Inv-loop μ-loop Inv-loop2 μ-loop2
+array-read-node-of c = search needs
 
-index-requires : tie.Need-index-requires Inv-loop μ-loop Inv-loop2 μ-loop2
-index-requires c κs = search needs
+node-of-requires : tie.Need-node-of-requires Inv-loop μ-loop Inv-loop2 μ-loop2
+node-of-requires c κs = search needs
 
 -- The beginning, from a turn of the first loop.
 abbrev start-of : tie.At-loop Inv-loop μ-loop Inv-loop2 μ-loop2 → tie.Start Inv-loop μ-loop Inv-loop2 μ-loop2
@@ -44,8 +44,8 @@ set-out-requires : tie.Need-set-out-requires Inv-loop μ-loop Inv-loop2 μ-loop2
 set-out-requires c κs =
     let turn = c .before .before .before in
     let inside = c .before .before .loop-test .taken in
-    let one = start-of turn .pre .0 (turn .loop .k) inside in
-    (omega (arith, c .index .ensures, one .destination-node, one .roads .few-nodes), inside)
+    let one = start-of turn .pre .0 .each (turn .loop .k) inside in
+    (omega (arith, c .node-of .ensures, one .destination-node, one .roads .few-nodes), inside)
 
 add-k : tie.Need-add-k Inv-loop μ-loop Inv-loop2 μ-loop2
 add-k c = search needs
@@ -58,7 +58,7 @@ loop-again c =
     let turn = c .before .before .before .before in (
       search needs,
       turn .loop .inv .1,
-      rw (c .set-out .ensures) (set-more (start-of turn .pre .0) (c .before .before .before .loop-test .taken) (c .before .index .ensures) (turn .loop .inv .2)),
+      rw (c .set-out .ensures) (set-more (start-of turn .pre .0) (c .before .before .before .loop-test .taken) (c .before .node-of .ensures) (turn .loop .inv .2)),
     )
 
 enter-requires : tie.Need-enter-requires Inv-loop μ-loop Inv-loop2 μ-loop2
@@ -104,9 +104,9 @@ search-spec =
     Inv-loop2
     μ-loop2
     loop-holds
-    mul-index
-    array-read-index
-    index-requires
+    mul-node-of
+    array-read-node-of
+    node-of-requires
     set-out-requires
     add-k
     loop-less

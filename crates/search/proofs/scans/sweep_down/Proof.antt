@@ -27,7 +27,7 @@ visit-requires c κs =
     (start .pre .0, (turn .loop .inv .2 .scans, omega arith))
 
 add-count : tie.Need-add-count Inv-loop μ-loop
-add-count c = omega (arith, c .visit .ensures .few, c .before .before .before .before .before .pre .0 .0 0 (omega arith) .roads .few-nodes)
+add-count c = omega (arith, c .visit .ensures .few, c .before .before .before .before .before .pre .0 .0 .each 0 (omega arith) .roads .few-nodes)
 
 loop-less : tie.Need-loop-less Inv-loop μ-loop
 loop-less c = search needs

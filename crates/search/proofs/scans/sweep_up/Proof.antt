@@ -25,7 +25,7 @@ visit-requires c κs =
     (start .pre .0, (turn .loop .inv .2 .scans, search needs))
 
 add-count : tie.Need-add-count Inv-loop μ-loop
-add-count c = omega (arith, c .visit .ensures .few, c .before .before .before .before .before .pre .0 .0 0 (omega arith) .roads .few-nodes)
+add-count c = omega (arith, c .visit .ensures .few, c .before .before .before .before .before .pre .0 .0 .each 0 (omega arith) .roads .few-nodes)
 
 add-k : tie.Need-add-k Inv-loop μ-loop
 add-k c = omega arith

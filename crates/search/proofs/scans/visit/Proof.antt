@@ -7,7 +7,7 @@ use Rattle.search.proofs.scans.visit.Tie as tie
 
 -- The node is one of 128.
 node : (c : tie.Start) → c .args .k < 128
-node c = omega (arith, c .pre .1 .1, c .pre .0 .0 0 (omega arith) .roads .few-nodes)
+node c = omega (arith, c .pre .1 .1, c .pre .0 .0 .each 0 (omega arith) .roads .few-nodes)
 
 mul-row : tie.Need-mul-row
 mul-row c = omega (arith, node c)

@@ -1,85 +1,103 @@
--- `study::questions::sections_apart` meets its contract.
+-- `study::questions::sections_apart` meets its contract. The loop's invariant: the sections before this one end at or before the next offset. The
+-- measure is what is left of them.
+use Prim.Native.Nat.{_+_, _-_, _≤_, _<_}
 use borrow.Author.Needs.{needs}
 use borrow.Author.Tests.{le-leb, lt-leb}
-use mathlib.Core.Bool.{Bool, _&&_}
-use mathlib.Core.Logic.{⊎-elim}
-use mathlib.Core.Path.{_≡_, refl, sym, _∙_}
+use mathlib.Core.Bool.{true}
+use mathlib.Core.Path.{_≡_, refl, sym, _∙_, ap}
+use native.Mathlib.Omega.{arith}
 use lib.Dec.{leb}
-use lib.ListN.{length}
-use denote.Ref.{now}
-use Rattle.study.specs.Questions.{sectionsApart}
-use Rattle.study.proofs.Flags.{and-yes, and-no}
+use Rattle.study.specs.Versions.{formOf}
+use Rattle.study.specs.Header.{version, offset}
+use Rattle.study.specs.Questions.{sectionEnd, eachSection, sectionsApart}
+use Rattle.study.specs.Laws.{known, each-no, each-more}
 use Rattle.study.proofs.questions.sections_apart.Statement.{statement}
 use Rattle.study.proofs.questions.sections_apart.Tie as tie
 
-section-end-requires : tie.Need-section-end-requires
-section-end-requires c κs = search needs
+abbrev Inv-loop : tie.InvT-loop
+Inv-loop file sections section₀ section =
+    (sections ≡ formOf (version file) .sections)
+    × (section ≤ sections)
+    × (eachSection section (λ s. leb (sectionEnd file s) (offset file (s + 1))) ≡ true)
 
-offset-requires : tie.Need-offset-requires
-offset-requires c κs = search needs
+abbrev μ-loop : tie.MeasureT-loop
+μ-loop file sections section₀ section = sections - section
 
-section-end-requires-2 : tie.Need-section-end-requires-2
-section-end-requires-2 c κs = search needs
+version-requires : tie.Need-version-requires Inv-loop μ-loop
+version-requires c κs = search needs
 
-offset-requires-2 : tie.Need-offset-requires-2
-offset-requires-2 c κs = search needs
+form-of-requires : tie.Need-form-of-requires Inv-loop μ-loop
+form-of-requires c κs = search needs
 
-section-end-requires-3 : tie.Need-section-end-requires-3
-section-end-requires-3 c κs = search needs
+loop-holds : tie.Need-loop-holds Inv-loop μ-loop
+unfolding eachSection
+loop-holds c = (ap (λ form. form .sections) (c .form-of .ensures) ∙ ap (λ v. formOf v .sections) (c .before .version .ensures), omega arith, refl)
 
-offset-requires-3 : tie.Need-offset-requires-3
-offset-requires-3 c κs = search needs
+add-offset : tie.Need-add-offset Inv-loop μ-loop
+add-offset c = search needs
 
-section-end-requires-4 : tie.Need-section-end-requires-4
-section-end-requires-4 c κs = search needs
+offset-requires : tie.Need-offset-requires Inv-loop μ-loop
+offset-requires c κs =
+    let start = c .before .before .before .before .before in
+    let inv = c .before .loop .inv in
+    (start .pre, omega (arith, inv .0, known _ (start .pre .version-least) (start .pre .version-most) .some-sections))
 
--- The four tests of the code, which are the definition's.
-abbrev links : tie.After-section-end4 → Bool
-links c =
-    leb (c .before .before .before .before .before .before .section-end .result) (c .before .before .before .before .before .offset .result)
+section-end-requires : tie.Need-section-end-requires Inv-loop μ-loop
+section-end-requires c κs =
+    let start = c .before .before .before .before .before .before in
+    let inv = c .before .before .loop .inv in
+    (start .pre, omega (arith, inv .0, known _ (start .pre .version-least) (start .pre .version-most) .some-sections))
 
-abbrev destinations : tie.After-section-end4 → Bool
-destinations c = leb (c .before .before .before .before .section-end2 .result) (c .before .before .before .offset2 .result)
-
-abbrev trips : tie.After-section-end4 → Bool
-trips c = leb (c .before .before .section-end3 .result) (c .before .offset3 .result)
-
-abbrev closed : tie.After-section-end4 → Bool
-closed c =
-    leb (c .section-end4 .result)
-    (length (now (c .before .before .before .before .before .before .before .before .args .file)))
-
-tests : (c : tie.After-section-end4) → links c && destinations c && trips c && closed c ≡ sectionsApart (now (c .before .before .before .before .before .before .before .before .args .file))
+returns : tie.Need-returns Inv-loop μ-loop
 unfolding sectionsApart
-tests c = cc
+returns c =
+    let turn = c .before .before .before .before in
+    let file = c .before .before .before .before .before .before .before .before .args .file .now in
+    let inside = c .before .before .before .loop-test .taken in
+    let past : offset file (turn .loop .section + 1) < sectionEnd file (turn .loop .section) =
+    omega (arith, c .before .before .offset .ensures .0, c .before .section-end .ensures, c .if1 .taken) in
+    sym
+    (each-no (formOf (version file) .sections) (λ s. leb (sectionEnd file s) (offset file (s + 1))) (turn .loop .section) (omega (arith, turn .loop .inv .0))
+    (lt-leb _ _ past))
 
--- The flag where the ways of the first `&&` meet, and of the second.
-two : (c : tie.Joined1) → c .if1 .if2 ≡ links (c .before) && destinations (c .before)
-two c =
-    ⊎-elim (λ w. and-yes _ _ (le-leb _ _ (w .0 .taken)) (w .1)) (λ w. and-no _ _ (lt-leb _ _ (w .0 .left)) (w .1)) (c .if1 .came)
+add-section : tie.Need-add-section Inv-loop μ-loop
+add-section c = search needs
 
-three : (c : tie.Joined2) → c .if2 .if3 ≡ links (c .before .before) && destinations (c .before .before) && trips (c .before .before)
-three c =
-    ⊎-elim (λ w. and-yes _ _ (sym (two (c .before)) ∙ w .0 .taken) (w .1))
-    (λ w. and-no _ _ (sym (two (c .before)) ∙ w .0 .left) (w .1 ∙ two (c .before)))
-    (c .if2 .came)
+loop-less : tie.Need-loop-less Inv-loop μ-loop
+loop-less c = search needs
 
-returns : tie.Need-returns
-returns c = and-yes _ _ (sym (three (c .before)) ∙ c .if3 .taken) refl ∙ tests (c .before .before .before)
+loop-again : tie.Need-loop-again Inv-loop μ-loop
+loop-again c =
+    let turn = c .before .before .before .before in
+    let file = c .before .before .before .before .before .before .before .before .args .file .now in
+    let near : sectionEnd file (turn .loop .section) ≤ offset file (turn .loop .section + 1) =
+    omega (arith, c .before .before .offset .ensures .0, c .before .section-end .ensures, c .if1 .left) in (
+      turn .loop .inv .0,
+      omega arith,
+      each-more (turn .loop .section) (λ s. leb (sectionEnd file s) (offset file (s + 1))) (turn .loop .inv .2) (le-leb _ _ near),
+    )
 
-returns-2 : tie.Need-returns-2
-returns-2 c = and-no _ _ (sym (three (c .before)) ∙ c .if3 .left) (three (c .before)) ∙ tests (c .before .before .before)
+returns-2 : tie.Need-returns-2 Inv-loop μ-loop
+unfolding sectionsApart
+returns-2 c =
+    let inv = c .before .loop .inv in
+    let all : c .before .loop .section ≡ formOf (version (c .before .before .before .before .before .args .file .now)) .sections = omega (arith, inv .0) in
+    sym (rw all at (inv .2))
 
 pub sections-apart-spec : {M : Type 1} → statement M
 sections-apart-spec =
     tie.close
     (tie.spec
-    section-end-requires
+    Inv-loop
+    μ-loop
+    version-requires
+    form-of-requires
+    loop-holds
+    add-offset
     offset-requires
-    section-end-requires-2
-    offset-requires-2
-    section-end-requires-3
-    offset-requires-3
-    section-end-requires-4
+    section-end-requires
     returns
+    add-section
+    loop-less
+    loop-again
     returns-2)

@@ -10,10 +10,10 @@ use Rattle.study.proofs.sections.accepted_section.Statement.{statement}
 use Rattle.study.proofs.sections.accepted_section.Tie as tie
 
 offset-requires : tie.Need-offset-requires
-offset-requires c κs = (headed _ (c .before .pre .0), c .before .pre .1)
+offset-requires c κs = (headed _ (c .before .pre .0), omega arith)
 
 section-end-requires : tie.Need-section-end-requires
-section-end-requires c κs = (headed _ (c .before .before .pre .0), c .before .before .pre .1)
+section-end-requires c κs = (headed _ (c .before .before .pre .0), omega arith)
 
 sub-result : tie.Need-sub-result
 sub-result c = search needs
@@ -24,7 +24,7 @@ part-result-start c = search needs
 part-result-end : tie.Need-part-result-end
 part-result-end c =
     let start = c .before .before .before in
-    omega (arith, ends-within (now (start .args .file)) (start .args .number) (in-order _ (start .pre .0)) (start .pre .1))
+    omega (arith, ends-within (now (start .args .file)) (start .args .number) (in-order _ (start .pre .0)))
 
 returns : tie.Need-returns
 returns c =
