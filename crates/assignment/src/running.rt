@@ -14,9 +14,11 @@ use judging::Standing;
 use judging::Step;
 use network::ALL_ENTRIES;
 use network::CAR_ENTRIES;
+use network::SHORT;
 use network::SHORT_ENTRIES;
 use network::SHORT_LINKS;
 use network::has_lorries;
+use refusals::FEW_COMMODITIES;
 use refusals::curve_places;
 use refusals::is_small;
 use refusals::run_refusal;
@@ -45,9 +47,14 @@ pub fn run(file: &[u8], table: &mut [u32], budget: u32, excess: u16) -> RunAnswe
             &mut curves,
         );
     }
-    let mut rows = [[0u16, 0, 0, 0, 0, 0]; 512];
     let mut curves = [0u64; ALL_LISTS];
     let curves = &mut curves[..curve_places(file)];
+    if file.len() <= SHORT {
+        let mut rows = [[0u16, 0, 0, 0, 0, 0]; SHORT_LINKS];
+        let mut entries = [0u16; SHORT_ENTRIES];
+        return run_in(file, table, budget, excess, &mut rows, &mut entries, curves);
+    }
+    let mut rows = [[0u16, 0, 0, 0, 0, 0]; 512];
     if has_lorries(file) {
         let mut entries = [0u16; ALL_ENTRIES];
         return run_in(file, table, budget, excess, &mut rows, &mut entries, curves);
@@ -104,8 +111,8 @@ fn run_in(
     )
 }
 
-// The turns of an accepted run, from the table that a start leaves until one ends it: in places for the commodities of cars alone, or for as many of
-// lorries too.
+// The turns of an accepted run, from the table that a start leaves until one ends it: in places for few commodities, for those of cars alone, or for
+// as many of lorries too.
 fn turns(
     file: &[u8],
     nodes: usize,
@@ -122,6 +129,25 @@ fn turns(
     ensures { λ r. ⌜ r ≡ runAnswer (now (file .entry)) (now (table .entry)) budget excess ⌝ }
     ensures { λ _. ⌜ now (table .exit) ≡ runTable (now (file .entry)) (now (table .entry)) budget excess ⌝ }
 {
+    if commodities.len() <= FEW_COMMODITIES {
+        let mut chains = [[NO_LINK; 896]; 4];
+        let mut next = [[0u16; 128]; FEW_COMMODITIES];
+        let mut volumes = [[0u16; 128]; FEW_COMMODITIES];
+        return turns_in(
+            file,
+            nodes,
+            links,
+            commodities,
+            trips,
+            table,
+            budget,
+            excess,
+            curves,
+            &mut chains,
+            &mut next,
+            &mut volumes,
+        );
+    }
     if car_count(commodities) < commodities.len() {
         let mut chains = [[NO_LINK; 896]; 4];
         let mut next = [[0u16; 128]; 64];

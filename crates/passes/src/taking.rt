@@ -15,6 +15,7 @@ use network::SHORT_ENTRIES;
 use network::SHORT_LINKS;
 use network::has_lorries;
 use notes::Taken;
+use refusals::FEW_COMMODITIES;
 use refusals::note_refusal;
 use theory::car_count;
 
@@ -81,8 +82,8 @@ fn take_back_in(
     }
 }
 
-// Takes the loading of a note back out of a table that its questions accept: in places for the commodities of cars alone, or for as many of lorries
-// too.
+// Takes the loading of a note back out of a table that its questions accept: in places for few commodities, for those of cars alone, or for as
+// many of lorries too.
 fn take_by_note(
     nodes: usize,
     links: &[[u16; 6]],
@@ -95,6 +96,21 @@ fn take_by_note(
     requires { ⌜ Takeable nodes (now links) (now commodities) (now trips) (now table) (now note) × (carCount (now commodities) ≤ 32) ⌝ }
     ensures { λ r. ⌜ TakenOn (network nodes (now (links .entry)) (now (commodities .entry)) (now (trips .entry))) (now (table .entry)) share (now (note .entry)) r (now (table .exit)) ⌝ }
 {
+    if commodities.len() <= FEW_COMMODITIES {
+        let mut next = [[0u16; 128]; FEW_COMMODITIES];
+        let mut volumes = [[0u16; 128]; FEW_COMMODITIES];
+        return notes::take_back_table(
+            nodes,
+            links,
+            commodities,
+            trips,
+            table,
+            share,
+            note,
+            &mut next,
+            &mut volumes,
+        );
+    }
     if car_count(commodities) < commodities.len() {
         let mut next = [[0u16; 128]; 64];
         let mut volumes = [[0u16; 128]; 64];
