@@ -1,13 +1,15 @@
 -- The hypotheses of the demands and of the requests' theorems can be met: the town of two roads, the busy town, the town with a zone, the
--- town with powers and some marked nodes meet each of them.
+-- town with powers, the towns with a lorry and some marked nodes meet each of them.
 use Prim.Native.Nat.{ℕ, zero, suc, _+_, _*_, _/_, _^_, _≤_, _<_}
 use native.Mathlib.Omega.{arith}
+use mathlib.Core.Logic.{_↔_}
 use mathlib.Core.Path.{_≡_}
 use mathlib.Core.Bool.{true, false}
 use mathlib.Core.List.{List, [], _∷_}
 use lib.ListN.{length, getD, take, replicate}
 use Rattle.study.specs.Header.{version}
-use Rattle.study.specs.Sections.{links}
+use Rattle.study.specs.Sections.{links, destinations, barredPart}
+use Rattle.study.specs.Fields.{markByte}
 use Rattle.theory.specs.Network.{Network}
 use Rattle.theory.specs.Flows.{entry, Carries, timeAt, total, overAt, over}
 use Rattle.theory.specs.Cost.{cost, gap}
@@ -18,12 +20,13 @@ use Rattle.theory.specs.Marks.{bit, marked, unvisited}
 use Rattle.theory.specs.Laws.Conserving.{Carried}
 use Rattle.theory.specs.Laws.Finite.{Lowest}
 use Rattle.theory.specs.Laws.Paths.{Simple}
+use Rattle.theory.specs.Laws.Totals.{SameFor}
 use Rattle.calls.specs.Study.{networkOf}
 use Rattle.calls.specs.Sequence.{Call, afterStart, afterCalls}
-use Rattle.calls.specs.Cases.{town, busyTown, curvedTown, zoneTown, blank, setOf, wordEnds, computed}
+use Rattle.calls.specs.Cases.{town, busyTown, curvedTown, zoneTown, barredTown, sharedTown, blank, setOf, wordEnds, computed}
 use Rattle.calls.specs.Page.{pageOf}
 use Rattle.calls.specs.Questions.{packedSize}
-use Rattle.calls.specs.Calls.{packOutput, auditAnswer, passAnswer, passTable, passNote, takeBackNumber, takeBackAnswer, takeBackTable, runAnswer, runTable, pageSlice}
+use Rattle.calls.specs.Calls.{tableNumber, packOutput, auditAnswer, passAnswer, passTable, passNote, takeBackNumber, takeBackAnswer, takeBackTable, runAnswer, runTable, pageSlice}
 use Rattle.calls.specs.Laws.Questions.{Described, check-passed, table-both}
 use Rattle.calls.specs.Laws.Reach.{passed-carries}
 use Rattle.calls.specs.Laws.Networks.{sound}
@@ -35,7 +38,9 @@ use Rattle.demands.specs.Zones.{Closed, Avoids}
 use Rattle.demands.specs.PastCurves.{CountsOver}
 use Rattle.demands.specs.Powers.{freeOf, riseOf, powerOf, withCurves, curves-carry}
 use Rattle.demands.specs.TakingBack.{routingAt, nextWalk, TakesBackTo}
-use Rattle.demands.specs.Requests.{request-A1, request-A2, request-A3, request-A4, request-A5, request-A6}
+use Rattle.demands.specs.Lorries.{TwoClasses, KeepsOff, barredAt}
+use Rattle.demands.specs.LorryTowns.{lorried}
+use Rattle.demands.specs.Requests.{request-A1, request-A2, request-A3, request-A4, request-A5, request-A6, request-A7}
 
 -- A study that passes questions 1 to 11.
 pub town-described : Described town
@@ -193,3 +198,36 @@ town-doubling = request-A6 .doubling (networkOf town) (record { table = 2 ∷ 0 
 
 pub town-still : passNote town (1820 ∷ 228 ∷ []) 1024 blank ≡ blank
 town-still = request-A6 .still town (1820 ∷ 228 ∷ []) 1024 blank (computed .rests)
+
+-- A town of version 4, and one of version 1.
+pub barred-classes : TwoClasses barredTown
+barred-classes = request-A7 .classes barredTown (computed .lorries-barred) (lorried .fourth)
+
+pub town-cars : networkOf town .commodities ≡ destinations town
+town-cars = request-A7 .cars town (omega (arith, computed .first-version))
+
+-- The lorries' commodity and the barred road, a path of theirs, and a table with their flow on the other road.
+pub barred-road : (barredAt barredTown 1 0 ≡ true) ↔ ((destinations barredTown ≤ 1) × (markByte (barredPart barredTown) 0 ≡ 1))
+barred-road = request-A7 .barred barredTown (computed .lorries-barred) 1 0 (omega (arith, lorried .sizes)) (omega (arith, lorried .sizes))
+
+pub barred-path : KeepsOff barredTown (1 ∷ [])
+barred-path =
+    request-A7 .path barredTown (computed .lorries-barred) (20 ∷ 15 ∷ []) 1 0 (1 ∷ []) (omega (arith, lorried .sizes)) (omega (arith, lorried .sizes))
+    (lorried .way)
+
+pub barred-flow : entry (networkOf barredTown .links) (2 ∷ 0 ∷ 0 ∷ 1 ∷ []) 1 0 ≡ 0
+barred-flow =
+    request-A7 .flow barredTown (2 ∷ 0 ∷ 0 ∷ 1 ∷ []) 1 (lorried .table) 1 0 (omega (arith, lorried .sizes)) (omega (arith, lorried .sizes))
+    (omega (arith, lorried .sizes)) (lorried .byte)
+
+-- Two tables that the audit accepts, with the lorry on one road and on the other, and the same totals.
+pub shared-same : SameFor (networkOf sharedTown) 1 (2 ∷ 0 ∷ 0 ∷ 1 ∷ []) (1 ∷ 1 ∷ 1 ∷ 0 ∷ []) 0
+shared-same = request-A7 .same sharedTown (2 ∷ 0 ∷ 0 ∷ 1 ∷ []) (1 ∷ 1 ∷ 1 ∷ 0 ∷ []) 1 equal 0 (omega (arith, lorried .shared))
+  where
+    equal : (l : ℕ) → l < networkOf sharedTown .links → total (networkOf sharedTown) (2 ∷ 0 ∷ 0 ∷ 1 ∷ []) l ≡ total (networkOf sharedTown) (1 ∷ 1 ∷ 1 ∷ 0 ∷ []) l
+    equal zero h = lorried .first-totals
+    equal (suc zero) h = lorried .second-totals
+    equal (suc (suc l)) h = absurd (omega (arith, lorried .shared))
+
+pub shared-accepted : (tableNumber sharedTown (2 ∷ 0 ∷ 0 ∷ 1 ∷ []) 1 ≡ 0) × (tableNumber sharedTown (1 ∷ 1 ∷ 1 ∷ 0 ∷ []) 1 ≡ 0)
+shared-accepted = (computed .lorry-table, computed .other-table)

@@ -15,4 +15,5 @@ pub mod PastCurves
 pub mod Powers
 pub mod TakingBack
 pub mod Lorries
+pub mod LorryTowns
 pub mod Instances
