@@ -344,6 +344,15 @@ impl Plan {
         }
     }
 
+    /// A study with the most nodes, links and destinations of the plan, and no fewer.
+    pub fn with_every_destination(&self, dice: &mut Dice) -> Draft {
+        let mut draft = self.draft(dice);
+        while (draft.destinations.len() as u64) < self.destinations {
+            draft = self.with_links(dice, self.nodes.1 as u16, draft.links);
+        }
+        draft
+    }
+
     /// An acceptable study of this kind.
     pub fn draft(&self, dice: &mut Dice) -> Draft {
         let nodes = dice.between(self.nodes.0, self.nodes.1);

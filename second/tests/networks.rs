@@ -360,10 +360,7 @@ fn studies_at_the_limits() {
             trips: 12,
             tenths: 8,
         };
-        let mut draft = plan.draft(&mut dice);
-        while (draft.destinations.len() as u64) < destinations {
-            draft = plan.with_links(&mut dice, nodes as u16, draft.links);
-        }
+        let draft = plan.with_every_destination(&mut dice);
         let file = draft.file();
         assert_eq!(check(&file), 0);
 
@@ -618,11 +615,7 @@ fn draft_of(dice: &mut Dice, nodes: u64, links: u64, destinations: u64) -> Draft
         trips: 12,
         tenths: 8,
     };
-    let mut draft = plan.draft(dice);
-    while (draft.destinations.len() as u64) < destinations {
-        draft = plan.with_links(dice, nodes as u16, draft.links);
-    }
-    draft
+    plan.with_every_destination(dice)
 }
 
 /// Packs a study and runs it, with as much room as it needs and with less.

@@ -1,6 +1,6 @@
 //! Networks with lorries at random, and at the limits.
 
-use super::power_networks::made_tables;
+use super::power_networks::{crowded, made_tables};
 use super::taking_back_networks::{made_notes_of_study, moves_of_study, some_study};
 use super::{List, largest, paper};
 use crate::draft::{Dice, Draft, Plan, Versioned, grid};
@@ -61,18 +61,7 @@ pub(super) fn notes(list: &mut List) {
 pub(super) fn long_runs(list: &mut List) {
     let mut dice = Dice::new(36);
     for capacity in [20, 90] {
-        let plan = Plan {
-            nodes: (2, 2),
-            links: (1, 1),
-            destinations: 12,
-            time: 120,
-            capacity,
-            trips: 9,
-            tenths: 9,
-        };
-        let links = grid(&mut dice, 6, 5, 512, 120, capacity);
-        let streets = plan.with_links(&mut dice, 30, links.clone());
-        let zones = plan.with_zones(&mut dice, 30, 8, links);
+        let (streets, zones) = crowded(&mut dice, capacity);
         for study in [streets.into(), zones.with_some_powers(&mut dice)] {
             let study = study.with_some_lorries(&mut dice, 4);
             let study = study.barring_some(&mut dice, 1);
@@ -144,10 +133,7 @@ pub(super) fn single_limits(list: &mut List) {
             trips: 20,
             tenths: 9,
         };
-        let mut draft = plan.draft(&mut dice);
-        while (draft.destinations.len() as u64) < destinations {
-            draft = plan.with_links(&mut dice, nodes as u16, draft.links);
-        }
+        let draft = plan.with_every_destination(&mut dice);
         let study = draft.with_some_lorries(&mut dice, 5);
         let study = study.barring_some(&mut dice, 1);
         let file = study.file();

@@ -1,7 +1,7 @@
 //! Networks with powers at random, and at the limits.
 
 use super::{List, largest, paper};
-use crate::draft::{Dice, Plan, Versioned, grid};
+use crate::draft::{Dice, Draft, Plan, Versioned, grid};
 
 /// A small or middling study with powers, of several kinds.
 fn study(dice: &mut Dice, turn: usize) -> Versioned {
@@ -73,22 +73,28 @@ pub(super) fn made_tables(list: &mut List, dice: &mut Dice, study: &Versioned, f
     list.audit(file, table, share);
 }
 
+/// A crowded grid, its links with so much capacity at most, as streets alone and
+/// with zones at its edge.
+pub(super) fn crowded(dice: &mut Dice, capacity: u64) -> (Draft, Versioned) {
+    let plan = Plan {
+        nodes: (2, 2),
+        links: (1, 1),
+        destinations: 12,
+        time: 120,
+        capacity,
+        trips: 9,
+        tenths: 9,
+    };
+    let links = grid(dice, 6, 5, 512, 120, capacity);
+    let streets = plan.with_links(dice, 30, links.clone());
+    (streets, plan.with_zones(dice, 30, 8, links))
+}
+
 /// Larger networks, crowded, in which runs take long.
 pub(super) fn long_runs(list: &mut List) {
     let mut dice = Dice::new(27);
     for capacity in [20, 90] {
-        let plan = Plan {
-            nodes: (2, 2),
-            links: (1, 1),
-            destinations: 12,
-            time: 120,
-            capacity,
-            trips: 9,
-            tenths: 9,
-        };
-        let links = grid(&mut dice, 6, 5, 512, 120, capacity);
-        let streets = plan.with_links(&mut dice, 30, links.clone());
-        let zones = plan.with_zones(&mut dice, 30, 8, links);
+        let (streets, zones) = crowded(&mut dice, capacity);
         for study in [
             streets.with_some_powers(&mut dice),
             zones.with_some_powers(&mut dice),

@@ -314,10 +314,7 @@ pub(super) fn single_limits(list: &mut List) {
             trips: 20,
             tenths: 9,
         };
-        let mut draft = plan.draft(&mut dice);
-        while (draft.destinations.len() as u64) < destinations {
-            draft = plan.with_links(&mut dice, nodes as u16, draft.links);
-        }
+        let draft = plan.with_every_destination(&mut dice);
         let study = match links % 3 {
             0 => draft.with_some_powers(&mut dice),
             1 => draft.closing_some(&mut dice, 1),
