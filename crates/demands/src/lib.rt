@@ -1,1 +1,3 @@
 // Theorems only: the crate has no code. See specs/.
+
+#![tactic(auto)]

@@ -4,6 +4,8 @@
 // Each function returns the refusal number, or 0. `answer` receives the other fields of the call's
 // answer, in its order; a refusal writes 0 in each. No call has a `requires`. A slice is passed
 // as a pointer and a length, and an array as a pointer: include/ilstrovan.h has the C declarations.
+#![tactic(auto)]
+
 ghost use Rattle.std.specs.Prelude.{◌≡◌};
 ghost use Rattle.calls.specs.Calls.{ending_number, outcome_number};
 ghost use Rattle.calls.specs.Calls.{check_number, pack_number, pack_output, start_number, start_table};

@@ -1,5 +1,7 @@
 // Judging a table: its totals, times, next links, loading, gap and cost, and the move that a pass makes of it. Nothing here knows of
 // bytes: a study stands decoded in rows.
+#![tactic(auto)]
+
 mod audit;
 mod classes;
 mod gaps;

@@ -1,5 +1,7 @@
 // The loading of one destination: each node hands all its trips on to the head of its next link. The trips that leave each node are its
 // volume, and volumes are added to a row of link flows, each at its node's next link.
+#![tactic(auto)]
+
 ghost use Rattle.std.specs.Prelude.{◌≡◌};
 
 mod adding;

@@ -1,4 +1,6 @@
 // The loading of all commodities, with its totals, and what a move makes of a table and its totals.
+#![tactic(auto)]
+
 mod loads;
 mod moves;
 mod widths;

@@ -1,5 +1,7 @@
 // Document 01: a study file as rows. Decoding, check and pack. Nothing here knows of flow tables or
 // shares.
+#![tactic(auto)]
+
 mod checking;
 mod decoding;
 mod packing;

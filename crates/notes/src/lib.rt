@@ -1,5 +1,7 @@
 // The note of a pass: written, followed, and its loading taken back out of a table. Nothing here knows of times or bytes: a study stands
 // decoded in rows.
+#![tactic(auto)]
+
 mod following;
 mod lessening;
 mod taking;

@@ -1,5 +1,7 @@
 // The questions of documents 01 and 02 of a study in rows: 6 to 11, 19 and 23, the reach search among them, and 14 to 16 and 20 of a flow table
 // and its share. Nothing here knows of a file.
+#![tactic(auto)]
+
 mod access;
 mod fields;
 mod marks;

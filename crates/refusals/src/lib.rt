@@ -1,5 +1,7 @@
 // What the calls on a table share before they judge it, over a file whose fields are decoded: the numbers of their questions, and the sizes of
 // the places that they lend.
+#![tactic(auto)]
+
 mod numbers;
 mod places;
 

@@ -1,4 +1,6 @@
 // The programs `assign` (document 01) and `page` (document 02, A.1): from the bytes that they read to the bytes that they print.
+#![tactic(auto)]
+
 ghost use Rattle.std.specs.Prelude.{◌≤◌, ◌≡◌, ◌++◌, length, drop};
 ghost use Rattle.calls.specs.Calls.{table_number};
 ghost use Rattle.calls.specs.Laws.Calls.{refused_run};

@@ -1,4 +1,6 @@
 // Least times for eight commodities side by side, the chains of the links by which they are found, and the sum of trips × least time.
+#![tactic(auto)]
+
 mod chains;
 mod groups;
 mod least;

@@ -11,8 +11,8 @@ pub and_no : (a b : Bool) {flag : Bool} → a ≡ false → flag ≡ a → flag 
 and_no a b e f = f ∙ e ∙ rw e
 
 -- The answer to a question, where the code turns on `!flag`.
-pub was-yes : {flag answer : Bool} → flag ≡ answer → not flag ≡ false → answer ≡ true
-was-yes {flag} e f = sym e ∙ not-false flag f
+pub was-yes : {flag answer : Bool} → flag ≡ answer → flag ≡ true → answer ≡ true
+was-yes e f = sym e ∙ f
 
-pub was-no : {flag answer : Bool} → flag ≡ answer → not flag ≡ true → answer ≡ false
-was-no {flag} e f = sym e ∙ not-true flag f
+pub was-no : {flag answer : Bool} → flag ≡ answer → flag ≡ false → answer ≡ false
+was-no e f = sym e ∙ f

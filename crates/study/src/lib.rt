@@ -1,5 +1,7 @@
 // Document 01, 'The study file', of every version: questions 1 to 5, the counts n, m and p, each section as a part of
 // the caller's bytes, and the fields of a section. Nothing here knows of flows.
+#![tactic(auto)]
+
 mod bytes;
 mod fields;
 mod header;

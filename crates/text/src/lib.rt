@@ -1,4 +1,6 @@
 // Words and numbers as text, put into lent memory. Each function answers the place behind what it put.
+#![tactic(auto)]
+
 ghost use Rattle.std.specs.Prelude.{◌+◌, ◌/◌, ◌%◌, ◌^◌, ◌≤◌, ◌<◌, ◌≡◌, [], ◌∷◌, length};
 ghost use Rattle.text.specs.Decimal.{decimal, hundredths, aligned};
 ghost use Rattle.text.specs.Put.{Put, leading, leading_byte};

@@ -1,5 +1,7 @@
 // Definitions and laws, in specs/. Of code the crate has only the names of a link's columns and how a commodity is kept: a study's links are rows of
 // six numbers and its commodities are numbers, as specs/Study.antt has them.
+#![tactic(auto)]
+
 ghost use Rattle.std.specs.Prelude.{◌≡◌, ◌≤◌, length};
 ghost use Rattle.theory.specs.Study.{node_of, of_lorries};
 ghost use Rattle.theory.specs.Classes.{car_count};

@@ -1,6 +1,8 @@
 // Totals of a table, times and cost of links, and the sums behind the gap and the choice of j. Links are
 // rows; numbers by link stand in arrays of 512, of which the first m count. Nothing here knows of paths
 // or of the study's bytes.
+#![tactic(auto)]
+
 mod balance;
 mod choice;
 mod costs;

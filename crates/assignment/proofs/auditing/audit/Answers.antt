@@ -1,0 +1,35 @@
+-- `assignment::audit` meets its contract: there is room for the file in the places that it lends.
+use Rattle.std.proofs.Common.{sym, refl, ◌∙◌, rules}
+use Rattle.network.specs.Laws.Decoding.{room_most, room-cars, room-short}
+use Rattle.refusals.specs.Laws.Places.{small-length, small-curves, curves-most, curves-counted}
+use Rattle.assignment.proofs.auditing.audit.Goals as goal
+
+pub audit_in-requires : goal.audit_in-requires
+audit_in-requires c =
+    let small = sym c.is_small.ensures ∙ c.if-is_small.true in
+    (room-short _ (small-length _ small) refl refl, small-curves _ small)
+
+pub returns-then-is_small : goal.returns-then-is_small
+returns-then-is_small c = c.audit_in.ensures
+
+pub slice_bounds-curves-end : goal.slice_bounds-curves-end
+slice_bounds-curves-end c = rw c.curve_places.ensures (curves-most _)
+
+pub slice_bounds-curves-end-2 : goal.slice_bounds-curves-end-2
+slice_bounds-curves-end-2 c = curves-counted _ _ refl c.curve_places.ensures
+
+pub audit_in-requires-then-has_lorries : goal.audit_in-requires-then-has_lorries
+audit_in-requires-then-has_lorries c =
+    let are = c.curve_places.ensures in
+    (room_most _ refl refl, sym (curves-counted _ _ refl are) ∙ are)
+
+pub returns-then-has_lorries : goal.returns-then-has_lorries
+returns-then-has_lorries c = c.audit_in-then-has_lorries.ensures
+
+pub audit_in-requires-2 : goal.audit_in-requires-2
+audit_in-requires-2 c =
+    let are = c.curve_places.ensures in
+    (room-cars _ (sym c.has_lorries.ensures ∙ c.if-has_lorries.false) refl refl, sym (curves-counted _ _ refl are) ∙ are)
+
+pub returns : goal.returns
+returns c = c.audit_in-2.ensures

@@ -1,0 +1,6 @@
+-- `assignment::ended` meets its contract.
+use Rattle.std.proofs.Common.{rules}
+use Rattle.assignment.proofs.running.ended.Goals as goal
+
+pub returns : goal.returns
+returns c = rw c.Ending-of.ensures

@@ -1,0 +1,24 @@
+-- `network::packing::write_sections` meets its contract: the first sections are written.
+use borrow.Author.Rules.{rules}
+use mathlib.Core.Path.{◌≡◌, refl, ◌∙◌, ap}
+use lib.ListN.{length}
+use native.Mathlib.Omega.{arith}
+use Prim.Native.Nat.{◌+◌, ◌≤◌, ◌<◌, ◌-◌}
+use Rattle.study.specs.Header.{version}
+use Rattle.study.specs.Laws.{accepted}
+use Rattle.study.specs.Sections.{part}
+use Rattle.study.specs.Versions.{form_of}
+use Rattle.theory.specs.Finite.{rows}
+use Rattle.network.specs.Written.{written, section_bytes}
+use Rattle.network.specs.Laws.Packing.{rows_none, rows_more, rows-longer, section-fits}
+use Rattle.network.proofs.packing.write_sections.Given as goal
+
+abbrev pub invariant-loop-section : goal.invariant-loop-section
+invariant-loop-section l =
+    (l.section ≤ l.sections)
+    × (l.place ≡ (form_of (version l.file)).header + length (rows l.section (part l.file)))
+    × (l.output ≡ written (form_of (version l.file)).header (rows l.section (part l.file)) l.initial.output)
+    × (length l.output ≡ length l.initial.output)
+
+abbrev pub decreases-loop-section : goal.decreases-loop-section
+decreases-loop-section l = l.sections - l.section

@@ -1,0 +1,82 @@
+-- `pages::page_in` meets its contract: it prints a table that its questions accept.
+use native.Mathlib.Omega.{arith}
+use mathlib.Core.Path.{◌≡◌, refl, sym, ◌∙◌}
+use borrow.Author.Rules.{rules}
+use Rattle.calls.specs.Calls.{page_number}
+use Rattle.calls.specs.Laws.Calls.{page-kept}
+use Rattle.calls.specs.Laws.Questions.{Passed}
+use Rattle.network.specs.Laws.Decoding.{decoded-counts, trips-few, links-counted, commodities-counted, trips-counted}
+use Rattle.travel.specs.Laws.Powers.{link-powers}
+use Rattle.refusals.specs.Laws.Parts.{parts-decoded}
+use Rattle.refusals.specs.Laws.Places.{curve-room, parts-room, table-passed}
+use Rattle.pages.specs.Laws.{page-audited, page-numbered, page-room, page-printable, page-leaves}
+use Rattle.pages.proofs.printing.page_in.Goals as goal
+use Rattle.pages.proofs.printing.page_in.Goals.{After-page_refusal-refusal, Else-refusal-ne0}
+
+pub slice_bounds-links-end : goal.slice_bounds-links-end
+slice_bounds-links-end c = c.decode-opening.ensures.links-within
+
+pub slice_bounds-links-end-2 : goal.slice_bounds-links-end-2
+slice_bounds-links-end-2 c = links-counted c.decode-opening.ensures
+
+pub slice_bounds-places-end : goal.slice_bounds-places-end
+slice_bounds-places-end c = c.decode-opening.ensures.commodities-within
+
+pub slice_bounds-commodities-end : goal.slice_bounds-commodities-end
+slice_bounds-commodities-end c = commodities-counted c.decode-opening.ensures
+
+pub overflow_mul-trips : goal.overflow_mul-trips
+overflow_mul-trips c = omega (arith, trips-few c.decode-opening.ensures)
+
+pub slice_bounds-trips-end : goal.slice_bounds-trips-end
+slice_bounds-trips-end c = c.decode-opening.ensures.trips-within
+
+pub slice_bounds-trips-end-2 : goal.slice_bounds-trips-end-2
+slice_bounds-trips-end-2 c = trips-counted c.decode-opening.ensures
+
+pub totals_refusal-audited-requires : goal.totals_refusal-audited-requires
+totals_refusal-audited-requires c = (parts-decoded c.decode-opening.ensures, refl)
+
+pub overflow_mul-links : goal.overflow_mul-links
+overflow_mul-links c =
+    let d = c.decode-opening.ensures in
+    omega (arith, links-counted d, (decoded-counts d).links-most)
+
+number :
+    (c : After-page_refusal-refusal) →
+    c.page_refusal-refusal.result ≡ page_number c.args.file.now c.args.table.now c.args.share c.args.page.now
+number c = page-numbered (parts-decoded c.decode-opening.ensures) _ _ _ c.totals_refusal-audited.ensures.value c.page_refusal-refusal.ensures
+
+pub returns-then-refusal-ne0 : goal.returns-then-refusal-ne0
+returns-then-refusal-ne0 c =
+    record { value = number (goal.at.returns-then-refusal-ne0 c).After-page_refusal-refusal; page_after = sym (page-kept _ _ _ _ (λ e. c.if-refusal-ne0.true (number (goal.at.returns-then-refusal-ne0 c).After-page_refusal-refusal ∙ e))) }
+
+accepted :
+    (c : Else-refusal-ne0) →
+    page_number c.args.file.now c.args.table.now c.args.share c.args.page.now ≡ 0
+accepted c = sym (number c.before) ∙ c.if-refusal-ne0.false
+
+-- So its study passes its questions.
+passed : (c : Else-refusal-ne0) → Passed c.args.file.now
+passed c =
+    let audited = c.totals_refusal-audited.ensures.value in
+    table-passed _ _ _ (sym audited ∙ page-audited _ _ _ _ audited (accepted c))
+
+pub put_powers-requires : goal.put_powers-requires
+put_powers-requires c =
+    (curve-room _ (passed (goal.at.put_powers-requires c).Else-refusal-ne0) c.requires.1).room
+
+pub put_lines-requires : goal.put_lines-requires
+put_lines-requires c =
+    let parts = parts-decoded c.decode-opening.ensures in
+    let audited = c.totals_refusal-audited.ensures in (
+      page-printable parts _ _ _ (accepted (goal.at.put_lines-requires c).Else-refusal-ne0) (audited.1 (page-audited _ _ _ _ audited.0 (accepted (goal.at.put_lines-requires c).Else-refusal-ne0))),
+      link-powers (parts-room parts (passed (goal.at.put_lines-requires c).Else-refusal-ne0) c.requires.1) c.put_powers.ensures,
+      page-room parts _ _ _ (accepted (goal.at.put_lines-requires c).Else-refusal-ne0),
+    )
+
+pub returns : goal.returns
+returns c =
+    let parts = parts-decoded c.decode-opening.ensures in
+    let audited = c.totals_refusal-audited.ensures in
+    record { value = sym (accepted (goal.at.returns c).Else-refusal-ne0); page_after = page-leaves parts _ _ _ (accepted (goal.at.returns c).Else-refusal-ne0) (audited.1 (page-audited _ _ _ _ audited.0 (accepted (goal.at.returns c).Else-refusal-ne0))) c.put_lines.ensures }

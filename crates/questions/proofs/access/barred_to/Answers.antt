@@ -1,0 +1,12 @@
+-- `questions::access::barred_to` meets its contract.
+use borrow.Author.Rules.{rules}
+use Rattle.theory.specs.Study.{barred_to}
+use Rattle.questions.proofs.access.barred_to.Goals as goal
+
+pub returns-then-lorries : goal.returns-then-lorries
+unfolding barred_to
+returns-then-lorries c = rw c.if-lorries.true
+
+pub returns : goal.returns
+unfolding barred_to
+returns c = rw c.if-lorries.false

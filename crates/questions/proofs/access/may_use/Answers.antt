@@ -1,0 +1,24 @@
+-- `questions::access::may_use` meets its contract.
+use borrow.Author.Rules.{rules}
+use mathlib.Core.List.{[], ◌∷◌}
+use mathlib.Core.Path.{◌≡◌, sym, ◌∙◌}
+use Rattle.theory.specs.Study.{of_lorries, barred_to}
+use Rattle.theory.specs.Laws.Permission.{may-barred, may-open}
+use Rattle.questions.specs.Laws.Links.{own-only}
+use Rattle.questions.proofs.access.may_use.Goals as goal
+use Rattle.questions.proofs.access.may_use.Goals.{After-barred_to}
+
+-- Whether the commodity is barred from the link.
+answer : (c : After-barred_to) → let x = c.args in c.barred_to.result ≡ barred_to (x.t1 ∷ []) (of_lorries x.commodity) 0
+answer c = rw c.of_lorries.ensures at c.barred_to.ensures
+
+pub returns-then-barred_to : goal.returns-then-barred_to
+returns-then-barred_to c = sym (may-barred _ _ _ (sym (answer (goal.at.returns-then-barred_to c).After-barred_to) ∙ c.if-barred_to.true))
+
+pub returns-then-link-eq1 : goal.returns-then-link-eq1
+returns-then-link-eq1 c =
+    rw (c.node.ensures, c.node_of.ensures)
+    (sym (own-only _ _ _ (sym (answer (goal.at.returns-then-link-eq1 c).After-barred_to) ∙ c.if-barred_to.false) c.if-link-eq1.true))
+
+pub returns : goal.returns
+returns c = sym (may-open _ _ _ (sym (answer (goal.at.returns c).After-barred_to) ∙ c.if-barred_to.false) c.if-link-eq1.false)

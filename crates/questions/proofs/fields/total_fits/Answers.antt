@@ -1,0 +1,6 @@
+-- `questions::questions::total_fits` meets its contract.
+use borrow.Author.Rules.{rules}
+use Rattle.questions.proofs.fields.total_fits.Goals as goal
+
+pub returns : goal.returns
+returns c = rw c.total_trips.ensures

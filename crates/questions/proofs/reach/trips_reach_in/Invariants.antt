@@ -1,0 +1,22 @@
+-- `questions::reach::trips_reach_in` meets its contract: the destinations of the commodities before k are reached from every node with trips to them, and rows have grown.
+use Prim.Native.Nat.{◌+◌, ◌*◌, ◌<◌, ◌≤◌, ◌-◌}
+use lib.ListN.{get_or, length}
+use mathlib.Core.Bool.{true}
+use mathlib.Core.Path.{◌≡◌, refl, sym, ◌∙◌, ap}
+use native.Mathlib.Omega.{arith}
+use borrow.Author.Rules.{rules}
+use Rattle.study.proofs.Flags.{was-yes, was-no}
+use Rattle.theory.specs.Finite.{all}
+use Rattle.theory.specs.Marks.{marked}
+use Rattle.theory.specs.Study.{node_of}
+use Rattle.questions.specs.Laws.Questions.{Ends, ends-below, all_more, all-failed, all_held}
+use Rattle.questions.specs.Laws.Reach.{rows-first, tails-below, grown-none, grown-next, search-answer, reach_test, reach-all, trips-there, trips-count, marks-answer}
+use Rattle.questions.specs.Reach.{Rows, Grown}
+use Rattle.questions.proofs.reach.trips_reach_in.Given as goal
+
+abbrev pub invariant-loop-k : goal.invariant-loop-k
+invariant-loop-k l =
+    (l.k ≤ length l.commodities) × (all l.k (reach_test l.nodes l.links l.commodities l.trips) ≡ true) × Grown l.initial.rows l.rows × Rows l.nodes l.whole l.rows
+
+abbrev pub decreases-loop-k : goal.decreases-loop-k
+decreases-loop-k l = length l.commodities - l.k

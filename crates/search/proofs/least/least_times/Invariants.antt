@@ -1,0 +1,20 @@
+-- `least::least_times` meets its contract. The loop's invariant: the destinations below `first` are added, and the sum is small. The measure
+-- is what is left of the destinations.
+use Prim.Native.Nat.{◌+◌, ◌*◌, ◌-◌, ◌≤◌, ◌<◌, min}
+use mathlib.Core.Path.{◌≡◌, sym, ◌∙◌}
+use mathlib.Core.Logic.{⊎_elim}
+use native.Mathlib.Nat.{mul-le-mul_right}
+use native.Mathlib.Omega.{arith}
+use borrow.Author.Rules.{rules}
+use lib.ListN.{length}
+use Rattle.search.specs.Least.{most_at_node, least_below}
+use Rattle.search.specs.Laws.Groups.{group-class, members-searchable}
+use Rattle.search.specs.Laws.Least.{group-adds, all_none, all_more, all-skip, all-below}
+use Rattle.search.proofs.least.least_times.Given as goal
+
+abbrev pub invariant-loop-first : goal.invariant-loop-first
+invariant-loop-first l =
+    (l.least ≡ least_below l.nodes l.links l.destinations l.trips l.times (min l.first (length l.destinations))) × (l.least ≤ l.first * (128 * most_at_node))
+
+abbrev pub decreases-loop-first : goal.decreases-loop-first
+decreases-loop-first l = length l.destinations - l.first

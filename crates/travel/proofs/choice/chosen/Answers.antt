@@ -1,0 +1,45 @@
+-- `chosen` meets its contract. The invariant: the j that is sought is `low` or above, and not above `high`. The measure is what lies
+-- between them. Assumes nothing.
+use Rattle.std.proofs.Common.{◌≡◌, ℕ, ◌-◌, min, Bool, List, sym, arith, rules}
+use Rattle.theory.specs.Moves.{qualifies}
+use Rattle.travel.specs.Links.{roads, total_of, load_of}
+use Rattle.travel.specs.Laws.Choice.{roads-chosen, qualifies-yes, qualifies-no}
+use Rattle.travel.specs.Laws.Bisection.{Between, between-all, between-up, between-down}
+use Rattle.travel.proofs.choice.chosen.Goals as goal
+
+-- Whether a number qualifies.
+abbrev qualifying : List (List ℕ) → List (List ℕ) → ℕ → ℕ → Bool
+qualifying links flows share j = qualifies (roads links) share (total_of flows) (load_of flows) j
+
+pub loop-low-init : goal.loop-low-init
+loop-low-init c = rw c.last-high.ensures (between-all _ _)
+
+pub next_try-j-requires : goal.next_try-j-requires
+next_try-j-requires c = (search rules, omega (arith, c.loop-low.invariant.within))
+
+pub sums_at-sums-requires : goal.sums_at-sums-requires
+sums_at-sums-requires c =
+    (c.requires.0, omega (arith, c.loop-low.invariant.within), c.requires.1)
+
+pub loop-low-smaller-then-sums : goal.loop-low-smaller-then-sums
+loop-low-smaller-then-sums c = omega arith
+
+pub loop-low-preserved-then-sums : goal.loop-low-preserved-then-sums
+loop-low-preserved-then-sums c =
+    let is = c.sums_at-sums.ensures in
+    between-up _ _ c.loop-low.invariant _ (omega arith) (qualifies-yes _ _ _ _ _ is.0 is.1 c.if-sums.true)
+
+pub loop-low-smaller : goal.loop-low-smaller
+loop-low-smaller c = omega arith
+
+pub loop-low-preserved : goal.loop-low-preserved
+loop-low-preserved c =
+    let is = c.sums_at-sums.ensures in
+    between-down _ _ c.loop-low.invariant _ (omega arith) (omega arith) (qualifies-no _ _ _ _ _ is.0 is.1 c.if-sums.false)
+
+pub returns : goal.returns
+returns c =
+    let x = c.args in
+    let inv = c.loop-low.invariant in
+    let met : c.loop-low.high ≡ c.loop-low.low = omega arith in
+    sym (roads-chosen _ c.requires.0.links-fit x.share (search rules) _ _ _ (omega (arith, inv.within, inv.ordered)) inv.holds (rw met at inv.ends))

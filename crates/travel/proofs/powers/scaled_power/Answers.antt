@@ -1,0 +1,39 @@
+-- `scaled_power` meets its contract. The invariant: the factors passed are multiplied. The measure is what is left of the four factors.
+-- Assumes nothing.
+use Rattle.std.proofs.Common.{◌≡◌, ◌+◌, ◌-◌, ◌*◌, ◌≤◌, sym, ◌∙◌, ap₂, ⊎_elim, le_trans, arith, rules}
+use native.Mathlib.Nat.{pow-le-pow_right}
+use Rattle.travel.specs.Laws.Powers.{factors, factors-none, factors-first, factors-later, factors-all, factors-most}
+use Rattle.travel.proofs.powers.scaled_power.Goals as goal
+use Rattle.travel.proofs.powers.scaled_power.Goals.{Joined-k-i}
+
+-- After a turn there is one factor more,
+turn : (c : Joined-k-i) →
+    c.loop-k.product * c.if-k-i.factor ≡ factors c.args.i c.args.r (c.loop-k.k + 1)
+turn c =
+    let x = c.args in
+    ⊎_elim
+    (λ came. ap₂ ◌*◌ c.loop-k.invariant.1 came.1 ∙ sym (factors-first x.i x.r c.loop-k.k came.0.taken))
+    (λ came. ap₂ ◌*◌ c.loop-k.invariant.1 came.1 ∙ sym (factors-later x.i x.r c.loop-k.k came.0.left))
+    c.if-k-i.branch
+
+-- and four factors, none of them more than 256, are a product of 64 bits.
+most : (c : Joined-k-i) → c.loop-k.product * c.if-k-i.factor ≤ 4294967296
+most c =
+    let x = c.args in
+    rw (turn c)
+    (le_trans (factors-most x.i x.r (c.loop-k.k + 1) (search rules)) (pow-le-pow_right {n = 256} (omega arith) {j = 4} (omega arith)))
+
+pub loop-k-init : goal.loop-k-init
+loop-k-init c = (search rules, sym (factors-none c.args.i c.args.r))
+
+pub overflow_mul-product : goal.overflow_mul-product
+overflow_mul-product c = omega (arith, most (goal.at.overflow_mul-product c).Joined-k-i)
+
+pub loop-k-preserved : goal.loop-k-preserved
+loop-k-preserved c = (search rules, turn (goal.at.loop-k-preserved c).Joined-k-i)
+
+pub returns : goal.returns
+returns c =
+    let x = c.args in
+    let end : c.loop-k.k ≡ 4 = omega arith in
+    rw end at c.loop-k.invariant.1 ∙ factors-all x.i x.r (omega arith)

@@ -1,0 +1,40 @@
+-- `times` meets its contract. The invariant: the times of the links passed are written, and past all links there are zeros. The measure
+-- is what is left of the links. Assumes nothing.
+use Rattle.std.proofs.Common.{◌≡◌, ◌-◌, ◌≤◌, length, ap, arith, rules}
+use Rattle.travel.specs.Links.{padded, list_time}
+use Rattle.travel.specs.Laws.Padded.{Filled, get_d-padded, filled_none, filled_more, filled-all}
+use Rattle.travel.specs.Laws.Powers.{list_at}
+use Rattle.travel.specs.Laws.Times.{list_time-least, list_time-most}
+use Rattle.travel.proofs.steps.times.Goals as goal
+
+pub loop-l-init : goal.loop-l-init
+loop-l-init c = (search rules, filled_none (length c.args.links.now) _ c.args.times.now c.requires.link_powers.1)
+
+pub list_start-list-requires : goal.list_start-list-requires
+list_start-list-requires c =
+    let l = c.loop-l.l in
+    ((c.requires.links_fit.0.link l (omega arith)).power-fits, c.requires.link_powers.0.has-list l (omega arith))
+
+pub link_time-link-requires : goal.link_time-link-requires
+link_time-link-requires c =
+    let l = c.loop-l.l in
+    (list_at c.requires.links_fit.0 c.requires.link_powers.0 (omega arith) c.list_start-list.ensures, search rules, c.requires.links_fit.2 l (omega arith))
+
+pub loop-l-preserved : goal.loop-l-preserved
+unfolding list_time
+loop-l-preserved c =
+    (search rules, filled_more _ _ _ c.loop-l.l _ (omega arith) c.requires.links_fit.0.few c.loop-l.invariant.1 (ap (λ r. r.time) c.link_time-link.ensures.0))
+
+pub returns : goal.returns
+returns c =
+    let x = c.args in
+    let m = length x.links.now in
+    let end : c.loop-l.l ≡ m = omega arith in
+    let fit = c.requires.links_fit.0 in
+    let same : c.loop-l.times ≡ padded m (list_time x.links.now x.share x.flows.now) = filled-all m _ _ fit.few (rw end at c.loop-l.invariant.1) in record {
+      times_after = same;
+      times_fit = rw same (record {
+        some-time = λ l p. rw (get_d-padded m _ l p) (list_time-least _ fit x.share _ l p);
+        times-fit = λ l p. rw (get_d-padded m _ l p) (list_time-most _ fit x.share _ l p);
+      });
+    }

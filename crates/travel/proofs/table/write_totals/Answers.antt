@@ -1,0 +1,71 @@
+-- `write_totals` meets its contract. The invariant: the sums are the totals over the rows passed. The measure is what is left of the rows.
+-- Assumes nothing.
+use Rattle.std.proofs.Common.{◌≡◌, ℕ, ◌+◌, ◌-◌, ◌*◌, ◌≤◌, length, get_or, take, drop, sym, ap, ◌∙◌, mul-le-mul_right, arith, rules}
+use Rattle.theory.specs.Flows.{link_total}
+use Rattle.travel.specs.Links.{padded}
+use Rattle.travel.specs.Ranges.{RowAdded}
+use Rattle.travel.specs.Laws.Padded.{length-padded, padded-zeros, padded-added, padded-within}
+use Rattle.travel.specs.Laws.Rows.{length_from, get_d-from}
+use Rattle.travel.specs.Laws.Totals.{link_total-none, link_total-more, link_total-most}
+use Rattle.travel.proofs.table.write_totals.Goals as goal
+use Rattle.travel.proofs.table.write_totals.Goals.{At-loop-k, In-loop-k}
+
+-- The row that is added is within the table.
+row_within : (c : In-loop-k) →
+    c.loop-k.k * c.args.m + c.args.m ≤ length c.args.table.now
+row_within c =
+    let k = c.loop-k.k in
+    let m = c.args.m in
+    let h : (k + 1) * m ≤ c.args.p * m = mul-le-mul_right m (omega arith) in
+    omega arith
+
+-- A sum of k rows is at most k of the largest numbers that a table holds.
+sum-within : (c : At-loop-k) (l : ℕ) → get_or c.loop-k.sums l 0 ≤ c.loop-k.k * 4294967295
+sum-within c l =
+    let m = c.args.m in
+    let table = c.args.table.now in
+    rw c.loop-k.invariant.1
+    (padded-within m (link_total c.loop-k.k m table) (c.loop-k.k * 4294967295)
+    (λ i p. link_total-most m table i c.loop-k.k 4294967295 (λ j. omega (arith, c.shared_slice_known-1.given j))) l)
+
+pub loop-k-init : goal.loop-k-init
+loop-k-init c = (search rules, c.requires.3 ∙ padded-zeros c.args.m _ (omega arith) (λ l p. link_total-none _ _ l))
+
+pub overflow_mul-start : goal.overflow_mul-start
+overflow_mul-start c = omega (arith, row_within (goal.at.overflow_mul-start c).In-loop-k)
+
+pub offset_bounds-table-start : goal.offset_bounds-table-start
+offset_bounds-table-start c = omega (arith, row_within (goal.at.offset_bounds-table-start c).In-loop-k)
+
+pub slice_bounds-add_row-count : goal.slice_bounds-add_row-count
+slice_bounds-add_row-count c = omega (arith, row_within (goal.at.slice_bounds-add_row-count c).In-loop-k)
+
+pub slice_bounds-add_row-start : goal.slice_bounds-add_row-start
+slice_bounds-add_row-start c = omega (arith, row_within (goal.at.slice_bounds-add_row-start c).In-loop-k)
+
+pub add_row-requires : goal.add_row-requires
+add_row-requires c =
+    let table = c.args.table.now in
+    let m = c.args.m in
+    let k = c.loop-k.k in (
+      search rules,
+      omega (arith, length_from table (k * m), row_within (goal.at.add_row-requires c).In-loop-k),
+      ap length c.loop-k.invariant.1 ∙ length-padded m _ (search rules),
+      (λ l p. omega (arith, sum-within (goal.at.add_row-requires c).At-loop-k l)),
+    )
+
+pub loop-k-preserved : goal.loop-k-preserved
+loop-k-preserved c =
+    let table = c.args.table.now in
+    let m = c.args.m in
+    let k = c.loop-k.k in
+    let sum : RowAdded m (take (length table - k * m) (drop (k * m) table)) (padded m (link_total k m table)) c.add_row.new.1.1.0 = rw c.loop-k.invariant.1 at c.add_row.ensures in (
+      search rules,
+      padded-added m (link_total k m table) (link_total (k + 1) m table) _ _ (search rules) sum
+          (λ l p. link_total-more m table l k ∙ ap (λ x. link_total k m table l + x) (sym (get_d-from table (k * m) l (omega (arith, row_within (goal.at.loop-k-preserved c).In-loop-k))))),
+    )
+
+pub returns : goal.returns
+returns c =
+    let end : c.loop-k.k ≡ c.args.p = omega arith in
+    (rw end at c.loop-k.invariant.1, (λ l p. omega (arith, sum-within (goal.at.returns c).At-loop-k l)))
