@@ -175,12 +175,12 @@ town-leads = request-A6.leads town (16 ∷ 0 ∷ []) 8 blank computed.adds (2 �
 
 -- A taking back that is accepted, with a note that no pass left.
 pub town-back : Carried (network_of town) (take_back_answer town (16 ∷ 2 ∷ []) 9 (1 ∷ 1 ∷ 7 ∷ [])).share (take_back_table town (16 ∷ 2 ∷ []) 9 (1 ∷ 1 ∷ 7 ∷ []))
-town-back = request-A6.conserves town (16 ∷ 2 ∷ []) 9 (1 ∷ 1 ∷ 7 ∷ []) computed.taken_back
+town-back = request-A6.conserves town (16 ∷ 2 ∷ []) 9 (1 ∷ 1 ∷ 7 ∷ []) computed.taken_back_lem
 
 pub town-back-table :
     let x : Shared = record { table = 16 ∷ 2 ∷ []; share = 9 } in
     Fresh (table_size (network_of town)) (taken_back (network_of town) x (1 ∷ 1 ∷ 7 ∷ [])).table (16 ∷ 2 ∷ []) (take_back_table town (16 ∷ 2 ∷ []) 9 (1 ∷ 1 ∷ 7 ∷ []))
-town-back-table = request-A6.table town (16 ∷ 2 ∷ []) 9 (1 ∷ 1 ∷ 7 ∷ []) computed.taken_back
+town-back-table = request-A6.table town (16 ∷ 2 ∷ []) 9 (1 ∷ 1 ∷ 7 ∷ []) computed.taken_back_lem
 
 -- The note of P7's pass; that of the start's table, whose j is 0; and one that 'finest' leaves as it was.
 pub town-note :
