@@ -19,7 +19,8 @@ use Rattle.theory.specs.Laws.Finite.{order, and_left, and_right, length-tabulate
 use Rattle.theory.specs.Laws.Local.{carries_same}
 use Rattle.theory.specs.Laws.Moves.{chosen_of}
 use Rattle.theory.specs.Laws.Next.{next-without-path}
-use Rattle.theory.specs.Laws.Notes.{Restores, restores, back-carries, length_back, length-note, next-walk-short, next-walk-simple}
+use Rattle.theory.proofs.Notes.{restores}
+use Rattle.theory.specs.Laws.Notes.{Restores, back-carries, length_back, length-note, next-walk-short, next-walk-simple}
 use Rattle.theory.specs.Laws.Paths.{WellFormed, Simple, simple-none, ends_at, path_sum}
 use Rattle.theory.specs.Laws.Routings.{times-timed, routing-well-formed}
 use Rattle.theory.specs.Laws.Walks.{walk-stops, walk-goes, walk_same}

@@ -251,27 +251,15 @@ module _ (g : Network) (sound : Sound g) (few : g.links ≤ no_link) (t : List �
 -- The note of a pass: its size,
 pub length-note : (g : Network) (x : Shared) → length (note_of g x) ≡ note_size g
 unfolding note_of next_marks
-length-note g x = ap suc (on_test (eqb (chosen_of g x) 0) (λ e. rw e (length-replicate (note_links g) no_link)) (λ e. rw e links-long))
+length-note g x = ap suc (on_test (eqb (chosen_of g x) 0) (λ e. rw e (length-replicate (note_links g) no_link)) (λ e. rw e (links-long _)))
   where
-    links-long : length (next_marks g (times g x.share x.table)) ≡ note_links g
-    links-long = length-rows g.commodities g.nodes _ (λ k h. let q = routing g (times g x.share x.table) k in length-map (next_links q) link_mark ∙ length-next q)
+    links-long : (t : List ℕ) → length (next_marks g t) ≡ note_links g
+    links-long t = length-rows g.commodities g.nodes _ (λ k h. let q = routing g t k in length-map (next_links q) link_mark ∙ length-next q)
 
--- its j, and where that is not 0 its links.
+-- and its j.
 pub note_step_lem : (g : Network) (x : Shared) → note_step (note_of g x) ≡ chosen_of g x
 unfolding note_of
 note_step_lem g x = refl
-
-pub note-entry : (g : Network) (x : Shared) → chosen_of g x ≢ 0 → (k j : ℕ) → k < g.commodities → j < g.nodes →
-    note_entry g (note_of g x) k j ≡ link_mark (get_or (next_links (routing g (times g x.share x.table) k)) j none)
-unfolding note_of next_marks link_mark
-note-entry g x some-j k j p h =
-    let t = times g x.share x.table in
-    let q = routing g t k in
-    ap (λ b. get_or (cond b (replicate (note_links g) no_link) (next_marks g t)) (k * g.nodes + j) 0) (ne_eqb (chosen_of g x) 0 some-j)
-    ∙ get_d_rows g.commodities g.nodes (λ i. map link_mark (next_links (routing g t i)))
-    (λ i h. length-map (next_links (routing g t i)) link_mark ∙ length-next (routing g t i)) 0 k j p h
-    ∙ get_d_default (map link_mark (next_links q)) j 0 no_link (omega (arith, length-map (next_links q) link_mark, length-next q))
-    ∙ get_or-map link_mark (next_links q) j none
 
 -- What taking back makes of a moved table and the note of its move: it is accepted, and restores what the pass judged.
 pub record Restores (g : Network) (x moved : Shared) (note : List ℕ) : Type 0 where
@@ -279,62 +267,6 @@ pub record Restores (g : Network) (x moved : Shared) (note : List ℕ) : Type 0 
   pub can : can_take_back g moved note ≡ true
   pub share-is : (taken_back g moved note).share ≡ x.share
   pub table_is : (taken_back g moved note).table ≡ tabulate (table_size g) (λ i. get_or x.table i 0)
-
--- Numbers after the first ones of table and note do not matter.
-module _ (g : Network) (sound : Sound g) (few : g.links ≤ no_link) (x : Shared) (some_Share : 1 ≤ x.share) (table note : List ℕ)
-    (timed : Timed g (times g x.share x.table)) (served : AllServed g (times g x.share x.table))
-    (same-note : (i : ℕ) → i < note_size g → get_or note i 0 ≡ get_or (note_of g x) i 0) where
-  abbrev t : List ℕ
-  t = times g x.share x.table
-
-  abbrev j : ℕ
-  j = chosen_of g x
-
-  step_is : note_step note ≡ j
-  step_is = same-note 0 (omega arith) ∙ note_step_lem g x
-
-  marks-are : j ≢ 0 → (k i : ℕ) → k < g.commodities → i < g.nodes → note_entry g note k i ≡ link_mark (get_or (next_links (routing g t k)) i none)
-  marks-are some-j k i p h =
-      same-note (suc (k * g.nodes + i)) (omega (arith, digits_lt {q = k} {m = g.commodities} {r = i} {c = g.nodes} p h)) ∙ note-entry g x some-j k i p h
-
-  restores-added : 1 ≤ j → ((i : ℕ) → i < table_size g → get_or table i 0 ≡ get_or x.table i 0 + j * get_or (loading_of g x) i 0) →
-      Restores g x (record { table = table; share = x.share + j }) note
-  unfolding can_take_back taken_back
-  restores-added some-j is =
-      let off : j ≢ 0 = λ e. omega arith in
-      let none : eqb (note_step note) 0 ≡ false = rw step_is (ne_eqb j 0 off) in
-      let y : note_loading g note ≡ loading_of g x = own-loading g sound few t timed note (marks-are off) in
-      record {
-        leads = own-leads g sound few t timed note (marks-are off) served;
-        can = rw (none, can_take_back)
-            (both (ltb (note_step note) (x.share + j)) _ (lt-ltb (note_step note) (x.share + j) (omega (arith, step_is)))
-            (all-intro (table_size g) _ (λ i h. le-leb (note_step note * get_or (note_loading g note) i 0) (get_or table i 0) (rw (step_is, y) (omega (arith, is i h))))));
-        share-is = rw (none, taken_back, step_is) (omega arith);
-        table_is = rw (none, taken_back) (tabulate-cong (table_size g) _ _ (λ i h. rw (step_is, y) (omega (arith, is i h))));
-      }
-
-  restores-doubled : j ≡ 0 → ((i : ℕ) → i < table_size g → get_or table i 0 ≡ 2 * get_or x.table i 0) →
-      Restores g x (record { table = table; share = 2 * x.share }) note
-  unfolding can_take_back taken_back note_leads
-  restores-doubled no-j is =
-      let none : eqb (note_step note) 0 ≡ true = rw (step_is, no-j) in
-      record {
-        leads = rw (none, note_leads);
-        can = rw (none, can_take_back)
-            (both (eqb (2 * x.share % 2) 0) _ (eq-eqb (2 * x.share % 2) 0 (omega arith)) (all-intro (table_size g) _ (λ i h. eq-eqb (get_or table i 0 % 2) 0 (omega (arith, is i h)))));
-        share-is = rw (none, taken_back) (omega arith);
-        table_is = rw (none, taken_back) (tabulate-cong (table_size g) _ _ (λ i h. omega (arith, is i h)));
-      }
-
-  pub restores : (x' : Shared) → move g x ≡ some x' → ((i : ℕ) → i < table_size g → get_or table i 0 ≡ get_or x'.table i 0) →
-      Restores g x (record { table = table; share = x'.share }) note
-  unfolding added doubled
-  restores x' e same = go x' (moved g x x' e) same
-    where
-      go : (x' : Shared) → Pass g x (some x') → ((i : ℕ) → i < table_size g → get_or table i 0 ≡ get_or x'.table i 0) →
-          Restores g x (record { table = table; share = x'.share }) note
-      go x' (Pass.adds some-j fits q) is = restores-added some-j (λ i h. is i h ∙ get_d_tabulate (table_size g) _ 0 i h)
-      go x' (Pass.doubles no-j fits) is = restores-doubled no-j (λ i h. is i h ∙ get_d_tabulate (table_size g) _ 0 i h)
 
 -- A walk along next links meets no node twice, so it has at most n - 1 links, whatever its limit.
 module _ (q : Routing) (w : WellFormed q) where
