@@ -39,12 +39,3 @@ hundredths-100 = refl
 hundredths-1234 : hundredths 1234 ≡ 49 ∷ 50 ∷ 46 ∷ 51 ∷ 52 ∷ []
 unfolding digits_within decimal hundredths
 hundredths-1234 = refl
-
--- " 42" and "420" in a column of three
-aligned-42 : aligned 3 (decimal 42) ≡ 32 ∷ 52 ∷ 50 ∷ []
-unfolding digits_within decimal aligned
-aligned-42 = refl
-
-aligned-420 : aligned 3 (decimal 420) ≡ 52 ∷ 50 ∷ 48 ∷ []
-unfolding digits_within decimal aligned
-aligned-420 = refl

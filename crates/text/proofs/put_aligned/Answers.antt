@@ -3,7 +3,8 @@ use borrow.Author.Rules.{rules}
 use native.Mathlib.Omega.{arith}
 use Prim.Native.Nat.{suc, ◌-◌}
 use mathlib.Core.Path.{◌≡◌}
-use Rattle.text.specs.Laws.Decimal.{tenth-below, aligned-last}
+use Rattle.text.specs.Laws.Decimal.{tenth-below}
+use Rattle.text.proofs.Columns.{aligned-last}
 use Rattle.text.specs.Laws.Put as laws
 use Rattle.text.proofs.put_aligned.Goals as goal
 

@@ -1,7 +1,8 @@
 -- `text::put_decimal` meets its contract: in a column of its own width a number has no space before it.
 use borrow.Author.Rules.{rules}
 use native.Mathlib.Omega.{arith}
-use Rattle.text.specs.Laws.Decimal.{some-digit, decimal-below, aligned-whole}
+use Rattle.text.specs.Laws.Decimal.{some-digit, decimal-below}
+use Rattle.text.proofs.Columns.{aligned-whole}
 use Rattle.text.proofs.put_decimal.Goals as goal
 
 pub put_aligned-requires : goal.put_aligned-requires

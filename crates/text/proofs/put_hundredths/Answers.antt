@@ -1,7 +1,7 @@
 -- `text::put_hundredths` meets its contract: the digits before the point, the point, and two digits, one behind the other.
 use borrow.Author.Rules.{rules}
 use native.Mathlib.Omega.{arith}
-use Rattle.text.specs.Laws.Decimal.{aligned-hundredths}
+use Rattle.text.proofs.Columns.{aligned-hundredths}
 use Rattle.text.specs.Laws.Put as laws
 use Rattle.text.proofs.put_hundredths.Goals as goal
 

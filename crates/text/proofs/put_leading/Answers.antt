@@ -6,8 +6,8 @@ use mathlib.Core.Path.{◌≡◌, refl}
 use lib.ListN.{length, length-set}
 use lib.Seq.{sets}
 use Rattle.text.specs.Put.{leading}
-use Rattle.text.specs.Laws.Decimal.{length-leading}
-use Rattle.text.specs.Laws.Put.{Left, left_less, left-none}
+use Rattle.text.proofs.Columns.{length-leading, left_less}
+use Rattle.text.specs.Laws.Put.{Left, left-none}
 use Rattle.text.proofs.put_leading.Goals as goal
 
 pub loop-i-init : goal.loop-i-init

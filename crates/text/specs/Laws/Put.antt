@@ -8,7 +8,7 @@ use Rattle.std.proofs.Math.Seq.{length-sets}
 use Rattle.std.proofs.lemmas.List.{set_comm}
 use Rattle.theory.specs.Finite.{rows}
 use Rattle.text.specs.Put.{Put, leading_byte, leading}
-use Rattle.text.specs.Laws.Decimal.{leading-none, leading-more, length-leading}
+use Rattle.text.specs.Laws.Decimal.{leading-none}
 
 sets-append : (l : List ℕ) (i : ℕ) (xs ys : List ℕ) → sets (sets l i xs) (i + length xs) ys ≡ sets l i (xs ++ ys)
 sets-append l i [] ys = ap (λ k. sets l k ys) (add-zero i)
@@ -22,7 +22,7 @@ set-sets l i j x [] h = refl
 set-sets l i j x (y ∷ ys) h =
     set-sets (set l j y) i (suc j) x ys (omega arith) ∙ ap (λ k. sets k (suc j) ys) (set_comm l j i y x (λ e. omega arith))
 
-sets-before : (l : List ℕ) (i : ℕ) (xs ys : List ℕ) → sets (sets l (i + length xs) ys) i xs ≡ sets l i (xs ++ ys)
+pub sets-before : (l : List ℕ) (i : ℕ) (xs ys : List ℕ) → sets (sets l (i + length xs) ys) i xs ≡ sets l i (xs ++ ys)
 sets-before l i [] ys = ap (λ k. sets l k ys) (add-zero i)
 sets-before l i (x ∷ xs) ys =
     let e : i + suc (length xs) ≡ suc i + length xs = omega arith in
@@ -66,21 +66,7 @@ module _ (target : List ℕ) (at : ℕ) where
     pub small : rest < 10 ^ width
     pub left : sets out at (leading width rest) ≡ target
 
-  -- one byte less each turn,
-  pub left_less : {out : List ℕ} {width rest : ℕ} → Left out (suc width) rest → Left (set out (at + width) (leading_byte rest)) width (rest / 10)
-  left_less {out} {width} {rest} so_far =
-      let below = so_far.small in
-      let tenth : rest / 10 < 10 ^ width = omega arith in
-      record {
-        small = tenth;
-        left =
-            ap (λ k. sets (set out (at + k) (leading_byte rest)) at (leading width (rest / 10))) (sym (length-leading width (rest / 10) tenth))
-            ∙ sets-before out at (leading width (rest / 10)) (leading_byte rest ∷ [])
-            ∙ ap (sets out at) (sym (leading-more width rest))
-            ∙ so_far.left;
-      }
-
-  -- and nothing at last.
+  -- and nothing at last. (That it is one byte less each turn stands with the theorems on columns.)
   pub left-none : {out : List ℕ} {rest : ℕ} → Left out 0 rest → out ≡ target
   left-none {out} {rest} so_far = ap (sets out at) (sym (leading-none rest so_far.small)) ∙ so_far.left
 

@@ -1,0 +1,2 @@
+-- Theorems on the definitions of specs/ whose must-fail edits they refuse.
+pub mod Columns
