@@ -1,8 +1,7 @@
 // The answers of document 01's calls, as values. What each call answers, for any bytes, is defined in specs/; this crate has no code.
-
-// How a run ended. A refused run has no ending.
 #![tactic(auto)]
 
+// How a run ended. A refused run has no ending.
 #[derive(Drop)]
 pub enum Ending {
     Refused,

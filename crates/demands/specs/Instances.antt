@@ -18,7 +18,8 @@ use Rattle.theory.specs.Laws.Paths.{Simple}
 use Rattle.theory.specs.Laws.Totals.{SameFor}
 use Rattle.calls.specs.Study.{network_of}
 use Rattle.calls.specs.Sequence.{Call, after_start, after_calls}
-use Rattle.calls.specs.Cases.{town, busy_town, curved_town, zone_town, barred_town, shared_town, blank, set_of, word_ends, computed}
+use Rattle.calls.specs.Cases.{town, busy_town, curved_town, zone_town, barred_town, shared_town, blank, set_of, word_ends}
+use Rattle.calls.proofs.Computed.{computed}
 use Rattle.calls.specs.Page.{page_of}
 use Rattle.calls.specs.Questions.{packed_size}
 use Rattle.calls.specs.Calls.{table_number, pack_output, audit_answer, pass_answer, pass_table, pass_note, take_back_number, take_back_answer, take_back_table, run_answer, run_table, page_slice}

@@ -16,7 +16,8 @@ use Rattle.theory.specs.Laws.Permission.{may-barred}
 use Rattle.theory.specs.Laws.Totals.{SameFor, same-for}
 use Rattle.calls.specs.Study.{as_mark, link_rows, commodities, network_of}
 use Rattle.calls.specs.Calls.{check_number, table_number}
-use Rattle.calls.specs.Cases.{lorry_town, computed}
+use Rattle.calls.specs.Cases.{lorry_town}
+use Rattle.calls.proofs.Computed.{computed}
 use Rattle.calls.specs.Laws.Questions.{check-passed, table-both, start-both}
 use Rattle.calls.specs.Laws.Commodities.{commodities-long, car-at, lorry-at, lorry-class, car-class}
 use Rattle.calls.specs.Laws.Networks.{mark-exactly, barred-link}

@@ -10,7 +10,8 @@ use Rattle.theory.specs.Laws.Finite.{get_d_rows}
 use Rattle.calls.specs.Study.{network_of}
 use Rattle.calls.specs.Page.{volume, line_of, page_of}
 use Rattle.calls.specs.Calls.{table_number, page_number, page_slice}
-use Rattle.calls.specs.Cases.{full_town, full_line, computed}
+use Rattle.calls.specs.Cases.{full_town, full_line}
+use Rattle.calls.proofs.Computed.{computed}
 use Rattle.calls.specs.Laws.Questions.{page-both}
 use Rattle.calls.specs.Laws.Calls.{page-written}
 use Rattle.calls.specs.Laws.Page.{LineRange, LineFits, range-fits, length-line, link-count, line-range, length-page}

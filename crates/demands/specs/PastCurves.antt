@@ -13,7 +13,8 @@ use Rattle.calls.specs.Study.{network_of}
 use Rattle.calls.specs.Calls.{overwritten, table_number, audit_answer, pass_number, pass_answer, run_number, run_answer, run_table}
 use Rattle.calls.specs.Laws.Questions.{Passed, check-passed, start-both, run-both, table-both, pass-both}
 use Rattle.calls.specs.Laws.Networks.{sound, share-range}
-use Rattle.calls.specs.Laws.Calls.{audit-accepted, pass-accepted, run-accepted, run-written}
+use Rattle.calls.proofs.Accepted.{pass-accepted}
+use Rattle.calls.specs.Laws.Calls.{audit-accepted, run-accepted, run-written}
 use Rattle.calls.specs.Laws.Page.{link-count}
 use Rattle.calls.specs.Laws.Tables.{overwritten-front, run_length, run-passes}
 

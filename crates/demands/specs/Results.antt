@@ -11,7 +11,8 @@ use Rattle.calls.specs.Calls.{overwritten, start_number, start_table, table_numb
 use Rattle.calls.specs.Sequence.{Call, after_start, after_call}
 use Rattle.calls.specs.Laws.Questions.{Passed, SharePassed, check-passed, start-both, run-both, table-both}
 use Rattle.calls.specs.Laws.Reach.{passed-carries}
-use Rattle.calls.specs.Laws.Calls.{start-written, pass-accepted, pass-table, run-accepted, run-written}
+use Rattle.calls.proofs.Accepted.{pass-accepted}
+use Rattle.calls.specs.Laws.Calls.{start-written, pass-table, run-accepted, run-written}
 use Rattle.calls.specs.Laws.Tables.{started-length, run_length, run-passes, overwritten-passes}
 use Rattle.demands.specs.Sequences.{start-auditable, call-auditable}
 

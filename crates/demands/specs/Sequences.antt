@@ -11,7 +11,8 @@ use Rattle.calls.specs.Calls.{overwritten, start_number, start_table, table_numb
 use Rattle.calls.specs.Sequence.{Call, after_start, after_call, after_calls}
 use Rattle.calls.specs.Laws.Questions.{Passed, SharePassed, check-passed, start-both, both-start, table-both, both-table, pass-both}
 use Rattle.calls.specs.Laws.Networks.{holds-length, length-holds}
-use Rattle.calls.specs.Laws.Calls.{refused_pass, start-written, pass-accepted, pass-table, pass-refused, pass_kept}
+use Rattle.calls.proofs.Accepted.{pass-accepted}
+use Rattle.calls.specs.Laws.Calls.{refused_pass, start-written, pass-table, pass-refused, pass_kept}
 use Rattle.calls.specs.Laws.Tables.{started-passes, started-length, moved_passes, moved_length, overwritten-passes, overwritten-length}
 
 module _ (file : List ℕ) where

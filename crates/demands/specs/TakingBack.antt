@@ -33,7 +33,8 @@ use Rattle.calls.specs.Laws.Questions.{Passed, SharePassed, check-passed, start-
 use Rattle.calls.specs.Laws.Networks.{sound, share-range, holds-length}
 use Rattle.calls.specs.Laws.Page.{link-count}
 use Rattle.calls.specs.Laws.Reach.{served, passed-carries}
-use Rattle.calls.specs.Laws.Calls.{pass-accepted, pass-table, pass-note, pass-refused, note-kept, take-back-accepted, take-back-written}
+use Rattle.calls.proofs.Accepted.{pass-accepted}
+use Rattle.calls.specs.Laws.Calls.{pass-table, pass-note, pass-refused, note-kept, take-back-accepted, take-back-written}
 use Rattle.calls.specs.Laws.Tables.{overwritten-front, overwritten-length, moved_length}
 use Rattle.demands.specs.Results.{Fresh, overwritten-fresh}
 use Rattle.demands.specs.Sequences.{after-move}

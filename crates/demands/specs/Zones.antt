@@ -17,7 +17,8 @@ use Rattle.theory.specs.Laws.Permission.{not-barred, may-open, may-own, may-clos
 use Rattle.calls.specs.Study.{as_mark, link_rows, commodities, network_of}
 use Rattle.calls.specs.Questions.{packed_size}
 use Rattle.calls.specs.Calls.{check_number, pack_number, pack_output, table_number}
-use Rattle.calls.specs.Cases.{zone_only, computed}
+use Rattle.calls.specs.Cases.{zone_only}
+use Rattle.calls.proofs.Computed.{computed}
 use Rattle.calls.specs.Laws.Networks.{mark-exactly, closed-head, barred-link}
 use Rattle.calls.specs.Laws.Questions.{table-both}
 use Rattle.calls.specs.Laws.Reach.{passed-carries}

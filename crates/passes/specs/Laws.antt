@@ -12,7 +12,8 @@ use Rattle.theory.specs.Laws.Cases.{on_test}
 use Rattle.calls.specs.Study.{network_of}
 use Rattle.calls.specs.Questions.{note_holds}
 use Rattle.calls.specs.Calls.{overwritten, table_number, pass_outcome, pass_number, pass_answer, pass_table, pass_note, take_back_number, take_back_answer, take_back_table}
-use Rattle.calls.specs.Laws.Calls.{refused_pass, refused_take_back, pass-accepted, pass-refused, pass-table, pass-note, take-back-accepted, take-back-refused, take-back-written, take-back-kept}
+use Rattle.calls.proofs.Accepted.{pass-accepted}
+use Rattle.calls.specs.Laws.Calls.{refused_pass, refused_take_back, pass-refused, pass-table, pass-note, take-back-accepted, take-back-refused, take-back-written, take-back-kept}
 use Rattle.calls.specs.Laws.Questions.{pass-both, take-back-number}
 use Rattle.calls.specs.declared.PassAnswer.{PassAnswer}
 use Rattle.calls.specs.declared.TakeBackAnswer.{TakeBackAnswer}

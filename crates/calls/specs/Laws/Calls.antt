@@ -55,20 +55,7 @@ module _ (file table : List ℕ) (share : ℕ) (note : List ℕ) where
   abbrev next_of : Option Shared
   next_of = move (network_of file) judged_table
 
-  -- A pass and a taking back that are accepted,
-  pub pass-accepted : pass_number file table share note ≡ 0
-      → pass_answer file table share note
-      ≡ record {
-        refusal = 0;
-        outcome = pass_outcome next_of;
-        gap = gap (network_of file) share table;
-        cost = cost (network_of file) share table;
-        share = share_after share next_of;
-        over = over (network_of file) share table;
-      }
-  unfolding pass_answer
-  pass-accepted e = rw (e, pass_answer)
-
+  -- What a pass and a taking back that are accepted write, and what such a taking back answers (what such a pass answers: proofs/Accepted.antt),
   pub pass-table : pass_number file table share note ≡ 0 → pass_table file table share note ≡ table_after table next_of
   unfolding pass_table
   pass-table e = written (pass_number file table share note) (table_after table next_of) table e
