@@ -33,7 +33,9 @@ head_at : (c : After-index-i) →
     let l = get_or c.args.next.now c.index-k.result 0 in
     (l ≡ no_link → ⊥) × (c.index-i.result ≡ head c.args.links.now l)
 head_at c =
-    let is = c.loop-turn.invariant.4.head_at c.index-k.result (node_at c.before.before) c.if-h-ne-NO_HEAD.true in
+    let below : c.index-k.result < c.args.nodes =
+      omega (arith, c.index-k.ensures, c.loop-turn.invariant.2.node c.loop-turn.turn (omega arith) (omega arith)) in
+    let is = c.loop-turn.invariant.4.head_at c.index-k.result below c.if-h-ne-NO_HEAD.true in
     (is.0, c.index-i.ensures ∙ is.1)
 
 pub offset_bounds-heads-k : goal.offset_bounds-heads-k
@@ -58,7 +60,7 @@ loop-turn-preserved-then-h-ne-NO_HEAD c = let sent = c.send.ensures in
       c.join_order-joined.ensures.few,
       omega (arith, c.join_order-joined.ensures.few, node_at (goal.at.loop-turn-preserved-then-h-ne-NO_HEAD c).After-index-k),
       c.join_order-joined.ensures.nodes _ below c.loop-turn.invariant.2,
-      rw (sent.0, sent.1) (sent-more c.requires.followable c.loop-turn.invariant.3 (node_at (goal.at.loop-turn-preserved-then-h-ne-NO_HEAD c).After-index-k) (head_at (goal.at.loop-turn-preserved-then-h-ne-NO_HEAD c).After-index-i).0 (head_at (goal.at.loop-turn-preserved-then-h-ne-NO_HEAD c).After-index-i).1),
+      rw (sent.trips, sent.volume) (sent-more c.requires.followable c.loop-turn.invariant.3 (node_at (goal.at.loop-turn-preserved-then-h-ne-NO_HEAD c).After-index-k) (head_at (goal.at.loop-turn-preserved-then-h-ne-NO_HEAD c).After-index-i).0 (head_at (goal.at.loop-turn-preserved-then-h-ne-NO_HEAD c).After-index-i).1),
       c.loop-turn.invariant.4,
     )
 
