@@ -1,6 +1,5 @@
 -- `add_volumes` meets its contract. The invariant: the volumes of the nodes below `j` are added. The measure is what is left of the nodes.
-use Rattle.std.proofs.Common.{◌≡◌, ◌+◌, ◌-◌, ◌*◌, ◌^◌, ◌<◌, ◌≤◌, length, get_or, ap, ◌∙◌, arith, rules}
-use Rattle.loading.specs.Along.{scattered}
+use Rattle.std.proofs.Common.{◌≡◌, ◌+◌, ◌*◌, ◌^◌, ◌<◌, length, get_or, ap, ◌∙◌, arith, rules}
 use Rattle.loading.specs.Laws.Scattered.{scatter-none, scatter-skips, scatter-adds, link-below, link-within, sum_fits, length-scattered}
 use Rattle.loading.proofs.adding.add_volumes.Goals as goal
 use Rattle.loading.proofs.adding.add_volumes.Goals.{After-index-i, then-l, else-l}
@@ -44,7 +43,7 @@ loop-j-preserved c =
     let inside = c.loop-j-test.true in (
       search rules,
       elim c.if-l.branch [
-        then-l w ↦ w.row-is ∙ scatter-adds given inside c.loop-j.invariant.1 w.index-i.ensures w.if-l.true w.weighted.ensures
+        | then-l w ↦ w.row-is ∙ scatter-adds given inside c.loop-j.invariant.1 w.index-i.ensures w.if-l.true w.weighted.ensures
         | else-l w ↦ w.row-is ∙ scatter-skips given inside c.loop-j.invariant.1 w.if-l.false
       ],
     )

@@ -1,6 +1,5 @@
 -- `send_waiting` meets its contract. The invariant: the nodes below `k` were asked to send. The measure is what is left of the nodes.
-use Rattle.std.proofs.Common.{◌≡◌, ◌-◌, ◌≤◌, inl, inr, arith, rules}
-use Rattle.loading.specs.Sending.{SentBelow}
+use Rattle.std.proofs.Common.{◌≡◌, inl, inr, arith, rules}
 use Rattle.loading.specs.Laws.Sending.{movable, below_none, below-skips, below-sends}
 use Rattle.loading.proofs.sending.send_waiting.Goals as goal
 use Rattle.loading.proofs.sending.send_waiting.Goals.{then-waiting-k-ne0+then-l, then-waiting-k-ne0+else-l, else-waiting-k-ne0}
@@ -20,7 +19,7 @@ loop-k-preserved c =
     let inside = c.loop-k-test.true in
     let sent = c.loop-k.invariant.1 in
     elim c.if-waiting-k-ne0.branch [
-      then-waiting-k-ne0+then-l w ↦ (
+      | then-waiting-k-ne0+then-l w ↦ (
         search rules,
         rw (w.waiting-is, w.volumes-is, w.count-is, w.send.ensures.trips, w.send.ensures.volume) (below-sends sent c.requires.followable inside w.if-waiting-k-ne0.true w.if-l.true w.head_of.ensures),
         omega arith,
