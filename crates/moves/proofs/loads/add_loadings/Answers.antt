@@ -71,4 +71,4 @@ shape_of-table c = rows-length c.requires c.loop-k.invariant.0 c.loop-k.invarian
 pub returns : goal.returns
 returns c =
     let all : c.loop-k.k ≡ c.args.p = omega arith in
-    rw all c c.loop-k.invariant.1
+    rw all at c.loop-k.invariant.1

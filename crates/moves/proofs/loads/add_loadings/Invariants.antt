@@ -10,7 +10,7 @@ use Rattle.theory.specs.Laws.Parts.{row-most}
 use Rattle.moves.proofs.loads.add_loadings.Given as goal
 
 abbrev pub invariant-loop-k : goal.invariant-loop-k
-invariant-loop-k l = (l.k ≤ l.p) × (l.table ≡ added_rows (l.k * l.m) l.weight (volume_rows l.n l.m l.p l.next l.volumes) l.initial.table)
+invariant-loop-k l = (l.k ≤ l.p) × (l.table ≡ added_rows (l.k * l.m) l.weight (volume_rows l.nodes l.m l.p l.next l.volumes) l.initial.table)
 
 abbrev pub decreases-loop-k : goal.decreases-loop-k
 decreases-loop-k l = l.p - l.k

@@ -80,4 +80,4 @@ shape_of-volumes c = c.loop-k.invariant.1.size
 pub returns : goal.returns
 returns c =
     let all : c.loop-k.k ≡ length c.args.commodities.now = omega arith in
-    loaded-all (rw all c c.loop-k.invariant.1)
+    loaded-all (rw all at c.loop-k.invariant.1)

@@ -77,7 +77,7 @@ pub returns-then-not-follow_row : goal.returns-then-not-follow_row
 returns-then-not-follow_row c =
     record {
       answer = sym
-          (note-refused c.requires.0 c.loop-k-test.taken
+          (note-refused c.requires.0 c.loop-k-test.true
           (sym c.follow_row.ensures.answer ∙ c.if-not-follow_row.true));
       rows = λ e. true-false e refl;
     }
@@ -87,8 +87,8 @@ loop-k-preserved c =
     let all-readable = c.requires.0 in
     let yes = c.if-not-follow_row.false in (
       search rules,
-      note-more all-readable c.loop-k-test.taken c.loop-k.inv.1 (sym c.follow_row.ensures.answer ∙ yes),
-      rows_more all-readable c.loop-k-test.taken c.loop-k.inv.2 (c.follow_row.ensures.links yes),
+      note-more all-readable c.loop-k-test.true c.loop-k.invariant.1 (sym c.follow_row.ensures.answer ∙ yes),
+      rows_more all-readable c.loop-k-test.true c.loop-k.invariant.2 (c.follow_row.ensures.links yes),
       c.follow_row.ensures.size,
       search rules,
     )
@@ -99,4 +99,4 @@ shape_of-next c = c.loop-k.invariant.4
 pub returns : goal.returns
 returns c =
     let all : c.loop-k.k ≡ length c.args.commodities.now = omega (arith, c.loop-k.invariant.0) in
-    record { answer = sym (rw all c c.loop-k.invariant.1); rows = λ e. rw all c c.loop-k.invariant.2 }
+    record { answer = sym (rw all at c.loop-k.invariant.1); rows = λ e. rw all at c.loop-k.invariant.2 }

@@ -29,7 +29,7 @@ trace-requires c =
 
 pub returns-then-not-trace : goal.returns-then-not-trace
 returns-then-not-trace c =
-    let none = sym c.trace.ensures.answer ∙ c.if-not-trace.true in record { answer = sym (row-refused c.requires.0 _ c.loop-j-test.taken c.if-trips-j-ne0.true none); size = c.trace.ensures.size; links = λ e. true-false e refl }
+    let none = sym c.trace.ensures.answer ∙ c.if-not-trace.true in record { answer = sym (row-refused c.requires.0 _ c.loop-j-test.true c.if-trips-j-ne0.true none); size = c.trace.ensures.size; links = λ e. true-false e refl }
 
 pub loop-j-preserved : goal.loop-j-preserved
 loop-j-preserved c =
@@ -55,4 +55,4 @@ loop-j-preserved c =
 pub returns : goal.returns
 returns c =
     let all : c.loop-j.j ≡ c.args.nodes = omega (arith, c.loop-j.invariant.0) in
-    record { answer = sym (rw all c c.loop-j.invariant.1); size = c.loop-j.invariant.3.size; links = λ e. rw all c c.loop-j.invariant.2 }
+    record { answer = sym (rw all at c.loop-j.invariant.1); size = c.loop-j.invariant.3.size; links = λ e. rw all at c.loop-j.invariant.2 }

@@ -23,14 +23,14 @@ loop-l-init c = tracing-none c.requires.0 c.requires.1 c.requires.2 c.requires.3
 node : (c : At-loop-l) → c.loop-l.j < 128
 node c = omega (arith, c.loop-l.invariant.walking.node, c.requires.0.few-nodes)
 
-readable : (c : In-loop-l) → let x = (c).args in Readable x.nodes x.links.now x.commodity x.note.now x.first
-readable c = (c).pre.0
+readable : (c : In-loop-l) → let x = c.args in Readable x.nodes x.links.now x.commodity x.note.now x.first
+readable c = c.requires.0
 
-unsettled : (c : In-loop-l) → is_settled c.loop-l.next (node_of (c).args.commodity) c.loop-l.j ≡ false
+unsettled : (c : In-loop-l) → is_settled c.loop-l.next (node_of c.args.commodity) c.loop-l.j ≡ false
 unsettled c = sym c.is_settled.ensures ∙ c.loop-l-test.true
 
-away : (c : In-loop-l) → c.loop-l.j ≢ node_of (c).args.commodity
-away c = (unsettled-both c.loop-l.next (node_of (c).args.commodity) c.loop-l.j (unsettled c)).0
+away : (c : In-loop-l) → c.loop-l.j ≢ node_of c.args.commodity
+away c = (unsettled-both c.loop-l.next (node_of c.args.commodity) c.loop-l.j (unsettled c)).0
 
 pub is_settled-requires : goal.is_settled-requires
 is_settled-requires c = node (goal.at.is_settled-requires c).At-loop-l
@@ -42,7 +42,7 @@ pub offset_bounds-note-first : goal.offset_bounds-note-first
 offset_bounds-note-first c = omega (arith, node (goal.at.offset_bounds-note-first c).At-loop-l, (readable (goal.at.offset_bounds-note-first c).In-loop-l).few-numbers)
 
 pub bounds-note-first : goal.bounds-note-first
-bounds-note-first c = omega (arith, c.loop-l.inv.walking.node, (readable (goal.at.bounds-note-first c).In-loop-l).has-links)
+bounds-note-first c = omega (arith, c.loop-l.invariant.walking.node, (readable (goal.at.bounds-note-first c).In-loop-l).has-links)
 
 pub returns-then-steps-nodes : goal.returns-then-steps-nodes
 returns-then-steps-nodes c =
@@ -70,7 +70,7 @@ bounds-origin-j c = node (c)
 
 below : (c : After-index) → c.index.result < length (given (c)).args.links.now
 below c =
-    omega (arith, c.index.ensures, link-below (readable c.before.before.before.before.before.before.before) c.loop-l.inv (unsettled c.before.before.before.before.before.before.before) refl (sym c.may_follow.ensures ∙ c.if-not-may_follow.false))
+    omega (arith, c.index.ensures, link-below (readable c.before.before.before.before.before.before.before) c.loop-l.invariant (unsettled c.before.before.before.before.before.before.before) refl (sym c.may_follow.ensures ∙ c.if-not-may_follow.false))
 
 pub offset_bounds-links-index : goal.offset_bounds-links-index
 offset_bounds-links-index c = omega (arith, below (goal.at.offset_bounds-links-index c).After-index, (readable (goal.at.offset_bounds-links-index c).In-loop-l).few-links)
@@ -79,7 +79,7 @@ pub bounds-links-index : goal.bounds-links-index
 bounds-links-index c = below (goal.at.bounds-links-index c).After-index
 
 pub overflow_add-steps : goal.overflow_add-steps
-overflow_add-steps c = omega (arith, c.loop-l.inv.walking.few, (readable (goal.at.overflow_add-steps c).In-loop-l).few-nodes)
+overflow_add-steps c = omega (arith, c.loop-l.invariant.walking.few, (readable (goal.at.overflow_add-steps c).In-loop-l).few-nodes)
 
 pub loop-l-smaller : goal.loop-l-smaller
 loop-l-smaller c =
@@ -87,16 +87,16 @@ loop-l-smaller c =
 
 pub loop-l-preserved : goal.loop-l-preserved
 loop-l-preserved c =
-    tracing-on (readable (goal.at.loop-l-preserved c).In-loop-l) c.loop-l.inv (unsettled (goal.at.loop-l-preserved c).In-loop-l) refl (sym c.may_follow.ensures ∙ c.if-not-may_follow.false)
+    tracing-on (readable (goal.at.loop-l-preserved c).In-loop-l) c.loop-l.invariant (unsettled (goal.at.loop-l-preserved c).In-loop-l) refl (sym c.may_follow.ensures ∙ c.if-not-may_follow.false)
     c.index.ensures c.index-j.ensures c.if-steps-nodes.false
 
-settled : (c : After-loop-l) → is_settled c.loop-l.next (node_of (c).args.commodity) c.loop-l.j ≡ true
+settled : (c : After-loop-l) → is_settled c.loop-l.next (node_of c.args.commodity) c.loop-l.j ≡ true
 settled c = sym c.is_settled.ensures ∙ c.loop-l-test.false
 
 pub returns-then-j-node_of : goal.returns-then-j-node_of
 returns-then-j-node_of c =
     let r = c.requires.0 in
-    let home = c.if-j-node_of.true ∙ c.node_of.ensures in record { answer = sym (home-leads r c.loop-l.inv (settled (goal.at.returns-then-j-node_of c).After-loop-l) home); written = λ e. home-traced r c.loop-l.inv (settled (goal.at.returns-then-j-node_of c).After-loop-l) home; size = c.loop-l.inv.origins.size }
+    let home = c.if-j-node_of.true ∙ c.node_of.ensures in record { answer = sym (home-leads r c.loop-l.invariant (settled (goal.at.returns-then-j-node_of c).After-loop-l) home); written = λ e. home-traced r c.loop-l.invariant (settled (goal.at.returns-then-j-node_of c).After-loop-l) home; size = c.loop-l.invariant.origins.size }
 
 pub offset_bounds-origin-j-2 : goal.offset_bounds-origin-j-2
 offset_bounds-origin-j-2 c = omega (arith, node (goal.at.offset_bounds-origin-j-2 c).At-loop-l)
@@ -108,7 +108,7 @@ pub returns : goal.returns
 returns c =
     let from = c.args.from in
     let r = c.requires.0 in
-    let inv = c.loop-l.inv in
+    let inv = c.loop-l.invariant in
     let off : c.loop-l.j ≢ node_of c.args.commodity = λ e. c.if-j-node_of.false (e ∙ sym c.node_of.ensures) in
     on-equal
     c.index-2.result

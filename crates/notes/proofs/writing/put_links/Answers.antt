@@ -30,4 +30,4 @@ shape_of-note c = note-long c.args.note.now c.args.j c.loop-k.invariant.1
 pub returns : goal.returns
 returns c =
     let all : c.loop-k.k ≡ c.args.p = omega arith in
-    links-written c.requires.0 _ _ c.requires.1 (rw all c c.loop-k.invariant.1)
+    links-written c.requires.0 _ _ c.requires.1 (rw all at c.loop-k.invariant.1)
