@@ -1,15 +1,13 @@
 -- `add_classes` meets its contract: the cars' loading is added to the table, and the lorries' to its part behind.
 use Prim.Native.Nat.{ℕ, ◌+◌, ◌*◌, ◌-◌, ◌≤◌}
-use mathlib.Core.Path.{◌≡◌, sym, ◌∙◌, ap, subst}
+use mathlib.Core.List.{List}
+use mathlib.Core.Path.{◌≡◌, ◌∙◌, ap}
 use native.Mathlib.Nat.{mul-le-mul}
 use native.Mathlib.Omega.{arith}
-use borrow.Author.Rules.{rules}
 use lib.ListN.{length}
 use Rattle.moves.specs.Loading.{volume_rows, added_rows, Addable}
 use Rattle.moves.specs.Laws.Classes.{cars-addable, middle-within, lorries-addable, classes-added}
-use Rattle.theory.specs.Laws.Parts.{replaced}
 use Rattle.moves.proofs.loads.add_classes.Goals as goal
-use mathlib.Core.List.{List}
 
 -- The commodities are those of the cars and those of the lorries.
 module _ {n m p : ℕ} {nexts volumes : List (List ℕ)} {weight : ℕ} {table : List ℕ} (w : Addable n m p nexts volumes weight table)

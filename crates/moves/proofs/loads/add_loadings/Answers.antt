@@ -1,10 +1,9 @@
 -- `add_loadings` meets its contract. The invariant: the rows before `k` have their loading. The measure is what is left of the rows.
-use Prim.Native.Nat.{◌+◌, ◌*◌, ◌-◌, ◌≤◌, ◌<◌}
+use Prim.Native.Nat.{◌+◌, ◌*◌, ◌≤◌, ◌<◌}
 use mathlib.Core.Path.{◌≡◌}
 use native.Mathlib.Omega.{arith}
 use borrow.Author.Rules.{rules}
 use lib.ListN.{length}
-use Rattle.moves.specs.Loading.{volume_rows, added_rows}
 use Rattle.moves.specs.Laws.Loading.{rows_none, rows-length, rows-within, row-scatterable, rows_more}
 use Rattle.theory.specs.Laws.Parts.{row-most}
 use Rattle.moves.proofs.loads.add_loadings.Goals as goal

@@ -1,7 +1,6 @@
 -- `move_table` meets its contract: it adds, or doubles, or does not move.
 use native.Mathlib.Nat.{mul-le-mul}
 use native.Mathlib.Omega.{arith}
-use borrow.Author.Rules.{rules}
 use Rattle.moves.specs.Laws.Moves.{movable-adds, movable-doubles, moved-adds, moved-doubles, moved-rests}
 use Rattle.moves.proofs.moves.move_table.Goals as goal
 
