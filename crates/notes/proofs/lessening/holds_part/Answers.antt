@@ -12,7 +12,7 @@ use Rattle.theory.specs.Finite.{all}
 use Rattle.moves.specs.Loading.{volume_rows}
 use Rattle.notes.specs.Laws.Lessened.{row_holds, all_hold, table-within, row-long, small-end, row-scatterable, idle-holds, one-more-holds, one-fails}
 use Rattle.notes.proofs.lessening.holds_part.Goals as goal
-use Rattle.notes.proofs.lessening.holds_part.Goals.{After-put_part, Else-any_trips-ne0}
+use Rattle.notes.proofs.lessening.holds_part.Goals.{After-put_part, then-any_trips-ne0+else-count_less-ne0, else-any_trips-ne0}
 
 pub loop-k-init : goal.loop-k-init
 unfolding all
@@ -28,10 +28,6 @@ within c =
     let given = c.requires in
     let inside = c.loop-k-test.true in
     (table-within given inside, small-end given inside)
-
--- Where no trips leave any node of the commodity, its volumes are 0.
-idle : (c : Else-any_trips-ne0) → ZeroBelow 128 (get_or c.args.volumes.now c.loop-k.k [])
-idle c i h = c.any_trips.ensures c.if-any_trips-ne0.false i (omega (arith, c.any-trips-arg2.given))
 
 pub put_part-requires : goal.put_part-requires
 put_part-requires c = row-scatterable c.requires c.loop-k-test.true
@@ -66,13 +62,15 @@ loop-k-preserved c =
     let inside = c.loop-k-test.true in
     let before = c.loop-k.invariant.1 in (
       search rules,
-      ⊎_elim
-          (λ w. one-more-holds given inside w.4.ensures w.7.ensures before w.8.left)
-          (λ w. idle-holds given inside (idle record { before = c; if1 = w.0 }) before)
-          c.if-any_trips-ne0.branch,
+      elim c.if-any_trips-ne0.branch [
+        then-any_trips-ne0+else-count_less-ne0 w ↦ one-more-holds given inside w.put_part.ensures w.count_less.ensures before w.if-count_less-ne0.false
+        | else-any_trips-ne0 w ↦
+          -- Where no trips leave any node of the commodity, its volumes are 0.
+          idle-holds given inside (λ i h. c.any_trips.ensures w.if-any_trips-ne0.false i (omega arith)) before
+      ],
     )
 
 pub returns : goal.returns
 returns c =
     let all-rows : c.loop-k.k ≡ c.args.p = omega arith in
-    all_hold c.requires (rw all-rows c c.loop-k.invariant.1)
+    all_hold c.requires (rw all-rows at c.loop-k.invariant.1)

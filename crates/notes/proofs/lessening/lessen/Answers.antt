@@ -10,7 +10,7 @@ use Rattle.loading.specs.Sending.{ZeroBelow}
 use Rattle.moves.specs.Loading.{volume_rows, front}
 use Rattle.notes.specs.Laws.Lessened.{less_at, none-lessened, lessened-long, small-end, now-within, length-row, row-scatterable, row-lessenable, idle-lessened, one-more-lessened}
 use Rattle.notes.proofs.lessening.lessen.Goals as goal
-use Rattle.notes.proofs.lessening.lessen.Goals.{After-put_part, Else-any_trips-ne0}
+use Rattle.notes.proofs.lessening.lessen.Goals.{After-put_part, then-any_trips-ne0, else-any_trips-ne0}
 
 pub loop-k-init : goal.loop-k-init
 loop-k-init c = (search rules, none-lessened _ _ _)
@@ -22,13 +22,9 @@ within :
     let at = c.loop-k in
     (at.k * m + m ≤ length at.table) × (at.k * m + m ≤ 32768)
 within c =
-    let given = c.requires.0 in
+    let given = c.requires.lessenable in
     let inside = c.loop-k-test.true in
     (now-within given inside c.loop-k.invariant.1, small-end given inside)
-
--- Where no trips leave any node of the commodity, its volumes are 0.
-idle : (c : Else-any_trips-ne0) → ZeroBelow 128 (get_or c.args.volumes.now c.loop-k.k [])
-idle c i h = c.any_trips.ensures c.if-any_trips-ne0.false i (omega (arith, c.any-trips-arg2.given))
 
 pub put_part-requires : goal.put_part-requires
 put_part-requires c = row-scatterable c.requires.lessenable c.loop-k-test.true
@@ -53,7 +49,7 @@ lessen_row-requires c =
     let given = c.requires in
     let inside = c.loop-k-test.true in
     let so_far = c.loop-k.invariant.1 in
-    (given.0.few-links, omega (arith, length-row given.0 inside so_far), row-lessenable given.0 inside c.put_part.ensures so_far given.1)
+    (given.lessenable.few-links, omega (arith, length-row given.lessenable inside so_far), row-lessenable given.lessenable inside c.put_part.ensures so_far given.by_index)
 
 pub loop-k-preserved : goal.loop-k-preserved
 loop-k-preserved c =
@@ -61,10 +57,12 @@ loop-k-preserved c =
     let inside = c.loop-k-test.true in
     let before = c.loop-k.invariant.1 in (
       search rules,
-      ⊎_elim
-          (λ w. w.10 ∙ one-more-lessened given inside w.4.ensures before w.7.ensures)
-          (λ w. w.1 ∙ idle-lessened given inside (idle record { before = c; if1 = w.0 }) before)
-          c.if-any_trips-ne0.branch,
+      elim c.if-any_trips-ne0.branch [
+        then-any_trips-ne0 w ↦ w.table-is ∙ one-more-lessened given inside w.put_part.ensures before w.lessen_row.ensures
+        | else-any_trips-ne0 w ↦
+          -- Where no trips leave any node of the commodity, its volumes are 0.
+          w.table-is ∙ idle-lessened given inside (λ i h. c.any_trips.ensures w.if-any_trips-ne0.false i (omega arith)) before
+      ],
     )
 
 pub shape_of-table : goal.shape_of-table

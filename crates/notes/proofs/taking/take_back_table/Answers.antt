@@ -45,7 +45,7 @@ leads :
     (c : After-follow_note) →
     let x = c.args in
     note_leads (network x.nodes x.links.now x.commodities.now x.trips.now) x.note.now ≡ c.follow_note.result
-leads c = leads-is c.requires.takeable (some-step c.before.before) ∙ sym c.follow_note.ensures.answer
+leads c = leads-is c.requires.takeable (λ e. c.if-j-eq0.false (c.wide-j.ensures.0 ∙ e)) ∙ sym c.follow_note.ensures.answer
 
 pub returns-then-not-follow_note : goal.returns-then-not-follow_note
 returns-then-not-follow_note c =
