@@ -1,15 +1,8 @@
 -- `notes::following::follow_row` meets its contract. The invariant: the note leads from the nodes below `j` that have trips, and their links are
 -- written, with the nodes from which their ways set out. The measure is what is left of the nodes.
-use Prim.Native.Nat.{◌-◌, ◌≤◌, ◌<◌}
 use native.Mathlib.Omega.{arith}
 use mathlib.Core.Path.{◌≡◌, refl, sym, ◌∙◌}
-use mathlib.Core.Bool.{true, false}
-use mathlib.Core.Logic.{⊎_elim}
-use borrow.Author.Rules.{rules}
-use borrow.Author.Tests.{not-true, not-false}
-use lib.ListN.{length, get_or}
 use Rattle.theory.specs.Laws.Cases.{true-false}
-use Rattle.notes.specs.Followed.{row_leads, Followed, Origins}
 use Rattle.notes.specs.Laws.Followed.{row-none, row-skip, row-lead, row-refused, followed-none, followed-skip, followed-lead, origins-none, origins-skip}
 use Rattle.notes.proofs.following.follow_row.Goals as goal
 use Rattle.notes.proofs.following.follow_row.Goals.{then-trips-j-ne0+else-not-trace, else-trips-j-ne0}
@@ -36,15 +29,15 @@ pub loop-j-preserved : goal.loop-j-preserved
 loop-j-preserved c =
     let r = c.requires.0 in
     elim c.if-trips-j-ne0.branch [
-      then-trips-j-ne0+else-not-trace w ↦
-        let leads = w.if-not-trace.false in
-        let traced = w.trace.ensures.written leads in
-        rw (w.next-is, w.origin-is) (
-          omega (arith, c.loop-j-test.true),
-          row-lead r _ _ c.loop-j.invariant.1 (sym w.trace.ensures.answer ∙ leads),
-          followed-lead r _ c.loop-j.invariant.2 traced,
-          traced.origins,
-        )
+      | then-trips-j-ne0+else-not-trace w ↦
+          let leads = w.if-not-trace.false in
+          let traced = w.trace.ensures.written leads in
+          rw (w.next-is, w.origin-is) (
+            omega (arith, c.loop-j-test.true),
+            row-lead r _ _ c.loop-j.invariant.1 (sym w.trace.ensures.answer ∙ leads),
+            followed-lead r _ c.loop-j.invariant.2 traced,
+            traced.origins,
+          )
       | else-trips-j-ne0 w ↦ rw (w.next-is, w.origin-is) (
         omega (arith, c.loop-j-test.true),
         row-skip r _ _ c.loop-j.invariant.1 w.if-trips-j-ne0.false,

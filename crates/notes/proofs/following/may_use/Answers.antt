@@ -1,9 +1,7 @@
 -- `notes::following::may_use` meets its contract.
-use borrow.Author.Rules.{rules}
-use mathlib.Core.Path.{◌≡◌, refl, sym, ◌∙◌}
+use mathlib.Core.Path.{◌≡◌, sym, ◌∙◌}
 use mathlib.Core.Bool.{false}
 use mathlib.Core.List.{[], ◌∷◌}
-use mathlib.Core.Logic.{⊎_elim}
 use borrow.Author.Tests.{eq-eqb, ne_eqb}
 use Rattle.theory.specs.Study.{of_lorries, barred_to}
 use Rattle.theory.specs.Laws.Permission.{may-barred, cars-not-barred}
@@ -20,7 +18,7 @@ on : (c : Joined-else-of_lorries) → let x = c.args in barred_to (x.link ∷ []
 on c =
     let are = c.of_lorries.ensures in
     elim c.else-of_lorries.branch [
-      else-of_lorries-via-then-of_lorries+else-link-eq1 w ↦ barred-on _ _ (sym are ∙ w.if-of_lorries.true) (ne_eqb _ _ w.if-link-eq1.false)
+      | else-of_lorries-via-then-of_lorries+else-link-eq1 w ↦ barred-on _ _ (sym are ∙ w.if-of_lorries.true) (ne_eqb _ _ w.if-link-eq1.false)
       | else-of_lorries-via-else-of_lorries w ↦ cars-not-barred _ _ _ (sym are ∙ w.if-of_lorries.false)
     ]
 

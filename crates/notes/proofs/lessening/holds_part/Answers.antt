@@ -1,16 +1,11 @@
 -- `holds_part` meets its contract. The invariant: the rows before `k` hold their part of the loading. The measure is what is left of the rows.
-use Prim.Native.Nat.{◌+◌, ◌*◌, ◌-◌, ◌≤◌}
+use Prim.Native.Nat.{◌+◌, ◌*◌, ◌≤◌}
 use mathlib.Core.Path.{◌≡◌, refl}
-use mathlib.Core.Bool.{true}
 use native.Mathlib.Omega.{arith}
 use borrow.Author.Rules.{rules}
-use mathlib.Core.List.{[]}
-use mathlib.Core.Logic.{⊎_elim}
-use lib.ListN.{length, get_or}
-use Rattle.loading.specs.Sending.{ZeroBelow}
+use lib.ListN.{length}
 use Rattle.theory.specs.Finite.{all}
-use Rattle.moves.specs.Loading.{volume_rows}
-use Rattle.notes.specs.Laws.Lessened.{row_holds, all_hold, table-within, row-long, small-end, row-scatterable, idle-holds, one-more-holds, one-fails}
+use Rattle.notes.specs.Laws.Lessened.{all_hold, table-within, row-long, small-end, row-scatterable, idle-holds, one-more-holds, one-fails}
 use Rattle.notes.proofs.lessening.holds_part.Goals as goal
 use Rattle.notes.proofs.lessening.holds_part.Goals.{After-put_part, then-any_trips-ne0+else-count_less-ne0, else-any_trips-ne0}
 
@@ -63,10 +58,10 @@ loop-k-preserved c =
     let before = c.loop-k.invariant.1 in (
       search rules,
       elim c.if-any_trips-ne0.branch [
-        then-any_trips-ne0+else-count_less-ne0 w ↦ one-more-holds given inside w.put_part.ensures w.count_less.ensures before w.if-count_less-ne0.false
+        | then-any_trips-ne0+else-count_less-ne0 w ↦ one-more-holds given inside w.put_part.ensures w.count_less.ensures before w.if-count_less-ne0.false
         | else-any_trips-ne0 w ↦
-          -- Where no trips leave any node of the commodity, its volumes are 0.
-          idle-holds given inside (λ i h. c.any_trips.ensures w.if-any_trips-ne0.false i (omega arith)) before
+            -- Where no trips leave any node of the commodity, its volumes are 0.
+            idle-holds given inside (λ i h. c.any_trips.ensures w.if-any_trips-ne0.false i (omega arith)) before
       ],
     )
 

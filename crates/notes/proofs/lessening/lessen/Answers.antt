@@ -1,14 +1,10 @@
 -- `lessen` meets its contract. The invariant: the rows before `k` are lessened. The measure is what is left of the rows.
-use Prim.Native.Nat.{◌+◌, ◌*◌, ◌-◌, ◌≤◌}
+use Prim.Native.Nat.{◌+◌, ◌*◌, ◌≤◌}
 use mathlib.Core.Path.{◌≡◌, ◌∙◌}
 use native.Mathlib.Omega.{arith}
 use borrow.Author.Rules.{rules}
-use mathlib.Core.List.{[]}
-use mathlib.Core.Logic.{⊎_elim}
-use lib.ListN.{length, get_or}
-use Rattle.loading.specs.Sending.{ZeroBelow}
-use Rattle.moves.specs.Loading.{volume_rows, front}
-use Rattle.notes.specs.Laws.Lessened.{less_at, none-lessened, lessened-long, small-end, now-within, length-row, row-scatterable, row-lessenable, idle-lessened, one-more-lessened}
+use lib.ListN.{length}
+use Rattle.notes.specs.Laws.Lessened.{none-lessened, lessened-long, small-end, now-within, length-row, row-scatterable, row-lessenable, idle-lessened, one-more-lessened}
 use Rattle.notes.proofs.lessening.lessen.Goals as goal
 use Rattle.notes.proofs.lessening.lessen.Goals.{After-put_part, then-any_trips-ne0, else-any_trips-ne0}
 
@@ -58,10 +54,10 @@ loop-k-preserved c =
     let before = c.loop-k.invariant.1 in (
       search rules,
       elim c.if-any_trips-ne0.branch [
-        then-any_trips-ne0 w ↦ w.table-is ∙ one-more-lessened given inside w.put_part.ensures before w.lessen_row.ensures
+        | then-any_trips-ne0 w ↦ w.table-is ∙ one-more-lessened given inside w.put_part.ensures before w.lessen_row.ensures
         | else-any_trips-ne0 w ↦
-          -- Where no trips leave any node of the commodity, its volumes are 0.
-          w.table-is ∙ idle-lessened given inside (λ i h. c.any_trips.ensures w.if-any_trips-ne0.false i (omega arith)) before
+            -- Where no trips leave any node of the commodity, its volumes are 0.
+            w.table-is ∙ idle-lessened given inside (λ i h. c.any_trips.ensures w.if-any_trips-ne0.false i (omega arith)) before
       ],
     )
 

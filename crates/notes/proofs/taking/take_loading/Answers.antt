@@ -1,13 +1,9 @@
 -- `notes::taking::take_loading` meets its contract.
 use Prim.Native.Nat.{◌*◌}
 use native.Mathlib.Omega.{arith}
-use mathlib.Core.Path.{◌≡◌, refl, sym, ◌∙◌, ap}
-use mathlib.Core.List.{List}
-use lib.Dec.{leb}
-use lib.ListN.{length, get_or}
-use borrow.Author.Rules.{rules}
-use borrow.Author.Tests.{not-true, not-false, leb-true}
-use Rattle.theory.specs.Finite.{all}
+use mathlib.Core.Path.{sym, ◌∙◌}
+use lib.ListN.{length}
+use borrow.Author.Tests.{leb-true}
 use Rattle.theory.specs.Laws.Finite.{all-elim}
 use Rattle.notes.specs.Laws.Taken.{tested-refused, tested-taken, lessenable}
 use Rattle.notes.proofs.taking.take_loading.Goals as goal
