@@ -1,9 +1,8 @@
 -- `add_volumes` meets its contract. The invariant: the volumes of the nodes below `j` are added. The measure is what is left of the nodes.
-use Rattle.std.proofs.Common.{◌≡◌, ◌+◌, ◌-◌, ◌*◌, ◌^◌, ◌<◌, ◌≤◌, length, get_or, ap, ◌∙◌, ⊎_elim, arith, rules}
-use Rattle.loading.specs.Along.{scattered}
+use Rattle.std.proofs.Common.{◌≡◌, ◌+◌, ◌*◌, ◌^◌, ◌<◌, length, get_or, ap, ◌∙◌, arith, rules}
 use Rattle.loading.specs.Laws.Scattered.{scatter-none, scatter-skips, scatter-adds, link-below, link-within, sum_fits, length-scattered}
 use Rattle.loading.proofs.adding.add_volumes.Goals as goal
-use Rattle.loading.proofs.adding.add_volumes.Goals.{After-index-i}
+use Rattle.loading.proofs.adding.add_volumes.Goals.{After-index-i, then-l, else-l}
 
 pub loop-j-init : goal.loop-j-init
 loop-j-init c = (search rules, scatter-none c.requires)
@@ -39,13 +38,14 @@ pub bounds-row-i-then-l : goal.bounds-row-i-then-l
 bounds-row-i-then-l c = (at-link (goal.at.bounds-row-i-then-l c).After-index-i).0
 
 pub loop-j-preserved : goal.loop-j-preserved
-loop-j-preserved c = let given = c.requires in
+loop-j-preserved c =
+    let given = c.requires in
     let inside = c.loop-j-test.true in (
       search rules,
-      ⊎_elim
-          (λ w. w.5 ∙ scatter-adds given inside c.loop-j.invariant.1 w.1.ensures w.0.taken w.3.ensures)
-          (λ w. w.1 ∙ scatter-skips given inside c.loop-j.invariant.1 w.0.left)
-          c.if-l.branch,
+      elim c.if-l.branch [
+        | then-l w ↦ w.row-is ∙ scatter-adds given inside c.loop-j.invariant.1 w.index-i.ensures w.if-l.true w.weighted.ensures
+        | else-l w ↦ w.row-is ∙ scatter-skips given inside c.loop-j.invariant.1 w.if-l.false
+      ],
     )
 
 pub shape_of-row : goal.shape_of-row

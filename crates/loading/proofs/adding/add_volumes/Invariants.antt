@@ -1,7 +1,6 @@
 -- `add_volumes` meets its contract. The invariant: the volumes of the nodes below `j` are added. The measure is what is left of the nodes.
-use Rattle.std.proofs.Common.{◌≡◌, ◌+◌, ◌-◌, ◌*◌, ◌^◌, ◌<◌, ◌≤◌, length, get_or, ap, ◌∙◌, ⊎_elim, arith, rules}
+use Rattle.std.proofs.Common.{◌≡◌, ◌-◌, ◌≤◌}
 use Rattle.loading.specs.Along.{scattered}
-use Rattle.loading.specs.Laws.Scattered.{scatter-none, scatter-skips, scatter-adds, link-below, link-within, sum_fits, length-scattered}
 use Rattle.loading.proofs.adding.add_volumes.Given as goal
 
 abbrev pub invariant-loop-j : goal.invariant-loop-j

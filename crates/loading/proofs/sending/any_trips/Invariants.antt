@@ -1,8 +1,7 @@
 -- `any_trips` meets its contract. The loop's invariant: if all bits so far are 0, so are the first `i` numbers. The measure is what is
 -- left of the numbers.
-use Rattle.std.proofs.Common.{◌≡◌, ◌-◌, ◌≤◌, length, arith, rules}
+use Rattle.std.proofs.Common.{◌≡◌, ◌-◌, ◌≤◌, length}
 use Rattle.loading.specs.Sending.{ZeroBelow}
-use Rattle.loading.specs.Laws.Sending.{zero_more}
 use Rattle.loading.proofs.sending.any_trips.Given as goal
 
 abbrev pub invariant-loop-i : goal.invariant-loop-i

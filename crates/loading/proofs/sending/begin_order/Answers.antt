@@ -1,6 +1,5 @@
 -- `begin_order` meets its contract. The invariant: what stands in the order are nodes. The measure is what is left of the nodes.
-use Rattle.std.proofs.Common.{◌-◌, ◌≤◌, arith, rules}
-use Rattle.loading.specs.Sending.{Nodes}
+use Rattle.std.proofs.Common.{arith, rules}
 use Rattle.loading.specs.Laws.Sending.{nodes-set}
 use Rattle.loading.proofs.sending.begin_order.Goals as goal
 

@@ -1,7 +1,6 @@
 -- `begin_order` meets its contract. The invariant: what stands in the order are nodes. The measure is what is left of the nodes.
-use Rattle.std.proofs.Common.{◌-◌, ◌≤◌, arith, rules}
+use Rattle.std.proofs.Common.{◌-◌, ◌≤◌}
 use Rattle.loading.specs.Sending.{Nodes}
-use Rattle.loading.specs.Laws.Sending.{nodes-set}
 use Rattle.loading.proofs.sending.begin_order.Given as goal
 
 abbrev pub invariant-loop-i : goal.invariant-loop-i

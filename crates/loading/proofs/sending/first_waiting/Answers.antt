@@ -1,15 +1,12 @@
 -- `first_waiting` meets its contract. The invariant: the trips of the nodes below `j` are written. The measure is what is left of the trips.
-use Rattle.std.proofs.Common.{◌≡◌, ◌-◌, ◌≤◌, length, arith, rules}
-use Rattle.loading.specs.Sending.{OwnBelow, all_zero}
+use Rattle.std.proofs.Common.{◌≡◌, length, arith, rules}
+use Rattle.loading.specs.Sending.{all_zero}
 use Rattle.loading.specs.Laws.Sending.{own-none, own-more}
 use Rattle.loading.proofs.sending.first_waiting.Goals as goal
 
 pub loop-j-init : goal.loop-j-init
 unfolding all_zero
 loop-j-init c = (search rules, own-none _)
-
-pub overflow_cast-waiting : goal.overflow_cast-waiting
-overflow_cast-waiting c = omega (arith, c.shared_slice_known-1.given c.loop-j.j)
 
 pub loop-j-preserved : goal.loop-j-preserved
 loop-j-preserved c = (search rules, own-more c.loop-j.invariant.1 (omega arith))

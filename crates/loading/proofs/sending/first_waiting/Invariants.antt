@@ -1,7 +1,6 @@
 -- `first_waiting` meets its contract. The invariant: the trips of the nodes below `j` are written. The measure is what is left of the trips.
-use Rattle.std.proofs.Common.{◌≡◌, ◌-◌, ◌≤◌, length, arith, rules}
-use Rattle.loading.specs.Sending.{OwnBelow, all_zero}
-use Rattle.loading.specs.Laws.Sending.{own-none, own-more}
+use Rattle.std.proofs.Common.{◌-◌, ◌≤◌, length}
+use Rattle.loading.specs.Sending.{OwnBelow}
 use Rattle.loading.proofs.sending.first_waiting.Given as goal
 
 abbrev pub invariant-loop-j : goal.invariant-loop-j

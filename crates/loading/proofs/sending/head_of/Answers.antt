@@ -1,5 +1,5 @@
 -- `head_of` meets its contract.
-use Rattle.std.proofs.Common.{ap, ◌∙◌, rules}
+use Rattle.std.proofs.Common.{ap, ◌∙◌}
 use Rattle.theory.specs.Study.{head}
 use Rattle.loading.proofs.sending.head_of.Goals as goal
 

@@ -1,5 +1,5 @@
 -- `head_or_none` meets its contract.
-use Rattle.std.proofs.Common.{refl, ap, rules}
+use Rattle.std.proofs.Common.{refl, ap}
 use Rattle.theory.specs.Study.{head}
 use Rattle.loading.proofs.sending.head_or_none.Goals as goal
 

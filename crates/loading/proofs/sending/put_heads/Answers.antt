@@ -1,7 +1,6 @@
 -- `put_heads` meets its contract. The invariant: the heads of the next links of the nodes below `j` are written. The measure is what is left of
 -- the nodes.
-use Rattle.std.proofs.Common.{◌≡◌, ◌-◌, ◌<◌, ◌≤◌, arith, rules}
-use Rattle.loading.specs.Sending.{Heads}
+use Rattle.std.proofs.Common.{◌≡◌, ◌<◌, arith, rules}
 use Rattle.loading.specs.Laws.Leaves.{head_few}
 use Rattle.loading.specs.Laws.Sending.{heads-none, heads-more}
 use Rattle.loading.proofs.sending.put_heads.Goals as goal

@@ -1,9 +1,7 @@
 -- `put_heads` meets its contract. The invariant: the heads of the next links of the nodes below `j` are written. The measure is what is left of
 -- the nodes.
-use Rattle.std.proofs.Common.{◌≡◌, ◌-◌, ◌<◌, ◌≤◌, arith, rules}
+use Rattle.std.proofs.Common.{◌-◌, ◌≤◌}
 use Rattle.loading.specs.Sending.{Heads}
-use Rattle.loading.specs.Laws.Leaves.{head_few}
-use Rattle.loading.specs.Laws.Sending.{heads-none, heads-more}
 use Rattle.loading.proofs.sending.put_heads.Given as goal
 
 abbrev pub invariant-loop-j : goal.invariant-loop-j

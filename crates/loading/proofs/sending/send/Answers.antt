@@ -1,5 +1,5 @@
 -- `send` meets its contract.
-use Rattle.std.proofs.Common.{refl, rules}
+use Rattle.std.proofs.Common.{refl}
 use Rattle.loading.specs.Sending.{waiting_after, volumes_after}
 use Rattle.loading.proofs.sending.send.Goals as goal
 

@@ -1,8 +1,8 @@
 -- `send_in_order` meets its contract. The invariant: what stands in the order are nodes, at most 128, and none where there is no node; and no
 -- node's final volume has changed; and the heads are at hand. The measure is what is left of the order's 128 places.
-use Rattle.std.proofs.Common.{◌≡◌, ◌-◌, ◌*◌, ◌<◌, ◌≤◌, get_or, refl, ◌∙◌, arith, rules}
+use Rattle.std.proofs.Common.{◌≡◌, ◌<◌, get_or, refl, ◌∙◌, arith}
 use Rattle.theory.specs.Study.{head, no_link}
-use Rattle.loading.specs.Sending.{all_zero, Sent, Heads, Nodes}
+use Rattle.loading.specs.Sending.{all_zero}
 use Rattle.loading.specs.Laws.Leaves.{head-below, head_few}
 use Rattle.loading.specs.Laws.Sending.{nodes-begin, movable, sent-none, sent-more}
 use Rattle.loading.proofs.sending.send_in_order.Goals as goal
@@ -33,7 +33,9 @@ head_at : (c : After-index-i) →
     let l = get_or c.args.next.now c.index-k.result 0 in
     (l ≡ no_link → ⊥) × (c.index-i.result ≡ head c.args.links.now l)
 head_at c =
-    let is = c.loop-turn.invariant.4.head_at c.index-k.result (node_at c.before.before) c.if-h-ne-NO_HEAD.true in
+    let below : c.index-k.result < c.args.nodes =
+    omega (arith, c.index-k.ensures, c.loop-turn.invariant.2.node c.loop-turn.turn (omega arith) (omega arith)) in
+    let is = c.loop-turn.invariant.4.head_at c.index-k.result below c.if-h-ne-NO_HEAD.true in
     (is.0, c.index-i.ensures ∙ is.1)
 
 pub offset_bounds-heads-k : goal.offset_bounds-heads-k
@@ -58,7 +60,7 @@ loop-turn-preserved-then-h-ne-NO_HEAD c = let sent = c.send.ensures in
       c.join_order-joined.ensures.few,
       omega (arith, c.join_order-joined.ensures.few, node_at (goal.at.loop-turn-preserved-then-h-ne-NO_HEAD c).After-index-k),
       c.join_order-joined.ensures.nodes _ below c.loop-turn.invariant.2,
-      rw (sent.0, sent.1) (sent-more c.requires.followable c.loop-turn.invariant.3 (node_at (goal.at.loop-turn-preserved-then-h-ne-NO_HEAD c).After-index-k) (head_at (goal.at.loop-turn-preserved-then-h-ne-NO_HEAD c).After-index-i).0 (head_at (goal.at.loop-turn-preserved-then-h-ne-NO_HEAD c).After-index-i).1),
+      rw (sent.trips, sent.volume) (sent-more c.requires.followable c.loop-turn.invariant.3 (node_at (goal.at.loop-turn-preserved-then-h-ne-NO_HEAD c).After-index-k) (head_at (goal.at.loop-turn-preserved-then-h-ne-NO_HEAD c).After-index-i).0 (head_at (goal.at.loop-turn-preserved-then-h-ne-NO_HEAD c).After-index-i).1),
       c.loop-turn.invariant.4,
     )
 

@@ -1,10 +1,7 @@
 -- `send_in_order` meets its contract. The invariant: what stands in the order are nodes, at most 128, and none where there is no node; and no
 -- node's final volume has changed; and the heads are at hand. The measure is what is left of the order's 128 places.
-use Rattle.std.proofs.Common.{◌≡◌, ◌-◌, ◌*◌, ◌<◌, ◌≤◌, get_or, refl, ◌∙◌, arith, rules}
-use Rattle.theory.specs.Study.{head, no_link}
-use Rattle.loading.specs.Sending.{all_zero, Sent, Heads, Nodes}
-use Rattle.loading.specs.Laws.Leaves.{head-below, head_few}
-use Rattle.loading.specs.Laws.Sending.{nodes-begin, movable, sent-none, sent-more}
+use Rattle.std.proofs.Common.{◌-◌, ◌*◌, ◌≤◌}
+use Rattle.loading.specs.Sending.{Sent, Heads, Nodes}
 use Rattle.loading.proofs.sending.send_in_order.Given as goal
 
 abbrev pub invariant-loop-turn : goal.invariant-loop-turn

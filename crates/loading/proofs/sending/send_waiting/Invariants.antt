@@ -1,7 +1,6 @@
 -- `send_waiting` meets its contract. The invariant: the nodes below `k` were asked to send. The measure is what is left of the nodes.
-use Rattle.std.proofs.Common.{◌≡◌, ◌-◌, ◌≤◌, inl, inr, ⊎_elim, arith, rules}
+use Rattle.std.proofs.Common.{◌-◌, ◌≤◌}
 use Rattle.loading.specs.Sending.{SentBelow}
-use Rattle.loading.specs.Laws.Sending.{movable, below_none, below-skips, below-sends}
 use Rattle.loading.proofs.sending.send_waiting.Given as goal
 
 abbrev pub invariant-loop-k : goal.invariant-loop-k

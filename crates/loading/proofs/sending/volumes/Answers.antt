@@ -1,8 +1,7 @@
 -- `volumes` meets its contract. The loop's invariant: each node's final volume is what all trips make it. The measure is the links that the
 -- waiting trips have still to go by.
-use Rattle.std.proofs.Common.{◌≡◌, get_or, ◌∙◌, arith, rules}
-use Rattle.loading.specs.Along.{volumes_along}
-use Rattle.loading.specs.Sending.{all_zero, links_ahead, final_volumes, OwnBelow, Sending}
+use Rattle.std.proofs.Common.{◌∙◌, arith}
+use Rattle.loading.specs.Sending.{all_zero, OwnBelow}
 use Rattle.loading.specs.Laws.Sending.{final-begins, sending-begins, sending-ends, volumes-none}
 use Rattle.loading.proofs.sending.volumes.Goals as goal
 use Rattle.loading.proofs.sending.volumes.Goals.{After-first_waiting-waiting}
@@ -21,7 +20,7 @@ own c = rw c.requires.has-trips at c.first_waiting-waiting.ensures
 
 pub send_in_order-requires : goal.send_in_order-requires
 unfolding all_zero
-send_in_order-requires c = record { followable = c.requires.followable; sending = sending-begins c.requires (λ i. omega (arith, c.shared_slice_known-1.given i)) (own (goal.at.send_in_order-requires c).After-first_waiting-waiting) }
+send_in_order-requires c = record { followable = c.requires.followable; sending = sending-begins c.requires (λ i. omega (arith, c.type_inv.trips i)) (own (goal.at.send_in_order-requires c).After-first_waiting-waiting) }
 
 pub loop-waiting-init : goal.loop-waiting-init
 unfolding all_zero

@@ -1,9 +1,8 @@
 -- `volumes` meets its contract. The loop's invariant: each node's final volume is what all trips make it. The measure is the links that the
 -- waiting trips have still to go by.
-use Rattle.std.proofs.Common.{◌≡◌, get_or, ◌∙◌, arith, rules}
+use Rattle.std.proofs.Common.{◌≡◌, get_or}
 use Rattle.loading.specs.Along.{volumes_along}
-use Rattle.loading.specs.Sending.{all_zero, links_ahead, final_volumes, OwnBelow, Sending}
-use Rattle.loading.specs.Laws.Sending.{final-begins, sending-begins, sending-ends, volumes-none}
+use Rattle.loading.specs.Sending.{links_ahead, final_volumes, Sending}
 use Rattle.loading.proofs.sending.volumes.Given as goal
 
 abbrev pub invariant-loop-waiting : goal.invariant-loop-waiting

@@ -1,10 +1,9 @@
 -- `add_loadings` meets its contract. The invariant: the rows before `k` have their loading. The measure is what is left of the rows.
-use Prim.Native.Nat.{◌+◌, ◌*◌, ◌-◌, ◌≤◌, ◌<◌}
+use Prim.Native.Nat.{◌+◌, ◌*◌, ◌≤◌, ◌<◌}
 use mathlib.Core.Path.{◌≡◌}
 use native.Mathlib.Omega.{arith}
 use borrow.Author.Rules.{rules}
 use lib.ListN.{length}
-use Rattle.moves.specs.Loading.{volume_rows, added_rows}
 use Rattle.moves.specs.Laws.Loading.{rows_none, rows-length, rows-within, row-scatterable, rows_more}
 use Rattle.theory.specs.Laws.Parts.{row-most}
 use Rattle.moves.proofs.loads.add_loadings.Goals as goal
@@ -71,4 +70,4 @@ shape_of-table c = rows-length c.requires c.loop-k.invariant.0 c.loop-k.invarian
 pub returns : goal.returns
 returns c =
     let all : c.loop-k.k ≡ c.args.p = omega arith in
-    rw all c c.loop-k.invariant.1
+    rw all at c.loop-k.invariant.1

@@ -1,15 +1,12 @@
 -- `load` meets its contract. The invariant: the sums are the totals of the commodities before `k`, whose rows of volumes give their loading.
 -- The measure is what is left of the destinations.
-use Prim.Native.Nat.{◌+◌, ◌*◌, ◌-◌, ◌≤◌, ◌<◌}
+use Prim.Native.Nat.{◌+◌, ◌*◌, ◌≤◌, ◌<◌}
 use mathlib.Core.Path.{◌≡◌, sym, ◌∙◌, ap}
 use native.Mathlib.Omega.{arith}
 use borrow.Author.Rules.{rules}
 use lib.ListN.{length, set}
-use Rattle.theory.specs.Flows.{link_total}
-use Rattle.travel.specs.Links.{padded}
 use Rattle.travel.specs.Laws.Padded.{length-padded, padded-zeros}
 use Rattle.travel.specs.Laws.Totals.{link_total-none}
-use Rattle.moves.specs.Loading.{loading_along}
 use Rattle.loading.specs.Laws.Scattered.{over-is-flow}
 use Rattle.moves.specs.Laws.Loading.{trips-within, row-sendable, row-over, totals-scatterable, totals-more, totals-widened, LoadedRows, loaded-none, loaded-more, loaded-all}
 use Rattle.theory.specs.Laws.Parts.{row-most}
@@ -77,18 +74,18 @@ volumes-requires c = row-sendable c.requires.all_followable.0 c.loop-k-test.true
 loaded :
     (c : After-volumes) →
     let at = c.loop-k in
-    let x = (c).args in
-    LoadedRows x.nodes x.links.now (at.k + 1) x.trips.now x.next.now x.volumes.now (set at.volumes at.k c.volumes.new.1.1.1.1.0)
+    let x = c.args in
+    LoadedRows x.nodes x.links.now (at.k + 1) x.trips.now x.next.now x.volumes.now (set at.volumes at.k c.volumes.new.volumes)
 loaded c =
     let given = c.requires.all_followable.0 in
-    let inside = c.loop-k-test.taken in
-    loaded-more c.loop-k.inv.2 (has-volumes c.before.before.before) _
+    let inside = c.loop-k-test.true in
+    loaded-more c.loop-k.invariant.2 (omega (arith, c.requires.all_followable.1, inside)) _
     (row-over given inside _ (λ l b. over-is-flow (given.followable c.loop-k.k inside) _ c.volumes.ensures l))
 
 pub slice_bounds-add_volumes-end : goal.slice_bounds-add_volumes-end
 slice_bounds-add_volumes-end c =
     sym
-    (ap length c.loop-k.inv.1
+    (ap length c.loop-k.invariant.1
     ∙ length-padded (length c.args.links.now) _ c.requires.all_followable.0.few-links)
 
 pub offset_bounds-next-k-in-loop-k : goal.offset_bounds-next-k-in-loop-k
@@ -105,14 +102,14 @@ bounds-volumes-k-in-loop-k c = omega (arith, has-volumes (goal.at.bounds-volumes
 
 pub add_volumes-requires : goal.add_volumes-requires
 add_volumes-requires c =
-    totals-scatterable c.requires.all_followable.0 c.loop-k-test.taken _
-    (λ l b. (loaded (goal.at.add_volumes-requires c).After-volumes).over c.loop-k.k l (omega arith) b) c.loop-k.inv.1
+    totals-scatterable c.requires.all_followable.0 c.loop-k-test.true _
+    (λ l b. (loaded (goal.at.add_volumes-requires c).After-volumes).over c.loop-k.k l (omega arith) b) c.loop-k.invariant.1
 
 pub loop-k-preserved : goal.loop-k-preserved
 loop-k-preserved c = (
   search rules,
-  totals-more c.requires.all_followable.0 c.loop-k-test.taken _ (λ l b. (loaded (goal.at.loop-k-preserved c).After-volumes).over c.loop-k.k l (omega arith) b)
-      c.loop-k.inv.1 c.add_volumes.ensures,
+  totals-more c.requires.all_followable.0 c.loop-k-test.true _ (λ l b. (loaded (goal.at.loop-k-preserved c).After-volumes).over c.loop-k.k l (omega arith) b)
+      c.loop-k.invariant.1 c.add_volumes.ensures,
   loaded (goal.at.loop-k-preserved c).After-volumes,
 )
 
@@ -126,7 +123,7 @@ pub returns : goal.returns
 returns c =
     let all : c.loop-k.k ≡ length c.args.commodities.now = omega arith in record {
       loads_after = c.widened.ensures
-          ∙ totals-widened (length c.args.links.now) _ c.requires.all_followable.0.few-links (rw all c c.loop-k.invariant.1);
-      volumes_after = loaded-all (rw all c c.loop-k.invariant.2);
+          ∙ totals-widened (length c.args.links.now) _ c.requires.all_followable.0.few-links (rw all at c.loop-k.invariant.1);
+      volumes_after = loaded-all (rw all at c.loop-k.invariant.2);
       volumes_len_unchanged = c.loop-k.invariant.2.size;
     }

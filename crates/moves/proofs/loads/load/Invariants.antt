@@ -1,18 +1,12 @@
 -- `load` meets its contract. The invariant: the sums are the totals of the commodities before `k`, whose rows of volumes give their loading.
 -- The measure is what is left of the destinations.
-use Prim.Native.Nat.{◌+◌, ◌*◌, ◌-◌, ◌≤◌, ◌<◌}
-use mathlib.Core.Path.{◌≡◌, sym, ◌∙◌, ap}
-use native.Mathlib.Omega.{arith}
-use borrow.Author.Rules.{rules}
-use lib.ListN.{length, set}
+use Prim.Native.Nat.{◌-◌, ◌≤◌}
+use mathlib.Core.Path.{◌≡◌}
+use lib.ListN.{length}
 use Rattle.theory.specs.Flows.{link_total}
 use Rattle.travel.specs.Links.{padded}
-use Rattle.travel.specs.Laws.Padded.{length-padded, padded-zeros}
-use Rattle.travel.specs.Laws.Totals.{link_total-none}
 use Rattle.moves.specs.Loading.{loading_along}
-use Rattle.loading.specs.Laws.Scattered.{over-is-flow}
-use Rattle.moves.specs.Laws.Loading.{trips-within, row-sendable, row-over, totals-scatterable, totals-more, totals-widened, LoadedRows, loaded-none, loaded-more, loaded-all}
-use Rattle.theory.specs.Laws.Parts.{row-most}
+use Rattle.moves.specs.Laws.Loading.{LoadedRows}
 use Rattle.moves.proofs.loads.load.Given as goal
 
 abbrev pub invariant-loop-k : goal.invariant-loop-k

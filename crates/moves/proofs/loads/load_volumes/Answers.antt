@@ -1,12 +1,12 @@
 -- `load_volumes` meets its contract. The invariant: the rows of volumes of the commodities before `k` give their loading. The measure is what is
 -- left of the destinations.
-use Prim.Native.Nat.{◌+◌, ◌*◌, ◌-◌, ◌≤◌, ◌<◌}
+use Prim.Native.Nat.{◌+◌, ◌*◌, ◌≤◌, ◌<◌}
 use mathlib.Core.Path.{◌≡◌}
 use native.Mathlib.Omega.{arith}
 use borrow.Author.Rules.{rules}
 use lib.ListN.{length}
 use Rattle.loading.specs.Laws.Scattered.{over-is-flow}
-use Rattle.moves.specs.Laws.Loading.{trips-within, row-sendable, row-over, LoadedRows, loaded-none, loaded-more, loaded-all}
+use Rattle.moves.specs.Laws.Loading.{trips-within, row-sendable, row-over, loaded-none, loaded-more, loaded-all}
 use Rattle.theory.specs.Laws.Parts.{row-most}
 use Rattle.moves.proofs.loads.load_volumes.Goals as goal
 use Rattle.moves.proofs.loads.load_volumes.Goals.{In-loop-k}
@@ -80,4 +80,4 @@ shape_of-volumes c = c.loop-k.invariant.1.size
 pub returns : goal.returns
 returns c =
     let all : c.loop-k.k ≡ length c.args.commodities.now = omega arith in
-    loaded-all (rw all c c.loop-k.invariant.1)
+    loaded-all (rw all at c.loop-k.invariant.1)

@@ -1,13 +1,8 @@
 -- `load_volumes` meets its contract. The invariant: the rows of volumes of the commodities before `k` give their loading. The measure is what is
 -- left of the destinations.
-use Prim.Native.Nat.{◌+◌, ◌*◌, ◌-◌, ◌≤◌, ◌<◌}
-use mathlib.Core.Path.{◌≡◌}
-use native.Mathlib.Omega.{arith}
-use borrow.Author.Rules.{rules}
+use Prim.Native.Nat.{◌-◌, ◌≤◌}
 use lib.ListN.{length}
-use Rattle.loading.specs.Laws.Scattered.{over-is-flow}
-use Rattle.moves.specs.Laws.Loading.{trips-within, row-sendable, row-over, LoadedRows, loaded-none, loaded-more, loaded-all}
-use Rattle.theory.specs.Laws.Parts.{row-most}
+use Rattle.moves.specs.Laws.Loading.{LoadedRows}
 use Rattle.moves.proofs.loads.load_volumes.Given as goal
 
 abbrev pub invariant-loop-k : goal.invariant-loop-k

@@ -1,11 +1,8 @@
 -- `widened` meets its contract. The invariant: the first `l` numbers are written. The measure is what is left of the links.
 use Prim.Native.Nat.{◌-◌, ◌≤◌}
 use mathlib.Core.Path.{◌≡◌}
-use native.Mathlib.Omega.{arith}
-use borrow.Author.Rules.{rules}
 use lib.ListN.{get_or}
 use Rattle.moves.specs.Loading.{front}
-use Rattle.moves.specs.Laws.Front.{front-none, front-more, front-clear}
 use Rattle.moves.proofs.loads.widened.Given as goal
 
 abbrev pub invariant-loop-l : goal.invariant-loop-l

@@ -1,5 +1,4 @@
 -- `can_move` meets its contract.
-use borrow.Author.Rules.{rules}
 use Rattle.moves.specs.Laws.Moves.{can-add, can_double}
 use Rattle.moves.proofs.moves.can_move.Goals as goal
 

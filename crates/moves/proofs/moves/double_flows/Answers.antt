@@ -1,10 +1,9 @@
 -- `double_flows` meets its contract. The invariant: the first `i` numbers are doubled. The measure is what is left of the numbers.
-use Prim.Native.Nat.{◌*◌, ◌-◌, ◌≤◌}
+use Prim.Native.Nat.{◌*◌}
 use mathlib.Core.Path.{◌≡◌, ◌∙◌, ap}
 use native.Mathlib.Omega.{arith}
 use borrow.Author.Rules.{rules}
 use lib.ListN.{length, get_or}
-use Rattle.moves.specs.Loading.{front}
 use Rattle.moves.specs.Laws.Front.{front-none, front-more, front-past, length_front}
 use Rattle.moves.proofs.moves.double_flows.Goals as goal
 use Rattle.moves.proofs.moves.double_flows.Goals.{At-loop-i}

@@ -1,11 +1,7 @@
 -- `empty_flows` meets its contract. The invariant: the first `i` numbers are 0. The measure is what is left of the numbers.
 use Prim.Native.Nat.{◌-◌, ◌≤◌}
-use mathlib.Core.Path.{◌≡◌, refl, ◌∙◌, ap}
-use native.Mathlib.Omega.{arith}
-use borrow.Author.Rules.{rules}
-use lib.ListN.{length}
+use mathlib.Core.Path.{◌≡◌}
 use Rattle.moves.specs.Loading.{front}
-use Rattle.moves.specs.Laws.Front.{front-none, front-more, length_front}
 use Rattle.moves.proofs.moves.empty_flows.Given as goal
 
 abbrev pub invariant-loop-i : goal.invariant-loop-i

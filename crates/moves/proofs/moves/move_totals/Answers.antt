@@ -1,9 +1,8 @@
 -- `move_totals` meets its contract. The invariant of each loop: the first `l` totals are moved. The measure is what is left of the links.
-use Prim.Native.Nat.{◌-◌, ◌≤◌}
 use mathlib.Core.Path.{◌≡◌, refl}
 use native.Mathlib.Omega.{arith}
 use borrow.Author.Rules.{rules}
-use Rattle.moves.specs.Laws.Totals.{moved_to, moved_none, total-fits, load_fits, moved-adds, moved-doubles}
+use Rattle.moves.specs.Laws.Totals.{moved_none, total-fits, load_fits, moved-adds, moved-doubles}
 use Rattle.moves.proofs.moves.move_totals.Goals as goal
 
 pub loop-l-init : goal.loop-l-init
@@ -25,7 +24,7 @@ loop-l-preserved c = (search rules, moved-adds c.requires c.loop-l-test.true c.l
 
 pub returns-then-j-gt0 : goal.returns-then-j-gt0
 returns-then-j-gt0 c = let all : c.loop-l.l ≡ c.args.m = omega arith in
-    rw all c c.loop-l.invariant.1
+    rw all at c.loop-l.invariant.1
 
 pub loop-l-2-init : goal.loop-l-2-init
 loop-l-2-init c = (search rules, moved_none c.requires)
@@ -38,4 +37,4 @@ loop-l-2-preserved c = (search rules, moved-doubles c.requires c.loop-l-2-test.t
 
 pub returns : goal.returns
 returns c = let all : c.loop-l-2.l ≡ c.args.m = omega arith in
-    rw all c c.loop-l-2.invariant.1
+    rw all at c.loop-l-2.invariant.1

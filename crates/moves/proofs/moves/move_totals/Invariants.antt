@@ -1,9 +1,7 @@
 -- `move_totals` meets its contract. The invariant of each loop: the first `l` totals are moved. The measure is what is left of the links.
 use Prim.Native.Nat.{◌-◌, ◌≤◌}
-use mathlib.Core.Path.{◌≡◌, refl}
-use native.Mathlib.Omega.{arith}
-use borrow.Author.Rules.{rules}
-use Rattle.moves.specs.Laws.Totals.{moved_to, moved_none, total-fits, load_fits, moved-adds, moved-doubles}
+use mathlib.Core.Path.{◌≡◌}
+use Rattle.moves.specs.Laws.Totals.{moved_to}
 use Rattle.moves.proofs.moves.move_totals.Given as goal
 
 abbrev pub invariant-loop-l : goal.invariant-loop-l

@@ -1,15 +1,12 @@
 -- `notes::following::follow_note` meets its contract. The invariant: the note leads to the destinations of the commodities before `k`, and the rows
 -- of their links are written. The measure is what is left of the commodities.
-use Prim.Native.Nat.{ℕ, ◌+◌, ◌*◌, ◌-◌, ◌≤◌, ◌<◌}
+use Prim.Native.Nat.{ℕ, ◌+◌, ◌*◌, ◌≤◌, ◌<◌}
 use native.Mathlib.Omega.{arith}
 use mathlib.Core.Path.{◌≡◌, refl, sym, ◌∙◌}
-use mathlib.Core.Bool.{true}
 use borrow.Author.Rules.{rules}
-use borrow.Author.Tests.{not-true, not-false}
-use lib.ListN.{length, length-replicate, length-set}
+use lib.ListN.{length, length-replicate}
 use Rattle.theory.specs.Laws.Cases.{true-false}
 use Rattle.theory.specs.Laws.Parts.{length_part}
-use Rattle.notes.specs.Followed.{note_follows, AllFollowed}
 use Rattle.notes.specs.Laws.Followed.{note-none, rows_none, trips-within, row-readable, note-more, rows_more, note-refused}
 use Rattle.notes.proofs.following.follow_note.Goals as goal
 use Rattle.notes.proofs.following.follow_note.Goals.{In-loop-k}
@@ -77,7 +74,7 @@ pub returns-then-not-follow_row : goal.returns-then-not-follow_row
 returns-then-not-follow_row c =
     record {
       answer = sym
-          (note-refused c.requires.0 c.loop-k-test.taken
+          (note-refused c.requires.0 c.loop-k-test.true
           (sym c.follow_row.ensures.answer ∙ c.if-not-follow_row.true));
       rows = λ e. true-false e refl;
     }
@@ -87,8 +84,8 @@ loop-k-preserved c =
     let all-readable = c.requires.0 in
     let yes = c.if-not-follow_row.false in (
       search rules,
-      note-more all-readable c.loop-k-test.taken c.loop-k.inv.1 (sym c.follow_row.ensures.answer ∙ yes),
-      rows_more all-readable c.loop-k-test.taken c.loop-k.inv.2 (c.follow_row.ensures.links yes),
+      note-more all-readable c.loop-k-test.true c.loop-k.invariant.1 (sym c.follow_row.ensures.answer ∙ yes),
+      rows_more all-readable c.loop-k-test.true c.loop-k.invariant.2 (c.follow_row.ensures.links yes),
       c.follow_row.ensures.size,
       search rules,
     )
@@ -99,4 +96,4 @@ shape_of-next c = c.loop-k.invariant.4
 pub returns : goal.returns
 returns c =
     let all : c.loop-k.k ≡ length c.args.commodities.now = omega (arith, c.loop-k.invariant.0) in
-    record { answer = sym (rw all c c.loop-k.invariant.1); rows = λ e. rw all c c.loop-k.invariant.2 }
+    record { answer = sym (rw all at c.loop-k.invariant.1); rows = λ e. rw all at c.loop-k.invariant.2 }

@@ -1,16 +1,10 @@
 -- `notes::following::follow_row` meets its contract. The invariant: the note leads from the nodes below `j` that have trips, and their links are
 -- written, with the nodes from which their ways set out. The measure is what is left of the nodes.
-use Prim.Native.Nat.{◌-◌, ◌≤◌, ◌<◌}
-use native.Mathlib.Omega.{arith}
-use mathlib.Core.Path.{◌≡◌, refl, sym, ◌∙◌}
-use mathlib.Core.Bool.{true, false}
-use mathlib.Core.Logic.{⊎_elim}
-use borrow.Author.Rules.{rules}
-use borrow.Author.Tests.{not-true, not-false}
-use lib.ListN.{length, get_or}
-use Rattle.theory.specs.Laws.Cases.{true-false}
+use Prim.Native.Nat.{◌-◌, ◌≤◌}
+use mathlib.Core.Path.{◌≡◌}
+use mathlib.Core.Bool.{true}
+use lib.ListN.{get_or}
 use Rattle.notes.specs.Followed.{row_leads, Followed, Origins}
-use Rattle.notes.specs.Laws.Followed.{row-none, row-skip, row-lead, row-refused, followed-none, followed-skip, followed-lead, origins-none, origins-skip}
 use Rattle.notes.proofs.following.follow_row.Given as goal
 
 abbrev pub invariant-loop-j : goal.invariant-loop-j

@@ -1,6 +1,5 @@
 -- `notes::following::is_settled` meets its contract.
 use mathlib.Core.Path.{sym, ◌∙◌}
-use borrow.Author.Rules.{rules}
 use borrow.Author.Tests.{eq-eqb, ne_eqb}
 use native.Mathlib.Omega.{arith}
 use Rattle.notes.proofs.following.is_settled.Goals as goal

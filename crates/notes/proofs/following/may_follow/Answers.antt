@@ -1,6 +1,5 @@
 -- `notes::following::may_follow` meets its contract.
 use mathlib.Core.Path.{sym, ◌∙◌}
-use borrow.Author.Rules.{rules}
 use Rattle.notes.specs.Laws.Followed.{past-links, other-tail, own-link, row-may-use}
 use Rattle.notes.proofs.following.may_follow.Goals as goal
 

@@ -1,11 +1,10 @@
 -- `all_even` meets its contract. The invariant: the odd ones of the first `i` numbers are counted. The measure is what is left of the numbers.
-use Prim.Native.Nat.{◌-◌, ◌≤◌}
 use mathlib.Core.Path.{◌≡◌, refl, ◌∙◌, ap}
 use native.Mathlib.Omega.{arith}
 use borrow.Author.Rules.{rules}
 use lib.Dec.{eqb}
 use Rattle.theory.specs.Finite.{sum}
-use Rattle.notes.specs.Laws.Lessened.{sum-next, sum-none, odds, odds-most}
+use Rattle.notes.specs.Laws.Lessened.{sum-next, sum-none, odds-most}
 use Rattle.notes.proofs.lessening.all_even.Goals as goal
 
 pub loop-i-init : goal.loop-i-init

@@ -1,10 +1,8 @@
 -- `count_less` meets its contract. The invariant: those of the first `l` numbers that are less are counted. The measure is what is left of the
 -- numbers.
-use Prim.Native.Nat.{◌-◌, ◌≤◌}
 use mathlib.Core.Path.{◌≡◌}
 use native.Mathlib.Omega.{arith}
 use borrow.Author.Rules.{rules}
-use Rattle.notes.specs.Lessened.{less_in}
 use Rattle.notes.specs.Laws.Lessened.{less_none, less-next}
 use Rattle.notes.proofs.lessening.count_less.Goals as goal
 

@@ -2,10 +2,7 @@
 -- numbers.
 use Prim.Native.Nat.{◌-◌, ◌≤◌}
 use mathlib.Core.Path.{◌≡◌}
-use native.Mathlib.Omega.{arith}
-use borrow.Author.Rules.{rules}
 use Rattle.notes.specs.Lessened.{less_in}
-use Rattle.notes.specs.Laws.Lessened.{less_none, less-next}
 use Rattle.notes.proofs.lessening.count_less.Given as goal
 
 abbrev pub invariant-loop-l : goal.invariant-loop-l

@@ -1,12 +1,8 @@
 -- `halve` meets its contract. The invariant: the first `i` numbers are halved. The measure is what is left of the numbers.
 use Prim.Native.Nat.{◌-◌, ◌/◌, ◌≤◌}
-use mathlib.Core.Path.{◌≡◌, ap}
-use native.Mathlib.Omega.{arith}
-use borrow.Author.Rules.{rules}
-use lib.ListN.{length, get_or}
+use mathlib.Core.Path.{◌≡◌}
+use lib.ListN.{get_or}
 use Rattle.moves.specs.Loading.{front}
-use Rattle.moves.specs.Laws.Front.{front-none, front-more}
-use Rattle.notes.specs.Laws.Lessened.{so-far-long, next-own}
 use Rattle.notes.proofs.lessening.halve.Given as goal
 
 abbrev pub invariant-loop-i : goal.invariant-loop-i

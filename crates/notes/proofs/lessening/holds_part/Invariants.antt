@@ -1,16 +1,10 @@
 -- `holds_part` meets its contract. The invariant: the rows before `k` hold their part of the loading. The measure is what is left of the rows.
-use Prim.Native.Nat.{◌+◌, ◌*◌, ◌-◌, ◌≤◌}
-use mathlib.Core.Path.{◌≡◌, refl}
+use Prim.Native.Nat.{◌-◌, ◌≤◌}
+use mathlib.Core.Path.{◌≡◌}
 use mathlib.Core.Bool.{true}
-use native.Mathlib.Omega.{arith}
-use borrow.Author.Rules.{rules}
-use mathlib.Core.List.{[]}
-use mathlib.Core.Logic.{⊎_elim}
-use lib.ListN.{length, get_or}
-use Rattle.loading.specs.Sending.{ZeroBelow}
 use Rattle.theory.specs.Finite.{all}
 use Rattle.moves.specs.Loading.{volume_rows}
-use Rattle.notes.specs.Laws.Lessened.{row_holds, all_hold, table-within, row-long, small-end, row-scatterable, idle-holds, one-more-holds, one-fails}
+use Rattle.notes.specs.Laws.Lessened.{row_holds}
 use Rattle.notes.proofs.lessening.holds_part.Given as goal
 
 abbrev pub invariant-loop-k : goal.invariant-loop-k

@@ -1,16 +1,12 @@
 -- `lessen` meets its contract. The invariant: the rows before `k` are lessened. The measure is what is left of the rows.
-use Prim.Native.Nat.{◌+◌, ◌*◌, ◌-◌, ◌≤◌}
+use Prim.Native.Nat.{◌+◌, ◌*◌, ◌≤◌}
 use mathlib.Core.Path.{◌≡◌, ◌∙◌}
 use native.Mathlib.Omega.{arith}
 use borrow.Author.Rules.{rules}
-use mathlib.Core.List.{[]}
-use mathlib.Core.Logic.{⊎_elim}
-use lib.ListN.{length, get_or}
-use Rattle.loading.specs.Sending.{ZeroBelow}
-use Rattle.moves.specs.Loading.{volume_rows, front}
-use Rattle.notes.specs.Laws.Lessened.{less_at, none-lessened, lessened-long, small-end, now-within, length-row, row-scatterable, row-lessenable, idle-lessened, one-more-lessened}
+use lib.ListN.{length}
+use Rattle.notes.specs.Laws.Lessened.{none-lessened, lessened-long, small-end, now-within, length-row, row-scatterable, row-lessenable, idle-lessened, one-more-lessened}
 use Rattle.notes.proofs.lessening.lessen.Goals as goal
-use Rattle.notes.proofs.lessening.lessen.Goals.{After-put_part, Else-any_trips-ne0}
+use Rattle.notes.proofs.lessening.lessen.Goals.{After-put_part, then-any_trips-ne0, else-any_trips-ne0}
 
 pub loop-k-init : goal.loop-k-init
 loop-k-init c = (search rules, none-lessened _ _ _)
@@ -18,20 +14,16 @@ loop-k-init c = (search rules, none-lessened _ _ _)
 -- Its row is within the table, and small.
 within :
     (c : After-put_part) →
-    let m = (c).args.m in
+    let m = c.args.m in
     let at = c.loop-k in
     (at.k * m + m ≤ length at.table) × (at.k * m + m ≤ 32768)
 within c =
-    let given = (c).pre.0 in
+    let given = c.requires.lessenable in
     let inside = c.loop-k-test.true in
     (now-within given inside c.loop-k.invariant.1, small-end given inside)
 
--- Where no trips leave any node of the commodity, its volumes are 0.
-idle : (c : Else-any_trips-ne0) → ZeroBelow 128 (get_or (c).args.volumes.now c.loop-k.k [])
-idle c i h = c.any_trips.ensures c.if-any_trips-ne0.false i (omega (arith, c.any-trips-arg2.given))
-
 pub put_part-requires : goal.put_part-requires
-put_part-requires c = row-scatterable c.requires.lessenable c.loop-k-test.taken
+put_part-requires c = row-scatterable c.requires.lessenable c.loop-k-test.true
 
 pub overflow_mul-start : goal.overflow_mul-start
 overflow_mul-start c = omega (arith, within (goal.at.overflow_mul-start c).After-put_part)
@@ -50,21 +42,23 @@ slice_bounds-lessen_row-end c = omega (arith, within (goal.at.slice_bounds-lesse
 
 pub lessen_row-requires : goal.lessen_row-requires
 lessen_row-requires c =
-    let given = (c).pre in
+    let given = c.requires in
     let inside = c.loop-k-test.true in
     let so_far = c.loop-k.invariant.1 in
-    (given.0.few-links, omega (arith, length-row given.0 inside so_far), row-lessenable given.0 inside c.put_part.ensures so_far given.1)
+    (given.lessenable.few-links, omega (arith, length-row given.lessenable inside so_far), row-lessenable given.lessenable inside c.put_part.ensures so_far given.by_index)
 
 pub loop-k-preserved : goal.loop-k-preserved
 loop-k-preserved c =
     let given = c.requires.lessenable in
-    let inside = c.loop-k-test.taken in
-    let before = c.loop-k.inv.1 in (
+    let inside = c.loop-k-test.true in
+    let before = c.loop-k.invariant.1 in (
       search rules,
-      ⊎_elim
-          (λ w. w.10 ∙ one-more-lessened given inside w.4.ensures before w.7.ensures)
-          (λ w. w.1 ∙ idle-lessened given inside (idle record { before = c; if1 = w.0 }) before)
-          c.if-any_trips-ne0.branch,
+      elim c.if-any_trips-ne0.branch [
+        | then-any_trips-ne0 w ↦ w.table-is ∙ one-more-lessened given inside w.put_part.ensures before w.lessen_row.ensures
+        | else-any_trips-ne0 w ↦
+            -- Where no trips leave any node of the commodity, its volumes are 0.
+            w.table-is ∙ idle-lessened given inside (λ i h. c.any_trips.ensures w.if-any_trips-ne0.false i (omega arith)) before
+      ],
     )
 
 pub shape_of-table : goal.shape_of-table
@@ -73,4 +67,4 @@ shape_of-table c = lessened-long c.requires.lessenable c.loop-k.invariant.0 c.lo
 pub returns : goal.returns
 returns c =
     let all : c.loop-k.k ≡ c.args.p = omega arith in
-    rw all c c.loop-k.invariant.1
+    rw all at c.loop-k.invariant.1

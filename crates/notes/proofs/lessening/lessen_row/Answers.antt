@@ -1,10 +1,8 @@
 -- `lessen_row` meets its contract. The invariant: the first `l` numbers are lessened. The measure is what is left of the numbers.
-use Prim.Native.Nat.{◌-◌, ◌≤◌}
 use mathlib.Core.Path.{◌≡◌}
 use native.Mathlib.Omega.{arith}
 use borrow.Author.Rules.{rules}
 use lib.ListN.{length, get_or}
-use Rattle.moves.specs.Loading.{front}
 use Rattle.moves.specs.Laws.Front.{front-none, front-more}
 use Rattle.notes.specs.Laws.Lessened.{so-far-long, next-own}
 use Rattle.notes.proofs.lessening.lessen_row.Goals as goal

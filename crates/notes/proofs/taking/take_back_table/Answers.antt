@@ -2,12 +2,9 @@
 use Prim.Native.Nat.{◌*◌, ◌≤◌}
 use native.Mathlib.Nat.{mul-le-mul}
 use native.Mathlib.Omega.{arith}
-use mathlib.Core.Path.{◌≡◌, refl, sym, ◌∙◌, ap}
-use mathlib.Core.Bool.{true, false}
+use mathlib.Core.Path.{◌≡◌, sym, ◌∙◌}
 use mathlib.Core.Logic.{◌≢◌}
 use lib.ListN.{length}
-use borrow.Author.Rules.{rules}
-use borrow.Author.Tests.{not-true, not-false}
 use Rattle.theory.specs.Notes.{note_step, note_leads}
 use Rattle.theory.specs.Study.{network}
 use Rattle.notes.specs.Laws.Noted.{all-readable, leads-is, loading-is, followable-all}
@@ -45,7 +42,7 @@ leads :
     (c : After-follow_note) →
     let x = c.args in
     note_leads (network x.nodes x.links.now x.commodities.now x.trips.now) x.note.now ≡ c.follow_note.result
-leads c = leads-is c.requires.takeable (some-step c.before.before) ∙ sym c.follow_note.ensures.answer
+leads c = leads-is c.requires.takeable (λ e. c.if-j-eq0.false (c.wide-j.ensures.0 ∙ e)) ∙ sym c.follow_note.ensures.answer
 
 pub returns-then-not-follow_note : goal.returns-then-not-follow_note
 returns-then-not-follow_note c =

@@ -1,11 +1,8 @@
 -- `put_links` meets its contract. The invariant: the rows of the first `k` commodities stand behind the first number. The measure is what is
 -- left of the commodities.
-use Prim.Native.Nat.{◌-◌, ◌≤◌}
 use mathlib.Core.Path.{◌≡◌}
 use native.Mathlib.Omega.{arith}
 use borrow.Author.Rules.{rules}
-use Rattle.text.specs.Put.{Put}
-use Rattle.notes.specs.Written.{link_rows}
 use Rattle.notes.specs.Laws.Written.{note-long, links-none, links-more, links-room, links-written}
 use Rattle.notes.proofs.writing.put_links.Goals as goal
 
@@ -30,4 +27,4 @@ shape_of-note c = note-long c.args.note.now c.args.j c.loop-k.invariant.1
 pub returns : goal.returns
 returns c =
     let all : c.loop-k.k ≡ c.args.p = omega arith in
-    links-written c.requires.0 _ _ c.requires.1 (rw all c c.loop-k.invariant.1)
+    links-written c.requires.0 _ _ c.requires.1 (rw all at c.loop-k.invariant.1)

@@ -1,12 +1,8 @@
 -- `put_links` meets its contract. The invariant: the rows of the first `k` commodities stand behind the first number. The measure is what is
 -- left of the commodities.
 use Prim.Native.Nat.{◌-◌, ◌≤◌}
-use mathlib.Core.Path.{◌≡◌}
-use native.Mathlib.Omega.{arith}
-use borrow.Author.Rules.{rules}
 use Rattle.text.specs.Put.{Put}
 use Rattle.notes.specs.Written.{link_rows}
-use Rattle.notes.specs.Laws.Written.{note-long, links-none, links-more, links-room, links-written}
 use Rattle.notes.proofs.writing.put_links.Given as goal
 
 abbrev pub invariant-loop-k : goal.invariant-loop-k

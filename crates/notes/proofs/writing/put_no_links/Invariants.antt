@@ -1,13 +1,9 @@
 -- `put_no_links` meets its contract. The invariant: `i` marks for no link stand behind the first number. The measure is what is left of the
 -- count.
 use Prim.Native.Nat.{◌+◌, ◌-◌, ◌≤◌}
-use mathlib.Core.Path.{◌≡◌}
-use native.Mathlib.Omega.{arith}
-use borrow.Author.Rules.{rules}
-use lib.ListN.{length, replicate}
+use lib.ListN.{replicate}
 use Rattle.theory.specs.Study.{no_link}
 use Rattle.text.specs.Put.{Put}
-use Rattle.notes.specs.Laws.Written.{note-long, note-written, once_more}
 use Rattle.notes.proofs.writing.put_no_links.Given as goal
 
 abbrev pub invariant-loop-i : goal.invariant-loop-i

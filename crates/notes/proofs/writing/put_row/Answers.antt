@@ -1,10 +1,7 @@
 -- `put_row` meets its contract. The invariant: the next links of the first `j` nodes are put. The measure is what is left of the nodes.
-use Prim.Native.Nat.{◌+◌, ◌-◌, ◌≤◌}
 use mathlib.Core.Path.{◌≡◌}
 use native.Mathlib.Omega.{arith}
 use borrow.Author.Rules.{rules}
-use lib.ListN.{take}
-use Rattle.text.specs.Put.{Put}
 use Rattle.text.specs.Laws.Put as puts
 use Rattle.notes.proofs.writing.put_row.Goals as goal
 
