@@ -5,9 +5,9 @@ use mathlib.Core.List.{[]}
 use mathlib.Core.Path.{◌≡◌, ◌∙◌, ap}
 use lib.ListN.{get_or, set}
 use native.Mathlib.Omega.{arith}
-use Prim.Native.Nat.{◌+◌, ◌*◌, ◌≤◌, ◌-◌}
+use Prim.Native.Nat.{◌+◌, ◌*◌}
 use Rattle.calls.specs.Study.{as_mark}
-use Rattle.network.specs.Decoded.{Changed, barred_marked}
+use Rattle.network.specs.Decoded.{barred_marked}
 use Rattle.network.specs.Laws.Decoding.{changed-none, changed-more, still-markable, barred-none}
 use Rattle.network.proofs.decoding.mark_barred.Goals as goal
 

@@ -5,8 +5,8 @@ use mathlib.Core.List.{[]}
 use mathlib.Core.Path.{◌≡◌, ◌∙◌, ap}
 use lib.ListN.{get_or, set}
 use native.Mathlib.Omega.{arith}
-use Prim.Native.Nat.{◌+◌, ◌≤◌, ◌-◌}
-use Rattle.network.specs.Decoded.{Changed, closed_marked}
+use Prim.Native.Nat.{◌+◌}
+use Rattle.network.specs.Decoded.{closed_marked}
 use Rattle.network.specs.Laws.Decoding.{changed-none, changed-more, still-markable, closed_none}
 use Rattle.network.proofs.decoding.mark_closed.Goals as goal
 
