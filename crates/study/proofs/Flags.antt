@@ -1,7 +1,6 @@
 -- What the code's flags say of a definition's tests.
-use mathlib.Core.Bool.{Bool, true, false, ◌&&◌, not}
-use mathlib.Core.Path.{◌≡◌, refl, sym, ◌∙◌}
-use borrow.Author.Tests.{not-true, not-false}
+use mathlib.Core.Bool.{Bool, true, false, ◌&&◌}
+use mathlib.Core.Path.{◌≡◌, sym, ◌∙◌}
 
 -- Where the two ways of `a && b` meet, the flag is b if a held, and a itself if it did not.
 pub and_yes : (a b : Bool) {flag : Bool} → a ≡ true → flag ≡ b → flag ≡ a && b

@@ -1,7 +1,6 @@
 -- `listing::lines::put_answer_lines` meets its contract: its calls put the lines one behind the other.
 use Prim.Native.Nat.{◌≤◌}
 use native.Mathlib.Omega.{arith}
-use borrow.Author.Rules.{rules}
 use Rattle.text.specs.Laws.Put as puts
 use Rattle.listing.specs.Listing.{judged_word, share_word, gap_word, cost_word, over_word}
 use Rattle.listing.specs.Lines.{answer_lines}
@@ -50,4 +49,4 @@ returns c =
     }
 
 pub shape_of-out : goal.shape_of-out
-shape_of-out c = puts.same_length (returns c).0
+shape_of-out c = puts.same_length (returns c).put

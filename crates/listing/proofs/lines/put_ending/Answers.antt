@@ -6,19 +6,19 @@ use Rattle.listing.proofs.lines.put_ending.Goals as goal
 pub returns-in-Reached : goal.returns-in-Reached
 unfolding ending_word
 returns-in-Reached c =
-    record { put = rw c.enum_told-1.given.1 c.put_text.ensures; upper_bound = search rules }
+    record { put = rw c.in-Reached.is c.put_text.ensures; upper_bound = search rules }
 
 pub returns-in-Finest : goal.returns-in-Finest
 unfolding ending_word
 returns-in-Finest c =
-    record { put = rw c.enum_told-in-Finest-1.given.1 c.put_text-in-Finest.ensures; upper_bound = search rules }
+    record { put = rw c.in-Finest.is c.put_text-in-Finest.ensures; upper_bound = search rules }
 
 pub returns-in-Spent : goal.returns-in-Spent
 unfolding ending_word
 returns-in-Spent c =
-    record { put = rw c.enum_told-in-Spent-1.given.1 c.put_text-in-Spent.ensures; upper_bound = search rules }
+    record { put = rw c.in-Spent.is c.put_text-in-Spent.ensures; upper_bound = search rules }
 
 pub returns-in-Refused : goal.returns-in-Refused
 unfolding ending_word
 returns-in-Refused c =
-    record { put = rw c.enum_told-in-Refused-1.given.1 c.put_text-in-Refused.ensures; upper_bound = search rules }
+    record { put = rw c.in-Refused.is c.put_text-in-Refused.ensures; upper_bound = search rules }

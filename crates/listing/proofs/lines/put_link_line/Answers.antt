@@ -1,5 +1,4 @@
 -- `listing::lines::put_link_line` meets its contract: its seven calls put the parts of the line one behind the other.
-use borrow.Author.Rules.{rules}
 use native.Mathlib.Omega.{arith}
 use Prim.Native.Nat.{◌≤◌}
 use lib.ListN.{length}

@@ -2,9 +2,7 @@
 use borrow.Author.Rules.{rules}
 use native.Mathlib.Omega.{arith}
 use mathlib.Core.Path.{◌≡◌}
-use Prim.Native.Nat.{◌+◌, ◌*◌, ◌-◌, ◌≤◌}
 use Rattle.text.specs.Laws.Put as puts
-use Rattle.text.specs.Put.{Put}
 use Rattle.listing.specs.Lines.{link_lines}
 use Rattle.listing.proofs.lines.put_link_lines.Goals as goal
 

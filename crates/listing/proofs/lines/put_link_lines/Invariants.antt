@@ -1,9 +1,5 @@
 -- `listing::lines::put_link_lines` meets its contract. The loop's invariant: the lines of the links passed are put.
-use borrow.Author.Rules.{rules}
-use native.Mathlib.Omega.{arith}
-use mathlib.Core.Path.{◌≡◌}
 use Prim.Native.Nat.{◌+◌, ◌*◌, ◌-◌, ◌≤◌}
-use Rattle.text.specs.Laws.Put as puts
 use Rattle.text.specs.Put.{Put}
 use Rattle.listing.specs.Lines.{link_lines}
 use Rattle.listing.proofs.lines.put_link_lines.Given as goal

@@ -1,5 +1,4 @@
 -- `listing::lines::put_number_line` meets its contract: its four calls put the parts of the line one behind the other.
-use borrow.Author.Rules.{rules}
 use native.Mathlib.Omega.{arith}
 use Rattle.text.specs.Laws.Decimal as decimals
 use Rattle.text.specs.Laws.Put as puts

@@ -1,5 +1,4 @@
 -- `network::decode` meets its contract: the rows, the commodities and the trips of an accepted file are decoded one after the other.
-use borrow.Author.Rules.{rules}
 use mathlib.Core.Path.{◌≡◌, sym, ◌∙◌}
 use native.Mathlib.Omega.{arith}
 use Rattle.study.specs.Laws.{accepted, nodes-field, links-field, destinations-field}
@@ -29,7 +28,7 @@ destination_field-p-requires c = (accepted _ (opened (goal.at.destination_field-
 -- The counts of the file.
 counted : (c : After-destination_field-p) → Counts c.args.file.now c.node_field-n.result c.link_field-m.result c.destination_field-p.result
 counted c =
-    let open' = opened c.before.before.before in
+    let open' : refusal c.args.file.now ≡ 0 = sym c.refusal-refusal.ensures ∙ c.if-refusal-ne0.false in
     counts _ (c.node_field-n.ensures.0 ∙ sym (nodes-field _ open')) (c.link_field-m.ensures.0 ∙ sym (links-field _ open'))
     (c.destination_field-p.ensures.0 ∙ sym (destinations-field _ open'))
 

@@ -1,5 +1,4 @@
 -- `network::decoding::decode_commodities` meets its contract: the destinations for cars are read, and then those for lorries.
-use borrow.Author.Rules.{rules}
 use native.Mathlib.Omega.{arith}
 use Rattle.study.specs.Laws.{accepted}
 use Rattle.network.specs.Laws.Decoding.{lorries-most, destinations-there, commodities-held}

@@ -2,10 +2,9 @@
 use borrow.Author.Rules.{rules}
 use mathlib.Core.Path.{◌≡◌}
 use native.Mathlib.Omega.{arith}
-use Prim.Native.Nat.{◌≤◌, ◌-◌}
 use Rattle.study.specs.Fields.{destination}
 use Rattle.theory.specs.Finite.{tabulate}
-use Rattle.network.specs.Decoded.{Holds, nodes_in, HasDestinations}
+use Rattle.network.specs.Decoded.{nodes_in, HasDestinations}
 use Rattle.network.specs.Laws.Decoding.{holds-none, holds-next}
 use Rattle.network.proofs.decoding.decode_destinations.Goals as goal
 

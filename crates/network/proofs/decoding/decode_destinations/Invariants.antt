@@ -1,12 +1,6 @@
 -- `network::decode_destinations` meets its contract: the array holds the first k nodes.
-use borrow.Author.Rules.{rules}
-use mathlib.Core.Path.{◌≡◌}
-use native.Mathlib.Omega.{arith}
 use Prim.Native.Nat.{◌≤◌, ◌-◌}
-use Rattle.study.specs.Fields.{destination}
-use Rattle.theory.specs.Finite.{tabulate}
-use Rattle.network.specs.Decoded.{Holds, nodes_in, HasDestinations}
-use Rattle.network.specs.Laws.Decoding.{holds-none, holds-next}
+use Rattle.network.specs.Decoded.{Holds, nodes_in}
 use Rattle.network.proofs.decoding.decode_destinations.Given as goal
 
 abbrev pub invariant-loop-k : goal.invariant-loop-k

@@ -1,5 +1,4 @@
 -- `network::decoding::decode_entries` meets its contract: the lorries' trips fill a part that begins where the cars' end.
-use borrow.Author.Rules.{rules}
 use mathlib.Core.Path.{sym}
 use Prim.Native.Nat.{◌*◌}
 use lib.ListN.{length-take, length-drop}

@@ -2,13 +2,11 @@
 use borrow.Author.Rules.{rules}
 use mathlib.Core.List.{[]}
 use mathlib.Core.Path.{◌≡◌, refl, ◌∙◌, ap}
-use lib.ListN.{length}
 use native.Mathlib.Omega.{arith}
-use Prim.Native.Nat.{◌≤◌, ◌-◌}
 use Rattle.study.specs.Fields.{HasLink}
 use Rattle.calls.specs.Study.{as_byte, link_row}
 use Rattle.theory.specs.Finite.{tabulate}
-use Rattle.network.specs.Decoded.{Holds, link_rows_in, HasLinks}
+use Rattle.network.specs.Decoded.{link_rows_in, HasLinks}
 use Rattle.network.specs.Laws.Decoding.{holds-none, holds-next, row_read}
 use Rattle.network.proofs.decoding.decode_links.Goals as goal
 use Rattle.network.proofs.decoding.decode_links.Goals.{In-loop-l}

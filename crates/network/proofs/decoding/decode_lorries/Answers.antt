@@ -1,14 +1,14 @@
 -- `network::decoding::decode_lorries` meets its contract: the array holds the commodities of cars, and then the first k of lorries.
 use borrow.Author.Rules.{rules}
-use mathlib.Core.List.{◌++◌, append-nil}
+use mathlib.Core.List.{append-nil}
 use mathlib.Core.Path.{◌≡◌, ap}
 use native.Mathlib.Omega.{arith}
-use Prim.Native.Nat.{◌≤◌, ◌-◌, ◌+◌}
+use Prim.Native.Nat.{◌+◌}
 use Rattle.study.specs.Fields.{destination}
 use Rattle.theory.specs.Finite.{tabulate}
 use Rattle.theory.specs.Study.{lorries_to}
 use Rattle.theory.specs.Laws.Finite.{length-tabulate}
-use Rattle.network.specs.Decoded.{Holds, nodes_in, lorries_in, HasDestinations}
+use Rattle.network.specs.Decoded.{nodes_in, lorries_in, HasDestinations}
 use Rattle.network.specs.Laws.Decoding.{holds_after}
 use Rattle.network.proofs.decoding.decode_lorries.Goals as goal
 

@@ -1,5 +1,4 @@
 -- `network::decoding::decode_rows` meets its contract: the fields of the links are read, and their marks are joined to them.
-use borrow.Author.Rules.{rules}
 use mathlib.Core.List.{[]}
 use native.Mathlib.Omega.{arith}
 use Rattle.network.specs.Laws.Decoding.{links-there, rows-markable, closed-markable, rows-marked, rows-held}

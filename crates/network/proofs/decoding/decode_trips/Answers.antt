@@ -1,12 +1,10 @@
 -- `network::decode_trips` meets its contract: the entries before i are read.
 use borrow.Author.Rules.{rules}
 use mathlib.Core.Path.{◌≡◌, refl}
-use lib.ListN.{length}
 use native.Mathlib.Omega.{arith}
-use Prim.Native.Nat.{◌≤◌, ◌-◌}
 use Rattle.study.specs.Fields.{trips as trips_of}
 use Rattle.theory.specs.Finite.{tabulate}
-use Rattle.network.specs.Decoded.{Holds, entries_in, HasEntries}
+use Rattle.network.specs.Decoded.{entries_in, HasEntries}
 use Rattle.network.specs.Laws.Decoding.{holds-none, holds-next}
 use Rattle.network.proofs.decoding.decode_trips.Goals as goal
 

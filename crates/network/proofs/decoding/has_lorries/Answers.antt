@@ -1,7 +1,5 @@
 -- `has_lorries` meets its contract.
-use borrow.Author.Rules.{rules}
 use borrow.Author.Tests.{lt-ltb, le-ltb}
-use native.Mathlib.Omega.{arith}
 use Rattle.network.specs.Decoded.{has_lorries}
 use Rattle.network.proofs.decoding.has_lorries.Goals as goal
 

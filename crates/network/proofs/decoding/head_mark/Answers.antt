@@ -1,7 +1,6 @@
 -- `head_mark` meets its contract.
 use mathlib.Core.Path.{◌∙◌, ap}
 use Rattle.calls.specs.Study.{as_mark}
-use borrow.Author.Rules.{rules}
 use Rattle.network.proofs.decoding.head_mark.Goals as goal
 
 pub returns : goal.returns

@@ -5,9 +5,9 @@ use mathlib.Core.List.{[]}
 use mathlib.Core.Path.{◌≡◌, ◌∙◌, ap}
 use lib.ListN.{get_or, set}
 use native.Mathlib.Omega.{arith}
-use Prim.Native.Nat.{◌+◌, ◌*◌, ◌≤◌, ◌-◌}
+use Prim.Native.Nat.{◌+◌, ◌*◌}
 use Rattle.calls.specs.Study.{as_mark}
-use Rattle.network.specs.Decoded.{Changed, barred_marked}
+use Rattle.network.specs.Decoded.{barred_marked}
 use Rattle.network.specs.Laws.Decoding.{changed-none, changed-more, still-markable, barred-none}
 use Rattle.network.proofs.decoding.mark_barred.Goals as goal
 
@@ -17,17 +17,8 @@ returns-then-barred-eq0 c = barred-none _ _ _ c.if-barred-eq0.true
 pub loop-l-init : goal.loop-l-init
 loop-l-init c = (search rules, changed-none _ _)
 
-pub slice_copy_out-with_mark : goal.slice_copy_out-with_mark
-slice_copy_out-with_mark c = omega (arith, c.requires.0, c.loop-l.invariant.1.long)
-
-pub overflow_mul-mark : goal.overflow_mul-mark
-overflow_mul-mark c = omega (arith, c.mark.ensures.1)
-
 pub with_mark-requires : goal.with_mark-requires
 with_mark-requires c = (still-markable _ c.requires.1 c.loop-l.invariant.1 (omega arith), omega (arith, c.mark.ensures.1))
-
-pub bounds-links-l : goal.bounds-links-l
-bounds-links-l c = omega (arith, c.requires.0, c.loop-l.invariant.1.long)
 
 pub loop-l-preserved : goal.loop-l-preserved
 loop-l-preserved c =

@@ -1,14 +1,7 @@
 -- `network::decoding::mark_barred` meets its contract. The loop's invariant: the rows of the links below `l` have their marks. The measure is what
 -- is left of the links.
-use borrow.Author.Rules.{rules}
-use mathlib.Core.List.{[]}
-use mathlib.Core.Path.{◌≡◌, ◌∙◌, ap}
-use lib.ListN.{get_or, set}
-use native.Mathlib.Omega.{arith}
-use Prim.Native.Nat.{◌+◌, ◌*◌, ◌≤◌, ◌-◌}
-use Rattle.calls.specs.Study.{as_mark}
+use Prim.Native.Nat.{◌≤◌, ◌-◌}
 use Rattle.network.specs.Decoded.{Changed, barred_marked}
-use Rattle.network.specs.Laws.Decoding.{changed-none, changed-more, still-markable, barred-none}
 use Rattle.network.proofs.decoding.mark_barred.Given as goal
 
 abbrev pub invariant-loop-l : goal.invariant-loop-l

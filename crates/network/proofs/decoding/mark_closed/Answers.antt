@@ -5,8 +5,8 @@ use mathlib.Core.List.{[]}
 use mathlib.Core.Path.{◌≡◌, ◌∙◌, ap}
 use lib.ListN.{get_or, set}
 use native.Mathlib.Omega.{arith}
-use Prim.Native.Nat.{◌+◌, ◌≤◌, ◌-◌}
-use Rattle.network.specs.Decoded.{Changed, closed_marked}
+use Prim.Native.Nat.{◌+◌}
+use Rattle.network.specs.Decoded.{closed_marked}
 use Rattle.network.specs.Laws.Decoding.{changed-none, changed-more, still-markable, closed_none}
 use Rattle.network.proofs.decoding.mark_closed.Goals as goal
 
@@ -16,14 +16,8 @@ returns-then-closed-eq0 c = closed_none _ _ _ c.if-closed-eq0.true
 pub loop-l-init : goal.loop-l-init
 loop-l-init c = (search rules, changed-none _ _)
 
-pub slice_copy_out-row : goal.slice_copy_out-row
-slice_copy_out-row c = omega (arith, c.requires.0, c.loop-l.invariant.1.long)
-
 pub with_mark-requires : goal.with_mark-requires
 with_mark-requires c = (still-markable _ c.requires.1 c.loop-l.invariant.1 (omega arith), omega (arith, c.head_mark.ensures.1))
-
-pub bounds-links-l : goal.bounds-links-l
-bounds-links-l c = omega (arith, c.requires.0, c.loop-l.invariant.1.long)
 
 pub loop-l-preserved : goal.loop-l-preserved
 loop-l-preserved c =

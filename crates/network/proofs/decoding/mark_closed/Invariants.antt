@@ -1,13 +1,7 @@
 -- `network::decoding::mark_closed` meets its contract. The loop's invariant: the rows of the links below `l` have their marks. The measure is what
 -- is left of the links.
-use borrow.Author.Rules.{rules}
-use mathlib.Core.List.{[]}
-use mathlib.Core.Path.{◌≡◌, ◌∙◌, ap}
-use lib.ListN.{get_or, set}
-use native.Mathlib.Omega.{arith}
-use Prim.Native.Nat.{◌+◌, ◌≤◌, ◌-◌}
+use Prim.Native.Nat.{◌≤◌, ◌-◌}
 use Rattle.network.specs.Decoded.{Changed, closed_marked}
-use Rattle.network.specs.Laws.Decoding.{changed-none, changed-more, still-markable, closed_none}
 use Rattle.network.proofs.decoding.mark_closed.Given as goal
 
 abbrev pub invariant-loop-l : goal.invariant-loop-l

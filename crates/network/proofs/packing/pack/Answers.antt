@@ -1,19 +1,22 @@
 -- `network::pack` meets its contract: refused as by check, or with 17, and else packed.
 use borrow.Author.Rules.{rules}
-use lib.ListN.{length}
 use mathlib.Core.Path.{◌≡◌, sym, ◌∙◌}
 use native.Mathlib.Omega.{arith}
-use Prim.Native.Nat.{◌≤◌}
+use mathlib.Core.List.{List}
+use Prim.Native.Nat.{ℕ}
 use Rattle.study.specs.Laws.{accepted, nodes-field, links-field, destinations-field}
+use Rattle.study.specs.Header.{version}
 use Rattle.study.specs.Questions.{refusal}
+use Rattle.study.specs.Versions.{form_of}
 use Rattle.calls.specs.Calls.{check_number}
 use Rattle.calls.specs.Laws.Questions.{check-passed}
+use Rattle.calls.specs.Pack.{section_place}
 use Rattle.calls.specs.Questions.{packed_size}
 use Rattle.network.specs.Decoded.{Counts}
 use Rattle.network.specs.Laws.Decoding.{counts}
 use Rattle.network.specs.Laws.Packing.{end_is, pack-refused, pack-short, pack-written}
 use Rattle.network.proofs.packing.pack.Goals as goal
-use Rattle.network.proofs.packing.pack.Goals.{After-destination_field-p, After-packed_end, Else-output-packed_end, Else-refusal-ne0}
+use Rattle.network.proofs.packing.pack.Goals.{After-destination_field-p, Else-refusal-ne0}
 
 pub returns-then-refusal-ne0 : goal.returns-then-refusal-ne0
 returns-then-refusal-ne0 c = pack-refused _ _ c.check-refusal.ensures c.if-refusal-ne0.true
@@ -37,7 +40,7 @@ destination_field-p-requires c = (accepted _ (opened (goal.at.destination_field-
 
 counted : (c : After-destination_field-p) → Counts c.args.file.now c.node_field-n.result c.link_field-m.result c.destination_field-p.result
 counted c =
-    let open' = opened c.before.before.before in
+    let open' : refusal c.args.file.now ≡ 0 = (check-passed _ (sym c.check-refusal.ensures ∙ c.if-refusal-ne0.false)).described.opened in
     counts _ (c.node_field-n.ensures.0 ∙ sym (nodes-field _ open')) (c.link_field-m.ensures.0 ∙ sym (links-field _ open'))
     (c.destination_field-p.ensures.0 ∙ sym (destinations-field _ open'))
 
@@ -50,18 +53,21 @@ packed_end-requires c =
     (rw c.version.ensures (accepted _ (opened (goal.at.packed_end-requires c).Else-refusal-ne0)).version-known, (counts.nodes-most, counts.links-most, counts.destinations-most))
 
 -- The end of the packed study is its packed size.
-packed-at : (c : After-packed_end) → c.packed_end.result ≡ packed_size c.args.file.now
-packed-at c = rw (c.packed_end.ensures, c.version.ensures) (end_is (counted c.before.before))
+ends-at : {file : List ℕ} {v n m p end : ℕ} → Counts file n m p → v ≡ version file → end ≡ section_place v n m p (form_of v).sections → end ≡ packed_size file
+ends-at counts is-version is-end = rw (is-end, is-version) (end_is counts)
 
 pub returns-then-output-packed_end : goal.returns-then-output-packed_end
-returns-then-output-packed_end c = pack-short _ _ (passed (goal.at.returns-then-output-packed_end c).Else-refusal-ne0) (omega (arith, packed-at (goal.at.returns-then-output-packed_end c).After-packed_end))
-
--- The output is long enough.
-held : (c : Else-output-packed_end) → packed_size c.args.file.now ≤ length c.args.output.now
-held c = omega (arith, packed-at c.before)
+returns-then-output-packed_end c =
+    let at-size = ends-at (counted (goal.at.returns-then-output-packed_end c).After-destination_field-p) c.version.ensures c.packed_end.ensures in
+    pack-short _ _ (passed (goal.at.returns-then-output-packed_end c).Else-refusal-ne0) (omega (arith, at-size))
 
 pub write_study-requires : goal.write_study-requires
-write_study-requires c = record { counts = (counted (goal.at.write_study-requires c).After-destination_field-p, opened (goal.at.write_study-requires c).Else-refusal-ne0); file_in_bounds = held (goal.at.write_study-requires c).Else-output-packed_end }
+write_study-requires c =
+    let known = counted (goal.at.write_study-requires c).After-destination_field-p in
+    let at-size = ends-at known c.version.ensures c.packed_end.ensures in
+    record { counts = (known, opened (goal.at.write_study-requires c).Else-refusal-ne0); file_in_bounds = omega (arith, at-size) }
 
 pub returns : goal.returns
-returns c = pack-written _ _ (passed (goal.at.returns c).Else-refusal-ne0) (held (goal.at.returns c).Else-output-packed_end) c.write_study.ensures
+returns c =
+    let at-size = ends-at (counted (goal.at.returns c).After-destination_field-p) c.version.ensures c.packed_end.ensures in
+    pack-written _ _ (passed (goal.at.returns c).Else-refusal-ne0) (omega (arith, at-size)) c.write_study.ensures

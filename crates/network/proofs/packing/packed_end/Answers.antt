@@ -2,8 +2,6 @@
 use borrow.Author.Rules.{rules}
 use mathlib.Core.Path.{◌≡◌}
 use native.Mathlib.Omega.{arith}
-use Prim.Native.Nat.{◌≤◌, ◌-◌}
-use Rattle.calls.specs.Pack.{section_place}
 use Rattle.calls.specs.Laws.Pack.{place-first, place-more, place-most}
 use Rattle.network.proofs.packing.packed_end.Goals as goal
 

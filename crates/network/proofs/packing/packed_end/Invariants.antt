@@ -1,10 +1,7 @@
 -- `network::packing::packed_end` meets its contract: the place is where the next section begins.
-use borrow.Author.Rules.{rules}
 use mathlib.Core.Path.{◌≡◌}
-use native.Mathlib.Omega.{arith}
 use Prim.Native.Nat.{◌≤◌, ◌-◌}
 use Rattle.calls.specs.Pack.{section_place}
-use Rattle.calls.specs.Laws.Pack.{place-first, place-more, place-most}
 use Rattle.network.proofs.packing.packed_end.Given as goal
 
 abbrev pub invariant-loop-section : goal.invariant-loop-section

@@ -1,5 +1,4 @@
 -- `network::packing::section_size` meets its contract.
-use borrow.Author.Rules.{rules}
 use Rattle.calls.specs.Laws.Pack.{size-most}
 use Rattle.network.proofs.packing.section_size.Goals as goal
 

@@ -1,5 +1,4 @@
 -- `network::packing::write_counts` meets its contract: each count extends the bytes written.
-use borrow.Author.Rules.{rules}
 use mathlib.Core.List.{[], ◌++◌}
 use mathlib.Core.Path.{refl}
 use native.Mathlib.Omega.{arith}

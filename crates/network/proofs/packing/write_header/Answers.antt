@@ -1,5 +1,4 @@
 -- `network::packing::write_header` meets its contract: the pairs follow the counts.
-use borrow.Author.Rules.{rules}
 use Rattle.network.specs.Laws.Packing.{header-written}
 use Rattle.network.proofs.packing.write_header.Goals as goal
 

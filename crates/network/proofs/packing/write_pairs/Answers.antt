@@ -2,13 +2,11 @@
 use borrow.Author.Rules.{rules}
 use mathlib.Core.Path.{◌≡◌, refl, ◌∙◌, ap₂}
 use mathlib.Core.List.{◌++◌}
-use lib.ListN.{length}
 use native.Mathlib.Omega.{arith}
-use Prim.Native.Nat.{◌+◌, ◌*◌, ◌≤◌, ◌<◌, ◌-◌}
+use Prim.Native.Nat.{◌+◌, ◌*◌, ◌<◌}
 use Rattle.study.specs.Versions.{form_of}
-use Rattle.theory.specs.Finite.{rows}
-use Rattle.calls.specs.Pack.{bytes32, section_place}
-use Rattle.network.specs.Written.{written, pair_bytes}
+use Rattle.calls.specs.Pack.{bytes32}
+use Rattle.network.specs.Written.{pair_bytes}
 use Rattle.calls.specs.Laws.Pack.{pair_of, pair-long, pairs-long, place-first, place-more, place-most}
 use Rattle.network.specs.Laws.Packing.{rows_none, rows_more}
 use Rattle.network.proofs.packing.write_pairs.Goals as goal
@@ -54,7 +52,7 @@ loop-section-preserved c =
           (ap₂ (λ place size. bytes32 place ++ bytes32 size) turn.invariant.1 sized)
           turn.invariant.2
           c.write_pair.ensures,
-      c.write_pair.auto.0 ∙ turn.invariant.3,
+      c.write_pair.auto.output ∙ turn.invariant.3,
     )
 
 pub shape_of-output : goal.shape_of-output

@@ -1,16 +1,11 @@
 -- `network::packing::write_pairs` meets its contract: the pairs of the first sections are written.
-use borrow.Author.Rules.{rules}
-use mathlib.Core.Path.{◌≡◌, refl, ◌∙◌, ap₂}
-use mathlib.Core.List.{◌++◌}
+use mathlib.Core.Path.{◌≡◌}
 use lib.ListN.{length}
-use native.Mathlib.Omega.{arith}
-use Prim.Native.Nat.{◌+◌, ◌*◌, ◌≤◌, ◌<◌, ◌-◌}
-use Rattle.study.specs.Versions.{form_of}
+use Prim.Native.Nat.{◌≤◌, ◌-◌}
 use Rattle.theory.specs.Finite.{rows}
-use Rattle.calls.specs.Pack.{bytes32, section_place}
-use Rattle.network.specs.Written.{written, pair_bytes}
-use Rattle.calls.specs.Laws.Pack.{pair_of, pair-long, pairs-long, place-first, place-more, place-most}
-use Rattle.network.specs.Laws.Packing.{rows_none, rows_more}
+use Rattle.calls.specs.Pack.{section_place}
+use Rattle.network.specs.Written.{written}
+use Rattle.calls.specs.Laws.Pack.{pair_of}
 use Rattle.network.proofs.packing.write_pairs.Given as goal
 
 abbrev pub invariant-loop-section : goal.invariant-loop-section

@@ -3,13 +3,13 @@ use borrow.Author.Rules.{rules}
 use mathlib.Core.Path.{◌≡◌, refl, ◌∙◌, ap}
 use lib.ListN.{length}
 use native.Mathlib.Omega.{arith}
-use Prim.Native.Nat.{◌+◌, ◌≤◌, ◌<◌, ◌-◌}
+use Prim.Native.Nat.{◌+◌, ◌≤◌, ◌<◌}
 use Rattle.study.specs.Header.{version}
 use Rattle.study.specs.Laws.{accepted}
 use Rattle.study.specs.Sections.{part}
 use Rattle.study.specs.Versions.{form_of}
 use Rattle.theory.specs.Finite.{rows}
-use Rattle.network.specs.Written.{written, section_bytes}
+use Rattle.network.specs.Written.{section_bytes}
 use Rattle.network.specs.Laws.Packing.{rows_none, rows_more, rows-longer, section-fits}
 use Rattle.network.proofs.packing.write_sections.Goals as goal
 use Rattle.network.proofs.packing.write_sections.Goals.{In-loop-section}
@@ -50,7 +50,7 @@ loop-section-preserved c =
       omega (arith, turn.invariant.1, ap length read, rows-longer turn.section (part x.file.now)),
       rows_more (form_of (version x.file.now)).header (part x.file.now) x.output.now turn.section turn.place turn.invariant.1 (fits (goal.at.loop-section-preserved c).In-loop-section) read turn.invariant.2
           c.write_bytes.ensures,
-      c.write_bytes.auto.0 ∙ turn.invariant.3,
+      c.write_bytes.auto.output ∙ turn.invariant.3,
     )
 
 pub shape_of-output : goal.shape_of-output

@@ -1,16 +1,12 @@
 -- `network::packing::write_sections` meets its contract: the first sections are written.
-use borrow.Author.Rules.{rules}
-use mathlib.Core.Path.{◌≡◌, refl, ◌∙◌, ap}
+use mathlib.Core.Path.{◌≡◌}
 use lib.ListN.{length}
-use native.Mathlib.Omega.{arith}
-use Prim.Native.Nat.{◌+◌, ◌≤◌, ◌<◌, ◌-◌}
+use Prim.Native.Nat.{◌+◌, ◌≤◌, ◌-◌}
 use Rattle.study.specs.Header.{version}
-use Rattle.study.specs.Laws.{accepted}
 use Rattle.study.specs.Sections.{part}
 use Rattle.study.specs.Versions.{form_of}
 use Rattle.theory.specs.Finite.{rows}
-use Rattle.network.specs.Written.{written, section_bytes}
-use Rattle.network.specs.Laws.Packing.{rows_none, rows_more, rows-longer, section-fits}
+use Rattle.network.specs.Written.{written}
 use Rattle.network.proofs.packing.write_sections.Given as goal
 
 abbrev pub invariant-loop-section : goal.invariant-loop-section

@@ -1,5 +1,4 @@
 -- `network::packing::write_study` meets its contract: the sections follow the header.
-use borrow.Author.Rules.{rules}
 use native.Mathlib.Omega.{arith}
 use Rattle.study.specs.Laws.{accepted}
 use Rattle.network.specs.Laws.Packing.{header-fits, study-written}

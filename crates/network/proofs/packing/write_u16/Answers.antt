@@ -1,5 +1,4 @@
 -- `network::packing::write_u16` meets its contract.
-use borrow.Author.Rules.{rules}
 use lib.ListN.{length-set}
 use native.Mathlib.Omega.{arith}
 use Rattle.network.specs.Laws.Packing.{written-u16}

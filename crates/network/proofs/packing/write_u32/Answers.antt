@@ -1,5 +1,4 @@
 -- `network::packing::write_u32` meets its contract.
-use borrow.Author.Rules.{rules}
 use mathlib.Core.Path.{ap, ◌∙◌}
 use Prim.Native.Nat.{◌+◌, ◌/◌}
 use Rattle.calls.specs.Pack.{bytes16}

@@ -1,7 +1,6 @@
 -- `study::power` meets its contract: 4, or the sixth number of the link, whose twelve bytes are there.
 use borrow.Author.Rules.{rules}
 use native.Mathlib.Omega.{arith}
-use mathlib.Core.Path.{◌∙◌, sym}
 use borrow.Author.Tests.{lt-ltb, le-ltb}
 use Rattle.study.specs.Fields.{power, HasLink}
 use Rattle.study.proofs.fields.power.Goals as goal

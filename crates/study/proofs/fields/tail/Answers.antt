@@ -1,5 +1,4 @@
 -- `study::tail` meets its contract: the field at the start of the link.
-use borrow.Author.Rules.{rules}
 use mathlib.Core.Path.{◌∙◌}
 use native.Mathlib.Nat.{add-zero}
 use Rattle.study.specs.Fields.{tail}

@@ -1,5 +1,4 @@
 -- `study::header::has_section` meets its contract.
-use borrow.Author.Rules.{rules}
 use Rattle.study.specs.Header.{has_section}
 use Rattle.study.proofs.header.has_section.Goals as goal
 

@@ -1,5 +1,4 @@
 -- `study::questions::refusal` meets its contract: each question that is passed was answered yes, and the first that is not gives its number.
-use borrow.Author.Rules.{rules}
 use lib.ListN.{length}
 use mathlib.Core.Bool.{true}
 use mathlib.Core.Path.{◌≡◌}

@@ -1,16 +1,12 @@
 -- `study::questions::sections_apart` meets its contract. The loop's invariant: the sections before this one end at or before the next offset. The
 -- measure is what is left of them.
-use Prim.Native.Nat.{◌+◌, ◌-◌, ◌≤◌, ◌<◌}
-use borrow.Author.Rules.{rules}
-use borrow.Author.Tests.{le-leb, lt-leb}
+use Prim.Native.Nat.{◌+◌, ◌-◌, ◌≤◌}
 use mathlib.Core.Bool.{true}
-use mathlib.Core.Path.{◌≡◌, refl, sym, ◌∙◌, ap}
-use native.Mathlib.Omega.{arith}
+use mathlib.Core.Path.{◌≡◌}
 use lib.Dec.{leb}
 use Rattle.study.specs.Versions.{form_of}
 use Rattle.study.specs.Header.{version, offset}
-use Rattle.study.specs.Questions.{section_end, each_section, sections_apart}
-use Rattle.study.specs.Laws.{known, each-no, each_more}
+use Rattle.study.specs.Questions.{section_end, each_section}
 use Rattle.study.proofs.questions.sections_apart.Given as goal
 
 abbrev pub invariant-loop-section : goal.invariant-loop-section

@@ -25,10 +25,11 @@ pub returns-then-file-header : goal.returns-then-file-header
 unfolding sections_in_order
 returns-then-file-header c = rw (← header_is (goal.at.returns-then-file-header c).After-form_of-header, lt-leb _ _ c.if-file-header.true)
 
+-- the header that the file's version wants is there
 headed : (c : Else-file-header) → Headed c.args.file.now
 headed c =
-    let pre = c.requires in
-    headed-by _ pre.0 pre.1 (rw (← header_is c.before) c.if-file-header.false)
+    let wanted : c.form_of-header.result.header ≡ (form_of (version c.args.file.now)).header = cc in
+    headed-by _ c.requires.0 c.requires.1 (rw (← wanted) c.if-file-header.false)
 
 pub offset-requires : goal.offset-requires
 offset-requires c = (headed (goal.at.offset-requires c).Else-file-header, search rules)

@@ -1,16 +1,12 @@
 -- `study::questions::sizes_fit` meets its contract. The loop's invariant: the sections before this one have the version's lengths. The measure is
 -- what is left of them.
 use Prim.Native.Nat.{◌-◌, ◌≤◌}
-use borrow.Author.Rules.{rules}
-use borrow.Author.Tests.{eq-eqb, ne_eqb}
 use mathlib.Core.Bool.{true}
-use mathlib.Core.Path.{◌≡◌, refl, sym, ◌∙◌, ap}
-use native.Mathlib.Omega.{arith}
+use mathlib.Core.Path.{◌≡◌}
 use lib.Dec.{eqb}
 use Rattle.study.specs.Versions.{form_of, section_size}
 use Rattle.study.specs.Header.{version, node_field, link_field, destination_field, size}
-use Rattle.study.specs.Questions.{each_section, sizes_fit}
-use Rattle.study.specs.Laws.{known, each-no, each_more}
+use Rattle.study.specs.Questions.{each_section}
 use Rattle.study.proofs.questions.sizes_fit.Given as goal
 
 abbrev pub invariant-loop-section : goal.invariant-loop-section

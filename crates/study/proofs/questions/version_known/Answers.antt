@@ -1,5 +1,4 @@
 -- `study::questions::version_known` meets its contract.
-use borrow.Author.Rules.{rules}
 use Rattle.study.specs.Questions.{version_known}
 use Rattle.study.specs.Versions.{versions}
 use Rattle.study.proofs.questions.version_known.Goals as goal

@@ -1,5 +1,4 @@
 -- `study::accepted_section` meets its contract: of an accepted file every section ends within the file.
-use borrow.Author.Rules.{rules}
 use mathlib.Core.Path.{◌≡◌, sym}
 use native.Mathlib.Omega.{arith}
 use Prim.Native.Nat.{◌-◌}

@@ -1,5 +1,4 @@
 -- `study::sections::count` meets its contract: an accepted file has its header.
-use borrow.Author.Rules.{rules}
 use mathlib.Core.Path.{sym, ◌∙◌}
 use native.Mathlib.Omega.{arith}
 use Rattle.study.specs.Laws.{accepted, value-accepted, value-refused}

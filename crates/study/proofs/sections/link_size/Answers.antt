@@ -1,5 +1,4 @@
 -- `study::link_size` meets its contract: an accepted file has a version of the table.
-use borrow.Author.Rules.{rules}
 use mathlib.Core.Path.{◌∙◌, ap}
 use native.Mathlib.Omega.{arith}
 use Rattle.study.specs.Versions.{form_of}

@@ -1,5 +1,4 @@
 -- `study::sections::section` meets its contract: a refused file has an empty part.
-use borrow.Author.Rules.{rules}
 use mathlib.Core.Path.{sym, ◌∙◌}
 use Rattle.study.specs.Laws.{part-refused}
 use Rattle.study.proofs.sections.section.Goals as goal

@@ -5,7 +5,6 @@ use mathlib.Core.Path.{◌≡◌, sym, ◌∙◌, ap}
 use lib.ListN.{get_or}
 use native.Mathlib.Nat.{le_of_lt, mul-le-mul, mul-le-mul_left}
 use native.Mathlib.Omega.{arith}
-use borrow.Author.Rules.{rules}
 use Rattle.study.specs.Versions.{form_of, section_size}
 use Rattle.study.specs.Laws.{known, size_none, size-there, size-trips}
 use Rattle.study.proofs.versions.section_size.Goals as goal
