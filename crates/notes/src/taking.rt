@@ -8,7 +8,7 @@ use crate::Taken;
 use crate::following::follow_note;
 use crate::lessening::{all_even, halve, holds_part, lessen};
 
-// Questions 21 and 22, and where neither refuses the table lessened by typeof.j.Y and its share by j, or both halved where j is 0. What the rows of next
+// Questions 21 and 22, and where neither refuses the table lessened by j·Y and its share by j, or both halved where j is 0. What the rows of next
 // links and of volumes hold before does not matter: each row that is read is written first.
 pub fn take_back_table(
     nodes: usize,

@@ -129,7 +129,7 @@ fn last(share: u32) -> u32
     64
 }
 
-// What decides whether j qualifies. Times are those at flow S + typeof.j.Y and share W + j.
+// What decides whether j qualifies. Times are those at flow S + j·Y and share W + j.
 fn sums_at(links: &[[u16; 6]], flows: &[[u64; 512]; 2], share: u32, j: u32, curves: &[u64]) -> Sums
     requires { MoveFits links.now flows.now share × (share + j ≤ 1024) × Curves links.now curves.now }
     ensures loaded_value { result.loaded ≡ share * moved_times (roads links.now) share (total_of flows.now) (load_of flows.now) j (load_of flows.now) }

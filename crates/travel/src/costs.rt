@@ -64,7 +64,7 @@ fn cost_by(
     Costs { cost, over }
 }
 
-// The area of a link's staircase from 0 to 64·S: the treads below the step, each typeof.c.W wide, and what is
+// The area of a link's staircase from 0 to 64·S: the treads below the step, each c·W wide, and what is
 // left at the height of the step.
 fn link_cost(link: [u16; 6], list: usize, share: u32, flow: u64, curves: &[u64]) -> LinkCost
     requires { ListAt curves.now link list × ShareFits share × (flow ≤ most_flow) }

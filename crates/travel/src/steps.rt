@@ -14,7 +14,7 @@ pub struct LinkTime {
     pub over: bool,
 }
 
-// Step r: the smaller of 256 and floor(64·S / (typeof.c.W)).
+// Step r: the smaller of 256 and floor(64·S / (c·W)).
 pub fn step_of(capacity: u16, share: u32, flow: u64) -> u64
     requires { (1 ≤ capacity) × ShareFits share × (flow ≤ most_flow) }
     ensures { (result ≡ step capacity share flow) × (result ≤ 256) }

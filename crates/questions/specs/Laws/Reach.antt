@@ -190,8 +190,8 @@ walk-join rows s i j [] e rest = rw e rest
 walk-join rows s i j (h ∷ walk) p rest = let (more, q) = walk-join rows s i h walk p.1 rest in (h ∷ more, (p.0, q))
 
 -- and a mark is a walk of one step.
-walk-one : {rows : List (List ℕ)} (i j : ℕ) → marked (row rows i) j ≡ true → WalkTo rows i j
-walk-one i j e = (i ∷ [], (e, refl))
+walk-one : (rows : List (List ℕ)) (i j : ℕ) → marked (row rows i) j ≡ true → WalkTo rows i j
+walk-one rows i j e = (i ∷ [], (e, refl))
 
 walk-below : {nodes : ℕ} {whole : List ℕ} {rows : List (List ℕ)} → Rows nodes whole rows → (s j : ℕ) → s < nodes → WalkTo rows s j → j < nodes
 walk-below r s j here ([], e) = rw e here
@@ -203,7 +203,7 @@ onward-walk c a h e [] p = rw p e
 onward-walk c a h e (b ∷ walk) p = c.onward b h (onward-walk c a b e walk p.1) p.0
 
 pub grown-none : {rows : List (List ℕ)} → Grown rows rows
-grown-none = record { size = refl; keeps = λ i j e. e; walks = λ i j e. walk-one i j e }
+grown-none = record { size = refl; keeps = λ i j e. e; walks = λ i j e. walk-one _ i j e }
 
 -- What was grown has the walks that there were,
 walk-back : {before after : List (List ℕ)} → Grown before after → (s j : ℕ) (walk : List ℕ) → IsWalk after s j walk → WalkTo before s j
@@ -241,7 +241,7 @@ searching-first rows s =
       mine = union_left (only_node s) (row rows s) s (marked-own s);
       walks = λ j e. ⊎_elim
           (λ f. ([], sym (eqb-true s j (sym (marked-only s j) ∙ f))))
-          (λ f. walk-one s j f)
+          (λ f. walk-one _ s j f)
           (union-either (only_node s) (row rows s) j e);
       seen = λ i j e f. let same : s ≡ i = eqb-true s i (sym (marked-only s i) ∙ e) in union_right (only_node s) (row rows s) j (rw same f);
     }
@@ -341,7 +341,7 @@ module _ {nodes j : ℕ} {whole : List ℕ} {rows : List (List ℕ)} (r : Rows n
             (λ n. rw (other_row i n) e);
         walks = λ i a e. on-equal i j
             (λ same. rw same (closure.walks a (rw (same, this-row) at e)))
-            (λ n. walk-one i a (rw (other_row i n) at e));
+            (λ n. walk-one _ i a (rw (other_row i n) at e));
       }
 
   -- What had been found before is still all that there is to find.
