@@ -2,7 +2,7 @@
 #![tactic(auto)]
 
 // How a run ended. A refused run has no ending.
-#[derive(Drop)]
+#[derive(Clone, Copy)]
 pub enum Ending {
     Refused,
     Reached,
@@ -11,7 +11,7 @@ pub enum Ending {
 }
 
 // What a pass did. A refused pass did nothing.
-#[derive(Drop)]
+#[derive(Clone, Copy)]
 pub enum Outcome {
     Refused,
     Moved,
@@ -20,7 +20,7 @@ pub enum Outcome {
 
 // In each answer `refusal` is the number of the first question that refused, or 0, and a refusal has 0 in every other field. `over` counts the
 // links of the judged table that are past their curves (A.4).
-#[derive(Drop)]
+#[derive(Clone, Copy)]
 pub struct RunAnswer {
     pub refusal: u8,
     pub ending: Ending,
@@ -31,7 +31,7 @@ pub struct RunAnswer {
     pub over: u32,
 }
 
-#[derive(Drop)]
+#[derive(Clone, Copy)]
 pub struct PassAnswer {
     pub refusal: u8,
     pub outcome: Outcome,
@@ -41,7 +41,7 @@ pub struct PassAnswer {
     pub over: u32,
 }
 
-#[derive(Drop)]
+#[derive(Clone, Copy)]
 pub struct AuditAnswer {
     pub refusal: u8,
     pub gap: u64,
@@ -50,7 +50,7 @@ pub struct AuditAnswer {
 }
 
 // (A.6) Taking back: the resulting share.
-#[derive(Drop)]
+#[derive(Clone, Copy)]
 pub struct TakeBackAnswer {
     pub refusal: u8,
     pub share: u32,

@@ -18,7 +18,7 @@ pub use start::start_table;
 pub use turns::turn_table;
 
 // The gap and cost of a judged table, and how many of its links are over.
-#[derive(Drop)]
+#[derive(Clone, Copy)]
 pub struct Sums {
     pub gap: u64,
     pub cost: u64,
@@ -26,7 +26,7 @@ pub struct Sums {
 }
 
 // What a pass does: whether it moved the table, and the new share. The other numbers are of the judged table.
-#[derive(Drop)]
+#[derive(Clone, Copy)]
 pub struct Passed {
     pub moved: bool,
     pub share: u32,
@@ -36,7 +36,7 @@ pub struct Passed {
 }
 
 // How a turn of a run goes on from the table that it judges.
-#[derive(Drop)]
+#[derive(Clone, Copy)]
 pub enum Step {
     Reached,
     Finest,
@@ -46,7 +46,7 @@ pub enum Step {
 
 // Where a run stands before a turn: the table's share, whether the arrays that it is lent hold already what judging the table computes, a
 // guess of j, and what ends the run: a gap of at most limit × share, and the budget, if this is the last turn of it.
-#[derive(Drop)]
+#[derive(Clone, Copy)]
 pub struct Standing {
     pub share: u32,
     pub known: bool,
@@ -57,7 +57,7 @@ pub struct Standing {
 
 // One turn of a run: one judged table, its gap, the share after the turn, and whether the arrays that it was lent hold what judging the table
 // after the turn computes: they do where it doubled the table.
-#[derive(Drop)]
+#[derive(Clone, Copy)]
 pub struct Turn {
     pub step: Step,
     pub share: u32,

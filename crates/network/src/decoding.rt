@@ -33,7 +33,7 @@ pub fn has_lorries(file: &[u8]) -> bool
 
 // The number of the first of questions 1 to 5 that refuses a file, or 0, and how many nodes, links, destinations and commodities an accepted one
 // has: a commodity for each destination, and in version 4 (A.7) two.
-#[derive(Drop)]
+#[derive(Clone, Copy)]
 pub struct Opening {
     pub refusal: u8,
     pub nodes: usize,

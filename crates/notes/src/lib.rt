@@ -11,7 +11,7 @@ pub use taking::take_back_table;
 pub use writing::{put_links, put_no_links};
 
 // What taking back does with a table: the number of question 21 or 22, or 0, and the resulting share, 0 where it is refused.
-#[derive(Drop)]
+#[derive(Clone, Copy)]
 pub struct Taken {
     pub refusal: u8,
     pub share: u32,

@@ -3,7 +3,7 @@ ghost use Rattle.std.specs.Prelude.{◌≤◌, ◌≡◌, ◌<◌};
 ghost use Rattle.study.specs.Versions.{form_of, section_size};
 
 // What a version fixes of the format: the bytes of the header, the bytes of a link, and how many sections there are.
-#[derive(Drop)]
+#[derive(Clone, Copy)]
 pub struct Form {
     pub header: u64,
     pub link: u64,

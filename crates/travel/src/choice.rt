@@ -12,7 +12,7 @@ use crate::table::{LOAD, TOTAL};
 use theory::ACCESS_POWER;
 
 // What decides whether j qualifies: W × the sum of Y × time, and the sum of S × time.
-#[derive(Drop)]
+#[derive(Clone, Copy)]
 struct Sums {
     loaded: u64,
     spent: u64,

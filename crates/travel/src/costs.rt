@@ -11,14 +11,14 @@ use crate::steps::{step_of, time_at};
 use theory::{ACCESS_POWER, CAPACITY, FREE_TIME, RISE};
 
 // The cost of links and how many of them are over.
-#[derive(Drop)]
+#[derive(Clone, Copy)]
 pub struct Costs {
     pub cost: u64,
     pub over: u32,
 }
 
 // The area of a link's staircase and whether the link is over.
-#[derive(Drop)]
+#[derive(Clone, Copy)]
 struct LinkCost {
     area: u64,
     over: bool,

@@ -8,7 +8,7 @@ use crate::powers::list_start;
 use theory::{ACCESS_POWER, CAPACITY, FREE_TIME, RISE};
 
 // The time of a link, and whether step 256 was reached: it has then run onto the level part of its curve (A.4).
-#[derive(Drop)]
+#[derive(Clone, Copy)]
 pub struct LinkTime {
     pub time: u64,
     pub over: bool,
