@@ -1,12 +1,9 @@
--- `next::candidates` meets its contract. The loop's invariant: for each destination a link is kept before which all are ruled out, or all links before
--- `l` are ruled out; and `l` is a link out of the node, or none. The links of a chain rise, so the measure is what is left to `NO_LINK`.
-use Rattle.std.proofs.Common.{◌+◌, ◌-◌, ◌<◌, length, get_or, refl, arith, rules}
-use Rattle.theory.specs.Study.{head, no_link}
-use Rattle.search.specs.Given.{class_of}
-use Rattle.routes.specs.Next.{EachCandidate}
+-- `next::candidates` meets its contract.
+use Rattle.std.proofs.Common.{◌<◌, length, refl, arith}
+use Rattle.theory.specs.Study.{head}
 use Rattle.routes.specs.Laws.Candidates.{walk_begins, walk_ends, walk_at, walk-goes}
 use Rattle.routes.proofs.next.candidates.Goals as goal
-use Rattle.routes.proofs.next.candidates.Goals.{After-index, After-index-i, After-l-in-loop-l-1}
+use Rattle.routes.proofs.next.candidates.Goals.{After-index, After-index-i}
 
 pub loop-l-init : goal.loop-l-init
 loop-l-init c = let given = c.requires in walk_begins given.0 given.1 given.2 refl
@@ -28,7 +25,7 @@ bounds-links-i c = (at-link (goal.at.bounds-links-i c).After-index-i).0
 
 -- The link's head is one of 128 nodes.
 head-node : (c : After-index) → c.index.result < 128
-head-node c = omega (arith, c.index.ensures, (at-link c.before.before).2)
+head-node c = omega (arith, c.index.ensures, walk_at c.requires.0 c.requires.1 c.loop-l.invariant c.loop-l-test.true c.index-i.ensures)
 
 pub offset_bounds-lows-index : goal.offset_bounds-lows-index
 offset_bounds-lows-index c = omega (arith, head-node (goal.at.offset_bounds-lows-index c).After-index)
@@ -55,21 +52,17 @@ pub bounds-out-i : goal.bounds-out-i
 bounds-out-i c = omega (arith, (at-link (goal.at.bounds-out-i c).After-index-i).1)
 
 -- The next link of the chain is higher, and the walk may go on from it.
-higher :
-    (c : After-l-in-loop-l-1) →
-    let x = c.args in
-    let l = get_or x.out.now (384 + c.index-i.result) 0 in
-    (c.loop-l.l < l) × EachCandidate (class_of x.group.now) x.links.now x.times.now x.lows.now x.j l c.keep_row.new.0
-higher c =
-    let given = c.requires in
-    walk-goes given.0 given.1 c.loop-l.inv c.loop-l-test.taken c.index-i.ensures
-    c.index.ensures c.low.ensures c.keep_row.ensures refl
-
 pub loop-l-smaller : goal.loop-l-smaller
-loop-l-smaller c = omega (arith, (higher (goal.at.loop-l-smaller c).After-l-in-loop-l-1).0, (at-link (goal.at.loop-l-smaller c).After-index-i).1)
+loop-l-smaller c =
+    let given = c.requires in
+    let next =
+    walk-goes given.0 given.1 c.loop-l.invariant c.loop-l-test.true c.index-i.ensures c.index.ensures c.low.ensures c.keep_row.ensures refl in
+    omega (arith, next.0, (at-link (goal.at.loop-l-smaller c).After-index-i).1)
 
 pub loop-l-preserved : goal.loop-l-preserved
-loop-l-preserved c = (higher (goal.at.loop-l-preserved c).After-l-in-loop-l-1).1
+loop-l-preserved c =
+    let given = c.requires in
+    (walk-goes given.0 given.1 c.loop-l.invariant c.loop-l-test.true c.index-i.ensures c.index.ensures c.low.ensures c.keep_row.ensures refl).1
 
 pub returns : goal.returns
 returns c = let given = c.requires in walk_ends given.0 given.1 c.loop-l.invariant c.loop-l-test.false

@@ -1,10 +1,9 @@
--- `next::candidates` meets its contract. The loop's invariant: for each destination a link is kept before which all are ruled out, or all links before
--- `l` are ruled out; and `l` is a link out of the node, or none. The links of a chain rise, so the measure is what is left to `NO_LINK`.
-use Rattle.std.proofs.Common.{◌+◌, ◌-◌, ◌<◌, length, get_or, refl, arith, rules}
-use Rattle.theory.specs.Study.{head, no_link}
+-- The loop's invariant: for each destination a link is kept before which all are ruled out, or all links before `l` are ruled out; and `l` is a link
+-- out of the node, or none. The links of a chain rise, so the measure is what is left to `NO_LINK`.
+use Rattle.std.proofs.Common.{◌-◌}
+use Rattle.theory.specs.Study.{no_link}
 use Rattle.search.specs.Given.{class_of}
 use Rattle.routes.specs.Next.{EachCandidate}
-use Rattle.routes.specs.Laws.Candidates.{walk_begins, walk_ends, walk_at, walk-goes}
 use Rattle.routes.proofs.next.candidates.Given as goal
 
 abbrev pub invariant-loop-l : goal.invariant-loop-l

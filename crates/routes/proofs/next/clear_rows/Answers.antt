@@ -1,7 +1,6 @@
--- `next::clear_rows` meets its contract. The loop's invariant: the rows from `first` on and below `k` have no link, and the others are as they
--- were. The measure is what is left of the rows.
-use Rattle.std.proofs.Common.{◌≡◌, ◌-◌, ◌≤◌, refl, arith, rules}
-use Rattle.routes.specs.Table.{no_links, RowsCleared}
+-- `next::clear_rows` meets its contract.
+use Rattle.std.proofs.Common.{◌≡◌, refl, arith, rules}
+use Rattle.routes.specs.Table.{no_links}
 use Rattle.routes.specs.Laws.Table.{rows_none, rows_more}
 use Rattle.routes.proofs.next.clear_rows.Goals as goal
 

@@ -1,8 +1,7 @@
--- `next::clear_rows` meets its contract. The loop's invariant: the rows from `first` on and below `k` have no link, and the others are as they
--- were. The measure is what is left of the rows.
-use Rattle.std.proofs.Common.{◌≡◌, ◌-◌, ◌≤◌, refl, arith, rules}
-use Rattle.routes.specs.Table.{no_links, RowsCleared}
-use Rattle.routes.specs.Laws.Table.{rows_none, rows_more}
+-- The loop's invariant: the rows from `first` on and below `k` have no link, and the others are as they were. The measure is what is left of the
+-- rows.
+use Rattle.std.proofs.Common.{◌-◌, ◌≤◌}
+use Rattle.routes.specs.Table.{RowsCleared}
 use Rattle.routes.proofs.next.clear_rows.Given as goal
 
 abbrev pub invariant-loop-k : goal.invariant-loop-k

@@ -1,9 +1,8 @@
--- `next::complete_table` meets its contract. The loop's invariant: the rows below `first` are the next links to the destinations there, and the others
--- are as they were. The measure is what is left of the destinations.
-use Rattle.std.proofs.Common.{◌-◌, length, ◌∙◌, ⊎_elim, arith, rules}
-use Rattle.routes.specs.Table.{AllBelow}
+-- `next::complete_table` meets its contract.
+use Rattle.std.proofs.Common.{◌∙◌, arith}
 use Rattle.routes.specs.Laws.Table.{groups_none, groups-all, group-span, span-rows, trips-within, all-put, all-kept}
 use Rattle.routes.proofs.next.complete_table.Goals as goal
+use Rattle.routes.proofs.next.complete_table.Goals.{then-group_trips-eq0, else-group_trips-eq0}
 
 pub loop-first-init : goal.loop-first-init
 loop-first-init c = groups_none
@@ -13,39 +12,41 @@ group_end-past-requires c = (c.requires.all_searchable.0.few-destinations, c.loo
 
 pub group_trips-requires : goal.group_trips-requires
 group_trips-requires c =
-    let given = (c).pre in trips-within given.0.0 c.loop-first-test.true c.group_end-past.ensures given.1.0
+    trips-within c.requires.all_searchable.0 c.loop-first-test.true c.group_end-past.ensures c.requires.trips_len
 
 pub clear_rows-requires : goal.clear_rows-requires
 clear_rows-requires c =
-    let given = (c).pre in
+    let given = c.requires.all_searchable in
     let inside = c.loop-first-test.true in
     let past = c.group_end-past.ensures in
-    let (low, high, few) = group-span given.0.0 inside past in
-    (low, few, span-rows given.0.0 inside past (rw c.loop-first.invariant.rows.size given.1.1.size))
+    let (low, high, few) = group-span given.0 inside past in
+    (low, few, span-rows given.0 inside past (rw c.loop-first.invariant.rows.size c.requires.nexts.size))
 
 pub put_next-requires : goal.put_next-requires
 put_next-requires c =
-    let given = (c).pre in
+    let given = c.requires.all_searchable in
     let inside = c.loop-first-test.true in
     let past = c.group_end-past.ensures in
     let rows = c.clear_rows.ensures in
     let long = rows.size ∙ c.loop-first.invariant.rows.size in
-    record { all_searchable = given.0; first_in_bounds = (inside, past); past_in_bounds = (span-rows given.0.0 inside past (rw long given.1.1.size), rows.put) }
+    record { all_searchable = given; first_in_bounds = (inside, past); past_in_bounds = (span-rows given.0 inside past (rw long c.requires.nexts.size), rows.put) }
 
 pub overflow_add-first : goal.overflow_add-first
 overflow_add-first c =
-    omega (arith, (c).pre.0.0.few-destinations, c.loop-first-test.true)
+    omega (arith, c.requires.all_searchable.0.few-destinations, c.loop-first-test.true)
 
 pub loop-first-preserved : goal.loop-first-preserved
 loop-first-preserved c =
-    let given = (c).pre in
+    let given = c.requires.all_searchable in
     let inside = c.loop-first-test.true in
     let past = c.group_end-past.ensures in
     let done = c.loop-first.invariant in
-    ⊎_elim
-    (λ w. rw w.8 (all-put given.0.0 inside past done w.2.ensures w.6.ensures))
-    (λ w. rw w.1 (all-kept given.0.0 inside past done given.1.1 (λ nobody. w.0.left (c.group_trips.ensures.1 nobody))))
-    c.if-group_trips-eq0.branch
+    elim c.if-group_trips-eq0.branch [
+      | then-group_trips-eq0 w ↦ rw w.table-is (all-put given.0 inside past done w.clear_rows.ensures w.put_next.ensures)
+      | else-group_trips-eq0 w ↦ rw w.table-is (
+          all-kept given.0 inside past done c.requires.nexts (λ nobody. w.if-group_trips-eq0.false (c.group_trips.ensures.1 nobody))
+          )
+    ]
 
 pub shape_of-table : goal.shape_of-table
 shape_of-table c = c.loop-first.invariant.rows.size

@@ -1,8 +1,7 @@
--- `next::complete_table` meets its contract. The loop's invariant: the rows below `first` are the next links to the destinations there, and the others
--- are as they were. The measure is what is left of the destinations.
-use Rattle.std.proofs.Common.{◌-◌, length, ◌∙◌, ⊎_elim, arith, rules}
+-- The loop's invariant: the rows below `first` are the next links to the destinations there, and the others are as they were. The measure is what is
+-- left of the destinations.
+use Rattle.std.proofs.Common.{◌-◌, length}
 use Rattle.routes.specs.Table.{AllBelow}
-use Rattle.routes.specs.Laws.Table.{groups_none, groups-all, group-span, span-rows, trips-within, all-put, all-kept}
 use Rattle.routes.proofs.next.complete_table.Given as goal
 
 abbrev pub invariant-loop-first : goal.invariant-loop-first

@@ -1,7 +1,5 @@
--- `next::keep_row` meets its contract. The loop's invariant: the link is kept, where it is not ruled out, for each of the first `k` destinations that
--- had none. The measure is what is left of the row.
-use Rattle.std.proofs.Common.{◌≡◌, ◌-◌, ◌≤◌, le_refl, arith, rules}
-use Rattle.routes.specs.Next.{RowKept}
+-- `next::keep_row` meets its contract.
+use Rattle.std.proofs.Common.{◌≡◌, le_refl, arith, rules}
 use Rattle.search.specs.Laws.Rows.{worked-none, worked-more}
 use Rattle.routes.proofs.next.keep_row.Goals as goal
 
@@ -11,7 +9,7 @@ loop-k-init c = (search rules, worked-none)
 pub loop-k-preserved : goal.loop-k-preserved
 loop-k-preserved c =
     let inv = c.loop-k.invariant.1 in
-    let kept = rw (inv.rest _ (le_refl _), c.wrapping_add_u16.ensures) at c.keep.ensures in
+    let kept = rw (inv.rest _ (le_refl _), c.wrapping_add_u16.ensures.value) at c.keep.ensures in
     (search rules, worked-more _ (omega (arith, inv.size)) kept inv)
 
 pub returns : goal.returns

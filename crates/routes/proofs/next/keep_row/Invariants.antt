@@ -1,8 +1,7 @@
--- `next::keep_row` meets its contract. The loop's invariant: the link is kept, where it is not ruled out, for each of the first `k` destinations that
--- had none. The measure is what is left of the row.
-use Rattle.std.proofs.Common.{◌≡◌, ◌-◌, ◌≤◌, le_refl, arith, rules}
+-- The loop's invariant: the link is kept, where it is not ruled out, for each of the first `k` destinations that had none. The measure is what is
+-- left of the row.
+use Rattle.std.proofs.Common.{◌-◌, ◌≤◌}
 use Rattle.routes.specs.Next.{RowKept}
-use Rattle.search.specs.Laws.Rows.{worked-none, worked-more}
 use Rattle.routes.proofs.next.keep_row.Given as goal
 
 abbrev pub invariant-loop-k : goal.invariant-loop-k

@@ -1,6 +1,6 @@
--- `next::low_row` meets its contract. The loop's invariant: the last 16 bits of the first `k` marks are taken. The measure is what is left of the row.
-use Rattle.std.proofs.Common.{◌-◌, ◌%◌, ◌≤◌, get_or, arith, rules}
-use Rattle.theory.specs.Laws.Filled.{Filled, filled_none, filled_more}
+-- `next::low_row` meets its contract.
+use Rattle.std.proofs.Common.{arith, rules}
+use Rattle.theory.specs.Laws.Filled.{filled_none, filled_more}
 use Rattle.routes.proofs.next.low_row.Goals as goal
 
 pub loop-k-init : goal.loop-k-init

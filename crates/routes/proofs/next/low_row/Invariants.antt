@@ -1,6 +1,6 @@
--- `next::low_row` meets its contract. The loop's invariant: the last 16 bits of the first `k` marks are taken. The measure is what is left of the row.
-use Rattle.std.proofs.Common.{◌-◌, ◌%◌, ◌≤◌, get_or, arith, rules}
-use Rattle.theory.specs.Laws.Filled.{Filled, filled_none, filled_more}
+-- The loop's invariant: the last 16 bits of the first `k` marks are taken. The measure is what is left of the row.
+use Rattle.std.proofs.Common.{◌-◌, ◌%◌, ◌≤◌, get_or}
+use Rattle.theory.specs.Laws.Filled.{Filled}
 use Rattle.routes.proofs.next.low_row.Given as goal
 
 abbrev pub invariant-loop-k : goal.invariant-loop-k

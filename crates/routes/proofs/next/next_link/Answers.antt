@@ -1,11 +1,9 @@
--- `next::next_link` meets its contract. The loop's invariant: `l` is a link out of the node, or none, and no link out of the node before it fits.
--- The links of a chain rise, so the measure is what is left to `NO_LINK`.
-use Rattle.std.proofs.Common.{◌+◌, ◌-◌, ◌<◌, length, get_or, refl, arith, rules}
-use Rattle.theory.specs.Study.{head, no_link}
-use Rattle.routes.specs.Next.{Unfit}
+-- `next::next_link` meets its contract.
+use Rattle.std.proofs.Common.{◌<◌, length, refl, arith}
+use Rattle.theory.specs.Study.{head}
 use Rattle.routes.specs.Laws.Next.{gives, next-none, next-at, next_here, next-goes}
 use Rattle.routes.proofs.next.next_link.Goals as goal
-use Rattle.routes.proofs.next.next_link.Goals.{After-index, After-index-i, After-l-1, Start}
+use Rattle.routes.proofs.next.next_link.Goals.{After-index, After-index-i, Start}
 
 -- The node is one of 128.
 node : (c : Start) → c.args.j < 128
@@ -76,20 +74,19 @@ pub bounds-out-i : goal.bounds-out-i
 bounds-out-i c = omega (arith, (at-link (goal.at.bounds-out-i c).After-index-i).1)
 
 -- The next link of the chain is higher, and the search may go on from it.
-higher :
-    (c : After-l-1) →
-    let x = c.args in
-    let l = get_or x.out.now (384 + c.index-i.result) 0 in
-    (c.loop-l.l < l) × Unfit x.nodes x.links.now x.times.now (get_or x.group.now x.k 0) x.j l
-higher c =
-    next-goes c.requires.each_searchable.0 c.requires.each_searchable.1 c.requires.out_value.1 c.requires.out_value.2 c.loop-l.invariant
-    c.loop-l-test.true c.index-i.ensures c.index.ensures c.requires.out_value.0 c.if-marks-index.false refl
-
 pub loop-l-smaller : goal.loop-l-smaller
-loop-l-smaller c = omega (arith, (higher (goal.at.loop-l-smaller c).After-l-1).0, (at-link (goal.at.loop-l-smaller c).After-index-i).1)
+loop-l-smaller c =
+    let (chain, node, place, from) = c.requires.out_value in
+    let next =
+    next-goes c.requires.each_searchable.0 c.requires.each_searchable.1 node place c.loop-l.invariant
+    c.loop-l-test.true c.index-i.ensures c.index.ensures chain c.if-marks-index.false refl in
+    omega (arith, next.0, (at-link (goal.at.loop-l-smaller c).After-index-i).1)
 
 pub loop-l-preserved : goal.loop-l-preserved
-loop-l-preserved c = (higher (goal.at.loop-l-preserved c).After-l-1).1
+loop-l-preserved c =
+    let (chain, node, place, from) = c.requires.out_value in
+    (next-goes c.requires.each_searchable.0 c.requires.each_searchable.1 node place c.loop-l.invariant
+    c.loop-l-test.true c.index-i.ensures c.index.ensures chain c.if-marks-index.false refl).1
 
 pub returns-after-loop-l : goal.returns-after-loop-l
 returns-after-loop-l c =

@@ -1,9 +1,8 @@
--- `next::next_link` meets its contract. The loop's invariant: `l` is a link out of the node, or none, and no link out of the node before it fits.
--- The links of a chain rise, so the measure is what is left to `NO_LINK`.
-use Rattle.std.proofs.Common.{◌+◌, ◌-◌, ◌<◌, length, get_or, refl, arith, rules}
-use Rattle.theory.specs.Study.{head, no_link}
+-- The loop's invariant: `l` is a link out of the node, or none, and no link out of the node before it fits. The links of a chain rise, so the measure
+-- is what is left to `NO_LINK`.
+use Rattle.std.proofs.Common.{◌-◌, get_or}
+use Rattle.theory.specs.Study.{no_link}
 use Rattle.routes.specs.Next.{Unfit}
-use Rattle.routes.specs.Laws.Next.{gives, next-none, next-at, next_here, next-goes}
 use Rattle.routes.proofs.next.next_link.Given as goal
 
 abbrev pub invariant-loop-l : goal.invariant-loop-l

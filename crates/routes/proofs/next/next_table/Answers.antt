@@ -1,9 +1,8 @@
--- `next::next_table` meets its contract. The loop's invariant: the rows below `first` are the next links to the destinations there, or have no link
--- where nobody goes to their group. The measure is what is left of the destinations.
-use Rattle.std.proofs.Common.{◌-◌, length, ◌∙◌, ⊎_elim, arith, rules}
-use Rattle.routes.specs.Table.{NextsBelow}
+-- `next::next_table` meets its contract.
+use Rattle.std.proofs.Common.{◌∙◌, arith}
 use Rattle.routes.specs.Laws.Table.{groups_none, groups-all, group-span, span-rows, trips-within, nexts-put, nexts-skip}
 use Rattle.routes.proofs.next.next_table.Goals as goal
+use Rattle.routes.proofs.next.next_table.Goals.{then-group_trips-gt0, else-group_trips-gt0}
 
 pub loop-first-init : goal.loop-first-init
 loop-first-init c = groups_none
@@ -13,42 +12,44 @@ group_end-past-requires c = (c.requires.all_searchable.0.few-destinations, c.loo
 
 pub clear_rows-requires : goal.clear_rows-requires
 clear_rows-requires c =
-    let given = (c).pre in
+    let given = c.requires.all_searchable in
     let inside = c.loop-first-test.true in
     let past = c.group_end-past.ensures in
-    let (low, high, few) = group-span given.0.0 inside past in
-    (low, few, span-rows given.0.0 inside past (rw c.loop-first.invariant.rows.size given.1.1))
+    let (low, high, few) = group-span given.0 inside past in
+    (low, few, span-rows given.0 inside past (rw c.loop-first.invariant.rows.size c.requires.trips_len.1))
 
 pub group_trips-requires : goal.group_trips-requires
 group_trips-requires c =
-    let given = (c).pre in
-    trips-within given.0.0 c.loop-first-test.taken c.group_end-past.ensures given.1.0
+    let given = c.requires.all_searchable in
+    trips-within given.0 c.loop-first-test.true c.group_end-past.ensures c.requires.trips_len.0
 
 pub put_next-requires : goal.put_next-requires
 put_next-requires c =
-    let given = (c).pre in
-    let inside = c.loop-first-test.taken in
+    let given = c.requires.all_searchable in
+    let inside = c.loop-first-test.true in
     let past = c.group_end-past.ensures in
     let rows = c.clear_rows.ensures in
-    let long = rows.size ∙ c.loop-first.inv.rows.size in
-    record { all_searchable = given.0; first_in_bounds = (inside, past); past_in_bounds = (span-rows given.0.0 inside past (rw long given.1.1), rows.put) }
+    let long = rows.size ∙ c.loop-first.invariant.rows.size in
+    record { all_searchable = given; first_in_bounds = (inside, past); past_in_bounds = (span-rows given.0 inside past (rw long c.requires.trips_len.1), rows.put) }
 
 pub overflow_add-first : goal.overflow_add-first
 overflow_add-first c =
-    omega (arith, (c).pre.0.0.few-destinations, c.loop-first-test.taken)
+    omega (arith, c.requires.all_searchable.0.few-destinations, c.loop-first-test.true)
 
 pub loop-first-preserved : goal.loop-first-preserved
 loop-first-preserved c =
     let g = c.requires.all_searchable.0 in
-    let inside = c.loop-first-test.taken in
+    let inside = c.loop-first-test.true in
     let past = c.group_end-past.ensures in
     let trips = c.args.trips.now in
-    let done = c.loop-first.inv in
+    let done = c.loop-first.invariant in
     let rows = c.clear_rows.ensures in
-    ⊎_elim
-    (λ w. rw w.5 (nexts-put g inside past trips done rows w.3.ensures))
-    (λ w. rw w.1 (nexts-skip g inside past trips done rows (c.group_trips.ensures.0 (omega (arith, w.0.left)))))
-    c.if-group_trips-gt0.branch
+    elim c.if-group_trips-gt0.branch [
+      | then-group_trips-gt0 w ↦ rw w.table-is (nexts-put g inside past trips done rows w.put_next.ensures)
+      | else-group_trips-gt0 w ↦ rw w.table-is (
+          nexts-skip g inside past trips done rows (c.group_trips.ensures.0 (omega (arith, w.if-group_trips-gt0.false)))
+          )
+    ]
 
 pub shape_of-table : goal.shape_of-table
 shape_of-table c = c.loop-first.invariant.rows.size

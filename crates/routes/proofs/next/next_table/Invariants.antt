@@ -1,8 +1,7 @@
--- `next::next_table` meets its contract. The loop's invariant: the rows below `first` are the next links to the destinations there, or have no link
--- where nobody goes to their group. The measure is what is left of the destinations.
-use Rattle.std.proofs.Common.{◌-◌, length, ◌∙◌, ⊎_elim, arith, rules}
+-- The loop's invariant: the rows below `first` are the next links to the destinations there, or have no link where nobody goes to their group. The
+-- measure is what is left of the destinations.
+use Rattle.std.proofs.Common.{◌-◌, length}
 use Rattle.routes.specs.Table.{NextsBelow}
-use Rattle.routes.specs.Laws.Table.{groups_none, groups-all, group-span, span-rows, trips-within, nexts-put, nexts-skip}
 use Rattle.routes.proofs.next.next_table.Given as goal
 
 abbrev pub invariant-loop-first : goal.invariant-loop-first

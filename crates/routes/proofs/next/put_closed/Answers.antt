@@ -1,7 +1,5 @@
--- `next::put_closed` meets its contract. The loop's invariant: the rows of the destinations below `k` have the next links of all nodes. The measure is
--- what is left of the destinations.
-use Rattle.std.proofs.Common.{◌≡◌, ◌-◌, ◌≤◌, arith, rules}
-use Rattle.routes.specs.Table.{GroupPut}
+-- `next::put_closed` meets its contract.
+use Rattle.std.proofs.Common.{◌≡◌, arith, rules}
 use Rattle.routes.specs.Laws.Table.{rows_none, rows_more, row_before}
 use Rattle.routes.proofs.next.put_closed.Goals as goal
 

@@ -1,7 +1,5 @@
--- `next::put_group` meets its contract. The loop's invariant: the next links of the nodes below `j` are written. The measure is what is left of the
--- nodes.
-use Rattle.std.proofs.Common.{◌≡◌, ◌-◌, ◌≤◌, refl, arith, rules}
-use Rattle.routes.specs.Table.{OpenPut}
+-- `next::put_group` meets its contract.
+use Rattle.std.proofs.Common.{◌≡◌, ◌≤◌, refl, arith, rules}
 use Rattle.routes.specs.Laws.Table.{put-none, put-more}
 use Rattle.routes.proofs.next.put_group.Goals as goal
 use Rattle.routes.proofs.next.put_group.Goals.{Start}

@@ -1,8 +1,6 @@
--- `next::put_group` meets its contract. The loop's invariant: the next links of the nodes below `j` are written. The measure is what is left of the
--- nodes.
-use Rattle.std.proofs.Common.{◌≡◌, ◌-◌, ◌≤◌, refl, arith, rules}
+-- The loop's invariant: the next links of the nodes below `j` are written. The measure is what is left of the nodes.
+use Rattle.std.proofs.Common.{◌-◌, ◌≤◌}
 use Rattle.routes.specs.Table.{OpenPut}
-use Rattle.routes.specs.Laws.Table.{put-none, put-more}
 use Rattle.routes.proofs.next.put_group.Given as goal
 
 abbrev pub invariant-loop-j : goal.invariant-loop-j

@@ -1,7 +1,5 @@
--- `next::put_lows` meets its contract. The loop's invariant: the last 16 bits of the marks of the nodes below `j` are taken. The measure is what
--- is left of the nodes.
-use Rattle.std.proofs.Common.{◌≡◌, ◌-◌, ◌≤◌, arith, rules}
-use Rattle.routes.specs.Next.{Lows}
+-- `next::put_lows` meets its contract.
+use Rattle.std.proofs.Common.{◌≡◌, arith, rules}
 use Rattle.routes.specs.Laws.Candidates.{lows-none, lows-more}
 use Rattle.routes.proofs.next.put_lows.Goals as goal
 

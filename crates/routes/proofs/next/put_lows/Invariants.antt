@@ -1,8 +1,6 @@
--- `next::put_lows` meets its contract. The loop's invariant: the last 16 bits of the marks of the nodes below `j` are taken. The measure is what
--- is left of the nodes.
-use Rattle.std.proofs.Common.{◌≡◌, ◌-◌, ◌≤◌, arith, rules}
+-- The loop's invariant: the last 16 bits of the marks of the nodes below `j` are taken. The measure is what is left of the nodes.
+use Rattle.std.proofs.Common.{◌-◌, ◌≤◌}
 use Rattle.routes.specs.Next.{Lows}
-use Rattle.routes.specs.Laws.Candidates.{lows-none, lows-more}
 use Rattle.routes.proofs.next.put_lows.Given as goal
 
 abbrev pub invariant-loop-j : goal.invariant-loop-j

@@ -37,14 +37,14 @@ pub search-requires : goal.search-requires
 search-requires c = (searchable (goal.at.search-requires c).After-group_of-group, (linked (goal.at.search-requires c).After-group_of-group).into)
 
 pub bounds-chains-1 : goal.bounds-chains-1
-bounds-chains-1 c = two (c)
+bounds-chains-1 c = two (goal.at.bounds-chains-1 c).Start
 
 pub put_group-requires : goal.put_group-requires
 put_group-requires c =
     record { each_searchable = (searchable (goal.at.put_group-requires c).After-group_of-group, c.search.ensures); out_value = ((linked (goal.at.put_group-requires c).After-group_of-group).out, c.requires.past_in_bounds.1); first_le_past = span (goal.at.put_group-requires c).Start }
 
 pub bounds-chains-0-2 : goal.bounds-chains-0-2
-bounds-chains-0-2 c = omega (arith, two (start_of (c)))
+bounds-chains-0-2 c = omega (arith, two (goal.at.bounds-chains-0-2 c).Start)
 
 pub put_closed-requires : goal.put_closed-requires
 put_closed-requires c =

@@ -1,10 +1,6 @@
--- `next::put_node` meets its contract. The loop's invariant: the next links of the node to the destinations below `k` are written. The measure is what
--- is left of the destinations.
-use Rattle.std.proofs.Common.{◌≡◌, ◌-◌, ◌<◌, ◌≤◌, arith, rules}
-use Rattle.search.specs.Laws.Chains.{chainable}
+-- The loop's invariant: the next links of the node to the destinations below `k` are written. The measure is what is left of the destinations.
+use Rattle.std.proofs.Common.{◌-◌, ◌≤◌}
 use Rattle.routes.specs.Table.{NodePut}
-use Rattle.routes.specs.Laws.Candidates.{ruled-out-unfit}
-use Rattle.routes.specs.Laws.Table.{rows_none, rows_more, row_before}
 use Rattle.routes.proofs.next.put_node.Given as goal
 
 abbrev pub invariant-loop-k : goal.invariant-loop-k

@@ -1,12 +1,10 @@
--- `next::put_own` meets its contract. The loop's invariant: the row has for each node the first fitting link of those whose head is open or that are
--- below `l`; and `l` is a link into the closed destination, or none. The links of a chain rise, so the measure is what is left to `NO_LINK`.
-use Rattle.std.proofs.Common.{◌+◌, ◌-◌, ◌<◌, length, get_or, set, refl, ap, arith, rules}
-use Rattle.theory.specs.Study.{tail, head, no_link}
-use Rattle.routes.specs.Next.{OwnBelow}
+-- `next::put_own` meets its contract.
+use Rattle.std.proofs.Common.{◌+◌, ◌<◌, length, refl, ap, arith}
+use Rattle.theory.specs.Study.{tail, head}
 use Rattle.routes.specs.Laws.Next.{gives}
 use Rattle.routes.specs.Laws.Own.{own-begins, own-ends, own_at, own-goes}
 use Rattle.routes.proofs.next.put_own.Goals as goal
-use Rattle.routes.proofs.next.put_own.Goals.{After-index, After-index-i, After-index-j, After-l-in-loop-l-1, After-node_of}
+use Rattle.routes.proofs.next.put_own.Goals.{After-index, After-index-i, After-index-j, After-node_of}
 
 -- The destination is one of 128 nodes.
 destination : (c : After-node_of) → c.node_of.result < 128
@@ -46,7 +44,12 @@ bounds-links-i c = (at-link (goal.at.bounds-links-i c).After-index-i).0
 
 -- Its tail
 tail-node : (c : After-index-j) → c.index-j.result < 128
-tail-node c = omega (arith, c.index-j.ensures, (at-link c.before.before).2)
+tail-node c = omega (
+  arith,
+  c.index-j.ensures,
+  own_at c.requires.each_searchable.0 c.requires.each_searchable.1 c.requires.into_value.1 c.requires.into_value.0 c.loop-l.invariant c.loop-l-test.true c.index-i.ensures,
+  (c.requires.each_searchable.0.each c.args.k c.requires.into_value.1).roads.few-nodes,
+)
 
 pub offset_bounds-links-i-in-loop-l : goal.offset_bounds-links-i-in-loop-l
 offset_bounds-links-i-in-loop-l c = omega (arith, (at-link (goal.at.offset_bounds-links-i-in-loop-l c).After-index-i).1)
@@ -56,7 +59,12 @@ bounds-links-i-in-loop-l c = (at-link (goal.at.bounds-links-i-in-loop-l c).After
 
 -- and its head are among 128 nodes.
 head-node : (c : After-index) → c.index.result < 128
-head-node c = omega (arith, c.index.ensures, (at-link c.before.before.before.before).3)
+head-node c = omega (
+  arith,
+  c.index.ensures,
+  own_at c.requires.each_searchable.0 c.requires.each_searchable.1 c.requires.into_value.1 c.requires.into_value.0 c.loop-l.invariant c.loop-l-test.true c.index-i.ensures,
+  (c.requires.each_searchable.0.each c.args.k c.requires.into_value.1).roads.few-nodes,
+)
 
 pub offset_bounds-marks-index : goal.offset_bounds-marks-index
 offset_bounds-marks-index c = omega (arith, head-node (goal.at.offset_bounds-marks-index c).After-index)
@@ -114,22 +122,19 @@ pub bounds-into-i : goal.bounds-into-i
 bounds-into-i c = omega (arith, (at-link (goal.at.bounds-into-i c).After-index-i).1)
 
 -- The next link of the chain is higher, and the walk may go on from it.
-higher :
-    (c : After-l-in-loop-l-1) →
-    let x = (c).args in
-    let l = get_or x.into.now (384 + c.index-i.result) 0 in
-    let turn = c.loop-l in
-    (turn.l < l) × OwnBelow x.nodes x.links.now x.times.now (get_or x.group.now x.k 0) l
-    (set turn.row c.index-j.result c.lower.result)
-higher c =
-    own-goes c.requires.each_searchable.0 c.requires.each_searchable.1 c.requires.into_value.1 c.requires.into_value.0 c.loop-l.inv c.loop-l-test.taken
-    c.index-i.ensures c.index-j.ensures c.index.ensures c.lower.ensures refl
-
 pub loop-l-smaller : goal.loop-l-smaller
-loop-l-smaller c = omega (arith, (higher (goal.at.loop-l-smaller c).After-l-in-loop-l-1).0, (at-link (goal.at.loop-l-smaller c).After-index-i).1)
+loop-l-smaller c =
+    let (chain, place, row) = c.requires.into_value in
+    let next =
+    own-goes c.requires.each_searchable.0 c.requires.each_searchable.1 place chain c.loop-l.invariant c.loop-l-test.true
+    c.index-i.ensures c.index-j.ensures c.index.ensures c.lower.ensures refl in
+    omega (arith, next.0, (at-link (goal.at.loop-l-smaller c).After-index-i).1)
 
 pub loop-l-preserved : goal.loop-l-preserved
-loop-l-preserved c = (higher (goal.at.loop-l-preserved c).After-l-in-loop-l-1).1
+loop-l-preserved c =
+    let (chain, place, row) = c.requires.into_value in
+    (own-goes c.requires.each_searchable.0 c.requires.each_searchable.1 place chain c.loop-l.invariant c.loop-l-test.true
+    c.index-i.ensures c.index-j.ensures c.index.ensures c.lower.ensures refl).1
 
 pub returns : goal.returns
 returns c =

@@ -1,10 +1,8 @@
--- `next::put_own` meets its contract. The loop's invariant: the row has for each node the first fitting link of those whose head is open or that are
--- below `l`; and `l` is a link into the closed destination, or none. The links of a chain rise, so the measure is what is left to `NO_LINK`.
-use Rattle.std.proofs.Common.{◌+◌, ◌-◌, ◌<◌, length, get_or, set, refl, ap, arith, rules}
-use Rattle.theory.specs.Study.{tail, head, no_link}
+-- The loop's invariant: the row has for each node the first fitting link of those whose head is open or that are below `l`; and `l` is a link into
+-- the closed destination, or none. The links of a chain rise, so the measure is what is left to `NO_LINK`.
+use Rattle.std.proofs.Common.{◌-◌, get_or}
+use Rattle.theory.specs.Study.{no_link}
 use Rattle.routes.specs.Next.{OwnBelow}
-use Rattle.routes.specs.Laws.Next.{gives}
-use Rattle.routes.specs.Laws.Own.{own-begins, own-ends, own_at, own-goes}
 use Rattle.routes.proofs.next.put_own.Given as goal
 
 abbrev pub invariant-loop-l : goal.invariant-loop-l

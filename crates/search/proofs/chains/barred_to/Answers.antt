@@ -1,5 +1,4 @@
 -- `chains::barred_to` meets its contract.
-use borrow.Author.Rules.{rules}
 use Rattle.theory.specs.Study.{barred_to}
 use Rattle.search.proofs.chains.barred_to.Goals as goal
 

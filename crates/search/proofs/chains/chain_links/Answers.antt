@@ -1,11 +1,10 @@
--- `chains::chain_links` meets its contract. The loop's invariant: the links from `l` on are in their chains. The measure is `l`.
-use Prim.Native.Nat.{◌+◌, ◌-◌, ◌≤◌, ◌<◌}
+-- `chains::chain_links` meets its contract.
+use Prim.Native.Nat.{◌+◌, ◌-◌, ◌<◌}
 use mathlib.Core.Path.{◌≡◌, ◌∙◌}
 use native.Mathlib.Omega.{arith}
 use borrow.Author.Rules.{rules}
-use lib.ListN.{length}
 use Rattle.search.specs.Chains.{end_of}
-use Rattle.search.specs.Laws.Chains.{end_row, end-node, end-place, ChainedFrom, chains-begin, chains-take, chains-end}
+use Rattle.search.specs.Laws.Chains.{end_row, end-node, end-place, chains-begin, chains-take, chains-end}
 use Rattle.search.proofs.chains.chain_links.Goals as goal
 use Rattle.search.proofs.chains.chain_links.Goals.{After-end_of-j}
 

@@ -1,5 +1,4 @@
 -- `chains::end_of` meets its contract.
-use borrow.Author.Rules.{rules}
 use mathlib.Core.Path.{sym, ◌∙◌, ap}
 use Prim.Native.Nat.{◌+◌}
 use Rattle.search.specs.Laws.Chains.{place-barred, place-open, place-closed}

@@ -1,7 +1,6 @@
 -- `put_chains` meets its contract: each of the two rows has its own chains.
 use mathlib.Core.Path.{◌≡◌, ap}
 use native.Mathlib.Omega.{arith}
-use borrow.Author.Rules.{rules}
 use lib.ListN.{length}
 use Rattle.search.specs.Laws.Chains.{still-two, linked-rows}
 use Rattle.search.proofs.chains.put_chains.Goals as goal
@@ -16,7 +15,7 @@ bounds-chains-0 c = omega (arith, two (goal.at.bounds-chains-0 c).Start)
 
 pub bounds-chains-1 : goal.bounds-chains-1
 bounds-chains-1 c =
-    omega (arith, still-two c.args.chains.now (two (goal.at.bounds-chains-1 c).Start) c.chain_links.new.1.1.1.0)
+    omega (arith, still-two c.args.chains.now (two (goal.at.bounds-chains-1 c).Start) c.chain_links.new.chain)
 
 pub returns : goal.returns
 returns c =

@@ -1,12 +1,8 @@
--- `groups::any_trips` meets its contract. The loop's invariant: all bits so far are 0 if and only if the first `i` numbers are. The measure is
--- what is left of the numbers.
-use Prim.Native.Nat.{◌-◌, ◌≤◌}
+-- `groups::any_trips` meets its contract.
 use mathlib.Core.Path.{◌≡◌, refl}
-use mathlib.Core.Logic.{◌↔◌}
 use native.Mathlib.Omega.{arith}
 use borrow.Author.Rules.{rules}
 use lib.ListN.{length}
-use Rattle.search.specs.Groups.{ZeroBelow}
 use Rattle.search.specs.Laws.Trips.{zero_more}
 use Rattle.search.proofs.groups.any_trips.Goals as goal
 

@@ -1,11 +1,7 @@
--- `groups::group_of` meets its contract. The loop's invariant: the first `k` destinations of the group are members of it. The measure is what is
--- left of the group.
-use Prim.Native.Nat.{◌-◌, ◌≤◌}
+-- `groups::group_of` meets its contract.
 use mathlib.Core.Path.{◌≡◌, refl}
 use native.Mathlib.Omega.{arith}
 use borrow.Author.Rules.{rules}
-use Rattle.search.specs.Rows.{Worked}
-use Rattle.search.specs.Groups.{Member}
 use Rattle.search.specs.Laws.Rows.{worked-none, worked-more}
 use Rattle.search.proofs.groups.group_of.Goals as goal
 

@@ -1,7 +1,6 @@
 -- `groups::group_trips` meets its contract: the part of the trips that it looks at is that of the group.
 use Prim.Native.Nat.{◌*◌, ◌≤◌}
 use native.Mathlib.Omega.{arith}
-use borrow.Author.Rules.{rules}
 use Rattle.search.specs.Laws.Trips.{group-within, no-trips}
 use Rattle.search.proofs.groups.group_trips.Goals as goal
 use Rattle.search.proofs.groups.group_trips.Goals.{Start}

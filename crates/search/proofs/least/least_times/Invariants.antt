@@ -1,15 +1,8 @@
--- `least::least_times` meets its contract. The loop's invariant: the destinations below `first` are added, and the sum is small. The measure
--- is what is left of the destinations.
-use Prim.Native.Nat.{◌+◌, ◌*◌, ◌-◌, ◌≤◌, ◌<◌, min}
-use mathlib.Core.Path.{◌≡◌, sym, ◌∙◌}
-use mathlib.Core.Logic.{⊎_elim}
-use native.Mathlib.Nat.{mul-le-mul_right}
-use native.Mathlib.Omega.{arith}
-use borrow.Author.Rules.{rules}
+-- The loop's invariant: the destinations below `first` are added, and the sum is small. The measure is what is left of the destinations.
+use Prim.Native.Nat.{◌*◌, ◌-◌, ◌≤◌, min}
+use mathlib.Core.Path.{◌≡◌}
 use lib.ListN.{length}
 use Rattle.search.specs.Least.{most_at_node, least_below}
-use Rattle.search.specs.Laws.Groups.{group-class, members-searchable}
-use Rattle.search.specs.Laws.Least.{group-adds, all_none, all_more, all-skip, all-below}
 use Rattle.search.proofs.least.least_times.Given as goal
 
 abbrev pub invariant-loop-first : goal.invariant-loop-first

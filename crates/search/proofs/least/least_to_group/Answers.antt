@@ -1,12 +1,11 @@
--- `least::least_to_group` meets its contract. The loop's invariant: the destinations below `k` are added. The measure is what is left of the
--- group.
+-- `least::least_to_group` meets its contract.
 use Prim.Native.Nat.{◌+◌, ◌*◌, ◌-◌, ◌≤◌}
 use native.Mathlib.Nat.{mul-le-mul_right}
 use native.Mathlib.Omega.{arith}
 use borrow.Author.Rules.{rules}
 use mathlib.Core.Path.{◌≡◌}
 use lib.ListN.{length, take, drop}
-use Rattle.search.specs.Least.{most_at_node, LeastToGroup}
+use Rattle.search.specs.Least.{most_at_node}
 use Rattle.search.specs.Laws.Trips.{length_part, group-within}
 use Rattle.search.specs.Laws.Least.{group-none, group-more}
 use Rattle.search.proofs.least.least_to_group.Goals as goal

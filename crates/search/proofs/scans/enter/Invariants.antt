@@ -1,11 +1,6 @@
--- `scans::enter` meets its contract. The loop's invariant: the links into the first `k` destinations are scanned, where these are closed. The
--- measure is what is left of the group.
-use Prim.Native.Nat.{◌-◌, ◌≤◌, ◌<◌}
-use mathlib.Core.Path.{◌≡◌, refl}
-use native.Mathlib.Omega.{arith}
-use borrow.Author.Rules.{rules}
+-- The loop's invariant: the links into the first `k` destinations are scanned, where these are closed. The measure is what is left of the group.
+use Prim.Native.Nat.{◌-◌, ◌≤◌}
 use Rattle.search.specs.Lanes.{EachEntered}
-use Rattle.search.specs.Laws.Lanes.{enter-marked, enter-hands, enter-more}
 use Rattle.search.proofs.scans.enter.Given as goal
 
 abbrev pub invariant-loop-k : goal.invariant-loop-k

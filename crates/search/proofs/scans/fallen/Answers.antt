@@ -1,9 +1,7 @@
--- `scans::fallen` meets its contract. The loop's invariant: the first `k` marks are compared. The measure is what is left of the row.
-use Prim.Native.Nat.{◌-◌, ◌≤◌}
+-- `scans::fallen` meets its contract.
 use mathlib.Core.Path.{◌≡◌}
 use native.Mathlib.Omega.{arith}
 use borrow.Author.Rules.{rules}
-use Rattle.search.specs.Lanes.{Compared}
 use Rattle.search.specs.Laws.Rows.{compared-none, compared-more}
 use Rattle.search.proofs.scans.fallen.Goals as goal
 

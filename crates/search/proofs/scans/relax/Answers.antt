@@ -1,12 +1,9 @@
--- `scans::relax` meets its contract. The loop's invariant: the first `k` marks of the tail's row are lowered to what the link gives. The
--- measure is what is left of the row.
-use Prim.Native.Nat.{◌+◌, ◌-◌, ◌≤◌, min}
+-- `scans::relax` meets its contract.
+use Prim.Native.Nat.{min}
 use mathlib.Core.Path.{◌≡◌, ◌∙◌, ap}
 use native.Mathlib.Nat.{le_refl}
 use native.Mathlib.Omega.{arith}
 use borrow.Author.Rules.{rules}
-use lib.ListN.{get_or}
-use Rattle.search.specs.Rows.{Worked}
 use Rattle.search.specs.Laws.Rows.{worked-none, worked-more}
 use Rattle.search.specs.Laws.Lanes.{row-most, each-relaxed}
 use Rattle.search.proofs.scans.relax.Goals as goal

@@ -1,16 +1,12 @@
--- `scans::scan` meets its contract. The loop's invariant: in each lane, whichever group the searches are to, the links below `l` that end at the
--- place are relaxed, and `l` is such a link, or none. The links of a chain rise, so the measure is what is left to `NO_LINK`.
-use Prim.Native.Nat.{ℕ, ◌+◌, ◌-◌, ◌≤◌, ◌<◌}
-use mathlib.Core.Path.{◌≡◌, refl}
+-- The loop's invariant: in each lane, whichever group the searches are to, the links below `l` that end at the place are relaxed, and `l` is such a
+-- link, or none. The links of a chain rise, so the measure is what is left to `NO_LINK`.
+use Prim.Native.Nat.{ℕ, ◌-◌}
+use mathlib.Core.Path.{◌≡◌}
 use mathlib.Core.List.{List}
-use native.Mathlib.Omega.{arith}
-use borrow.Author.Rules.{rules}
-use lib.ListN.{length, get_or}
-use Rattle.theory.specs.Study.{tail, no_link}
-use Rattle.search.specs.Given.{longest, class_of}
+use Rattle.theory.specs.Study.{no_link}
+use Rattle.search.specs.Given.{class_of}
 use Rattle.search.specs.Chains.{chain_of}
 use Rattle.search.specs.Lanes.{EachSearchable, EachSearching, EachHands, EachScanning}
-use Rattle.search.specs.Laws.Lanes.{each-begins, each-ends, each-marked, each_at, each_goes}
 use Rattle.search.proofs.scans.scan.Given as goal
 
 abbrev pub invariant-loop-l : goal.invariant-loop-l

@@ -1,13 +1,10 @@
--- `scans::search` meets its contract. The search sets out with all marks unreached, and with no node scanned. The first loop's invariant:
--- the first `k` destinations of the group are marked, and nothing else is. Then the links into closed destinations are scanned. The second loop's: in each lane the marks are those of a search
--- under way, and no link gives its tail less than its mark by the mark that its head had when it was last scanned. The sum of those falls with
--- each sweep that scans a node; after one that scans none the marks are the distances.
+-- The search sets out with all marks unreached, and with no node scanned. The first loop's invariant: the first `k` destinations of the group are
+-- marked, and nothing else is. Then the links into closed destinations are scanned. The second loop's: in each lane the marks are those of a search
+-- under way, and no link gives its tail less than its mark by the mark that its head had when it was last scanned. The sum of those falls with each
+-- sweep that scans a node; after one that scans none the marks are the distances.
 use Prim.Native.Nat.{◌-◌, ◌≤◌}
-use mathlib.Core.Path.{◌≡◌, refl}
-use native.Mathlib.Omega.{arith}
-use borrow.Author.Rules.{rules}
+use mathlib.Core.Path.{◌≡◌}
 use Rattle.search.specs.Lanes.{all_rows_unreached, totals, SetOut, EachScans}
-use Rattle.search.specs.Laws.Lanes.{set-none, set_more, set_all, enter-all, sweep-found}
 use Rattle.search.proofs.scans.search.Given as goal
 
 abbrev pub invariant-loop-k : goal.invariant-loop-k

@@ -1,8 +1,6 @@
--- `scans::sweep_down` meets its contract. The loop's invariant: nodes are visited, in whatever order. The measure is `k`.
-use Prim.Native.Nat.{◌+◌, ◌≤◌}
+-- `scans::sweep_down` meets its contract.
 use native.Mathlib.Omega.{arith}
 use borrow.Author.Rules.{rules}
-use Rattle.search.specs.Lanes.{totals, Swept}
 use Rattle.search.specs.Laws.Lanes.{sweep-begins, sweep-visits}
 use Rattle.search.proofs.scans.sweep_down.Goals as goal
 

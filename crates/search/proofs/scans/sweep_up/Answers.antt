@@ -1,9 +1,7 @@
--- `scans::sweep_up` meets its contract. The loop's invariant: the nodes below `k` are visited. The measure is what is left of the nodes.
-use Prim.Native.Nat.{◌-◌, ◌≤◌}
+-- `scans::sweep_up` meets its contract.
 use mathlib.Core.Path.{◌≡◌, refl}
 use native.Mathlib.Omega.{arith}
 use borrow.Author.Rules.{rules}
-use Rattle.search.specs.Lanes.{totals, Swept}
 use Rattle.search.specs.Laws.Lanes.{sweep-begins, sweep-goes}
 use Rattle.search.proofs.scans.sweep_up.Goals as goal
 

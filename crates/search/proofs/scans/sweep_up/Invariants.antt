@@ -1,10 +1,6 @@
--- `scans::sweep_up` meets its contract. The loop's invariant: the nodes below `k` are visited. The measure is what is left of the nodes.
+-- The loop's invariant: the nodes below `k` are visited. The measure is what is left of the nodes.
 use Prim.Native.Nat.{◌-◌, ◌≤◌}
-use mathlib.Core.Path.{◌≡◌, refl}
-use native.Mathlib.Omega.{arith}
-use borrow.Author.Rules.{rules}
 use Rattle.search.specs.Lanes.{totals, Swept}
-use Rattle.search.specs.Laws.Lanes.{sweep-begins, sweep-goes}
 use Rattle.search.proofs.scans.sweep_up.Given as goal
 
 abbrev pub invariant-loop-k : goal.invariant-loop-k

@@ -22,7 +22,7 @@ pub bounds-scanned-k : goal.bounds-scanned-k
 bounds-scanned-k c = node (goal.at.bounds-scanned-k c).Start
 
 pub fallen-requires : goal.fallen-requires
-fallen-requires c = above_at c.requires.each_searchable.0 c.requires.each_scans.0 (node (goal.at.fallen-requires c).Start) i h
+fallen-requires c = above_at c.requires.each_searchable.0 c.requires.each_scans.0 (node (goal.at.fallen-requires c).Start)
 
 pub offset_bounds-scanned-k-then-fallen-gt0 : goal.offset_bounds-scanned-k-then-fallen-gt0
 offset_bounds-scanned-k-then-fallen-gt0 c = omega (arith, node (goal.at.offset_bounds-scanned-k-then-fallen-gt0 c).Start)
