@@ -7,6 +7,10 @@ use Rattle.travel.specs.Laws.Choice.{roads-chosen, qualifies-yes, qualifies-no}
 use Rattle.travel.specs.Laws.Bisection.{Between, between-all, between-up, between-down}
 use Rattle.travel.proofs.choice.chosen.Given as goal
 
+-- Whether a number qualifies.
+abbrev qualifying : List (List ℕ) → List (List ℕ) → ℕ → ℕ → Bool
+qualifying links flows share j = qualifies (roads links) share (total_of flows) (load_of flows) j
+
 abbrev pub invariant-loop-low : goal.invariant-loop-low
 invariant-loop-low l =
     Between (min 64 (1024 - l.share)) (qualifying l.links l.flows l.share) l.low l.high

@@ -9,6 +9,10 @@ use Rattle.travel.specs.Laws.Costs.{heights-most}
 use Rattle.travel.specs.Laws.Powers.{risen_at, list-within, power_below, rise-most, rise-at, heights-risen}
 use Rattle.travel.proofs.costs.heights_below.Given as goal
 
+-- What the first r treads of a link rise.
+abbrev pub risen-of : List ℕ → ℕ → ℕ
+risen-of link r = sum r (risen_at (get_or link 3 0) (row_power link))
+
 abbrev pub invariant-loop-r : goal.invariant-loop-r
 invariant-loop-r l = (l.r ≤ l.step) × (l.risen ≡ risen-of l.link l.r)
 

@@ -43,4 +43,4 @@ shape_of-curves c = c.loop-l.invariant.3
 pub returns : goal.returns
 returns c =
     let end : c.loop-l.l ≡ length c.args.links.now = omega arith in
-    (record { powers = c.loop-l.invariant.1; reciprocals = rw end c c.loop-l.invariant.2 }, c.loop-l.invariant.3)
+    (record { powers = c.loop-l.invariant.1; reciprocals = rw end at c.loop-l.invariant.2 }, c.loop-l.invariant.3)
