@@ -1,7 +1,6 @@
 -- `row_balances` meets its contract. The invariant: the nodes passed balance. The measure is what is left of the nodes.
 -- Assumes nothing.
-use Rattle.std.proofs.Common.{◌≡◌, ℕ, ◌-◌, ◌*◌, ◌<◌, ◌≤◌, true, List, length, get_or, sym, ⊎_elim, mul-le-mul, arith, w16, w32, Fits, rules}
-use Rattle.travel.specs.Links.{row_balances}
+use Rattle.std.proofs.Common.{◌≡◌, ℕ, ◌*◌, ◌<◌, ◌≤◌, List, length, get_or, sym, mul-le-mul, arith, w16, w32, Fits, rules}
 use Rattle.travel.specs.Ranges.{most_flow, ClearPast, SumsAt}
 use Rattle.travel.specs.Laws.Sums.{sums_none, sums-most, sums-past}
 use Rattle.travel.specs.Laws.Balance.{balances-none, balances-there, balances-more, balances-fails}
@@ -86,9 +85,9 @@ loop-j-preserved c =
     let so_far = c.loop-j.invariant.1 in (
       search rules,
       elim c.if-j-destination.branch [
-          then-j-destination+else-out-j w ↦ balances-more _ _ _ _ _ _ _ outs ins c.loop-j.j (node (goal.at.loop-j-preserved c).In-loop-j) so_far w.if-out-j.false
+        | then-j-destination+else-out-j w ↦ balances-more _ _ _ _ _ _ _ outs ins c.loop-j.j (node (goal.at.loop-j-preserved c).In-loop-j) so_far w.if-out-j.false
         | else-j-destination w ↦ balances-there _ _ _ _ _ c.loop-j.j so_far w.if-j-destination.false
-        ],
+      ],
     )
 
 pub returns : goal.returns

@@ -1,10 +1,8 @@
 -- `chosen` meets its contract. The invariant: the j that is sought is `low` or above, and not above `high`. The measure is what lies
 -- between them. Assumes nothing.
-use Rattle.std.proofs.Common.{◌≡◌, ℕ, ◌-◌, min, Bool, List, sym, arith, rules}
-use Rattle.theory.specs.Moves.{qualifies}
-use Rattle.travel.specs.Links.{roads, total_of, load_of}
+use Rattle.std.proofs.Common.{◌≡◌, sym, arith, rules}
 use Rattle.travel.specs.Laws.Choice.{roads-chosen, qualifies-yes, qualifies-no}
-use Rattle.travel.specs.Laws.Bisection.{Between, between-all, between-up, between-down}
+use Rattle.travel.specs.Laws.Bisection.{between-all, between-up, between-down}
 use Rattle.travel.proofs.choice.chosen.Goals as goal
 
 pub loop-low-init : goal.loop-low-init

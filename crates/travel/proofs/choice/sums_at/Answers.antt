@@ -1,10 +1,10 @@
 -- `sums_at` meets its contract. The invariant: the products of the links passed are added on both sides. The measure is what is left
 -- of the links. Assumes nothing.
-use Rattle.std.proofs.Common.{◌≡◌, ℕ, ◌+◌, ◌-◌, ◌*◌, ◌<◌, ◌≤◌, List, [], length, get_or, sym, ap, ◌∙◌, mul-le-mul, arith, rules}
+use Rattle.std.proofs.Common.{◌≡◌, ℕ, ◌+◌, ◌*◌, ◌<◌, ◌≤◌, List, [], length, get_or, sym, ap, ◌∙◌, mul-le-mul, arith, rules}
 use Rattle.theory.specs.Study.{capacity}
 use Rattle.travel.specs.Links.{row_time, total_of, load_of, share_parts, reciprocal}
 use Rattle.travel.specs.Ranges.{MoveFits, Curves, most_flow, most_time}
-use Rattle.travel.specs.Laws.Choice.{moved_at, moved_to, moved-flow, moved_none, moved_more, moved_all, moved-most}
+use Rattle.travel.specs.Laws.Choice.{moved_at, moved-flow, moved_none, moved_more, moved_all, moved-most}
 use Rattle.travel.specs.Laws.Powers.{list_at}
 use Rattle.travel.specs.Laws.Reciprocals.{Divisible, share-product, capacity-product, step_by_lem}
 use Rattle.travel.proofs.choice.sums_at.Goals as goal

@@ -1,12 +1,8 @@
 -- `sums_at` meets its contract. The invariant: the products of the links passed are added on both sides. The measure is what is left
 -- of the links. Assumes nothing.
-use Rattle.std.proofs.Common.{◌≡◌, ℕ, ◌+◌, ◌-◌, ◌*◌, ◌<◌, ◌≤◌, List, [], length, get_or, sym, ap, ◌∙◌, mul-le-mul, arith, rules}
-use Rattle.theory.specs.Study.{capacity}
-use Rattle.travel.specs.Links.{row_time, total_of, load_of}
-use Rattle.travel.specs.Ranges.{most_flow, most_time}
-use Rattle.travel.specs.Laws.Choice.{moved_at, moved_to, moved-flow, moved_none, moved_more, moved_all, moved-most}
-use Rattle.travel.specs.Laws.Powers.{list_at}
-use Rattle.travel.specs.Laws.Reciprocals.{Divisible, share-product, capacity-product, step_by_lem}
+use Rattle.std.proofs.Common.{◌≡◌, ℕ, ◌-◌, ◌≤◌, List, length}
+use Rattle.travel.specs.Links.{total_of, load_of}
+use Rattle.travel.specs.Laws.Choice.{moved_to}
 use Rattle.travel.proofs.choice.sums_at.Given as goal
 
 -- The sum of amount × time over the first l links.

@@ -1,12 +1,9 @@
 -- `heights_below` meets its contract. The invariant: what the treads passed rise is added. The measure is what is left of the treads.
 -- Assumes nothing.
-use Rattle.std.proofs.Common.{◌≡◌, ℕ, ◌+◌, ◌-◌, ◌*◌, ◌/◌, ◌<◌, ◌≤◌, List, get_or, sym, refl, ap, ◌∙◌, ap₂, arith, rules}
+use Rattle.std.proofs.Common.{◌≡◌, ℕ, ◌-◌, ◌≤◌, List, get_or}
 use Rattle.theory.specs.Finite.{sum}
-use Rattle.theory.specs.Laws.Finite.{sum-suc}
-use Rattle.travel.specs.Links.{row_power, row_time}
-use Rattle.travel.specs.Ranges.{most_time}
-use Rattle.travel.specs.Laws.Costs.{heights-most}
-use Rattle.travel.specs.Laws.Powers.{risen_at, list-within, power_below, rise-most, rise-at, heights-risen}
+use Rattle.travel.specs.Links.{row_power}
+use Rattle.travel.specs.Laws.Powers.{risen_at}
 use Rattle.travel.proofs.costs.heights_below.Given as goal
 
 -- What the first r treads of a link rise.

@@ -1,5 +1,5 @@
 -- `link_cost` meets its contract: what it adds up is the staircase (`treads-cost`). Assumes nothing.
-use Rattle.std.proofs.Common.{◌≡◌, ℕ, ◌+◌, ◌-◌, ◌*◌, ◌≤◌, get_or, ap, ◌∙◌, arith, w16, Fits, rules}
+use Rattle.std.proofs.Common.{◌≡◌, ◌+◌, ◌-◌, ◌*◌, ◌≤◌, get_or, ap, ◌∙◌, arith, w16, Fits, rules}
 use Rattle.theory.specs.Flows.{is_over}
 use Rattle.theory.specs.Cost.{link_cost}
 use Rattle.travel.specs.Links.{row_time}

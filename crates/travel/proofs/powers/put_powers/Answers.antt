@@ -1,6 +1,6 @@
 -- `put_powers` meets its contract. The invariant: there is room for four lists, and those passed are put. The measure is what is left of
 -- the lists. Assumes nothing.
-use Rattle.std.proofs.Common.{◌≡◌, ℕ, ◌+◌, ◌-◌, ◌*◌, ◌≤◌, length, ⊎_elim, arith, rules}
+use Rattle.std.proofs.Common.{◌≡◌, ℕ, ◌+◌, ◌*◌, ◌≤◌, length, ⊎_elim, arith, rules}
 use Rattle.travel.specs.Laws.Powers.{ListsTo, lists-none, lists-more, lists-all}
 use Rattle.travel.proofs.powers.put_powers.Goals as goal
 use Rattle.travel.proofs.powers.put_powers.Goals.{After-put_list, Else-curves-eq-ONE_LIST, Start}

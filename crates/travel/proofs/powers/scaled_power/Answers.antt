@@ -1,6 +1,6 @@
 -- `scaled_power` meets its contract. The invariant: the factors passed are multiplied. The measure is what is left of the four factors.
 -- Assumes nothing.
-use Rattle.std.proofs.Common.{◌≡◌, ◌+◌, ◌-◌, ◌*◌, ◌≤◌, sym, ◌∙◌, ap₂, ⊎_elim, le_trans, arith, rules}
+use Rattle.std.proofs.Common.{◌≡◌, ◌+◌, ◌*◌, ◌≤◌, sym, ◌∙◌, ap₂, le_trans, arith, rules}
 use native.Mathlib.Nat.{pow-le-pow_right}
 use Rattle.travel.specs.Laws.Powers.{factors, factors-none, factors-first, factors-later, factors-all, factors-most}
 use Rattle.travel.proofs.powers.scaled_power.Goals as goal
@@ -12,8 +12,8 @@ turn : (c : Joined-k-i) →
 turn c =
     let x = c.args in
     elim c.if-k-i.branch [
-      then-k-i w ↦ ap₂ ◌*◌ c.loop-k.invariant.1 w.factor-is ∙ sym (factors-first x.i x.r c.loop-k.k w.if-k-i.true)
-    | else-k-i w ↦ ap₂ ◌*◌ c.loop-k.invariant.1 w.factor-is ∙ sym (factors-later x.i x.r c.loop-k.k w.if-k-i.false)
+      | then-k-i w ↦ ap₂ ◌*◌ c.loop-k.invariant.1 w.factor-is ∙ sym (factors-first x.i x.r c.loop-k.k w.if-k-i.true)
+      | else-k-i w ↦ ap₂ ◌*◌ c.loop-k.invariant.1 w.factor-is ∙ sym (factors-later x.i x.r c.loop-k.k w.if-k-i.false)
     ]
 
 -- and four factors, none of them more than 256, are a product of 64 bits.

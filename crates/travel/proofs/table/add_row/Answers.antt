@@ -1,7 +1,6 @@
 -- `add_row` meets its contract. The invariant: the row is added to the sums passed. The measure is what is left of the links.
 -- Assumes nothing.
-use Rattle.std.proofs.Common.{◌≡◌, ◌-◌, ◌≤◌, length, ◌∙◌, arith, length-set, rules}
-use Rattle.travel.specs.Ranges.{RowAdded}
+use Rattle.std.proofs.Common.{◌≡◌, ◌∙◌, arith, length-set, rules}
 use Rattle.travel.specs.Laws.Rows.{row-none, row_more}
 use Rattle.travel.proofs.table.add_row.Goals as goal
 
