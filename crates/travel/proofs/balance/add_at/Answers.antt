@@ -1,12 +1,11 @@
 -- `add_at` meets its contract. The invariant: both sums are those of the links passed. The measure is what is left of the links.
 -- Assumes nothing.
-use Rattle.std.proofs.Common.{◌≡◌, ℕ, ◌-◌, ◌*◌, ◌<◌, ◌≤◌, length, get_or, arith, rules}
+use Rattle.std.proofs.Common.{◌≡◌, ℕ, ◌*◌, ◌<◌, ◌≤◌, length, get_or, arith, w32, Fits, rules}
 use Rattle.theory.specs.Study.{column}
 use Rattle.theory.specs.Flows.{sum_at}
-use Rattle.travel.specs.Ranges.{SumsAt}
 use Rattle.travel.specs.Laws.Sums.{sums-more, sums-most}
 use Rattle.travel.proofs.balance.add_at.Goals as goal
-use Rattle.travel.proofs.balance.add_at.Goals.{After-shared_slice_known-1, In-loop-l}
+use Rattle.travel.proofs.balance.add_at.Goals.{In-loop-l}
 
 -- The tail and the head of the link of a turn are nodes.
 tail-fits : (c : In-loop-l) → column 0 c.args.links.now c.loop-l.l < 128
@@ -16,10 +15,10 @@ head-fits : (c : In-loop-l) → column 1 c.args.links.now c.loop-l.l < 128
 head-fits c = c.requires.ends_fit.0.head-node c.loop-l.l (omega arith)
 
 -- No flow is more than a number of 32 bits, and no sum more than 512 of them.
-flow-most : (c : After-shared_slice_known-1) (i : ℕ) → get_or c.args.row.now i 0 ≤ 4294967295
-flow-most c i = omega (arith, c.shared_slice_known-1.given i)
+flow-most : (c : In-loop-l) (i : ℕ) → get_or c.args.row.now i 0 ≤ 4294967295
+flow-most c i = let fits : Fits w32 (get_or c.args.row.now i 0) = search rules in omega arith
 
-sum-most : (c : After-shared_slice_known-1) (end node : ℕ) →
+sum-most : (c : In-loop-l) (end node : ℕ) →
     let x = c.args in
     sum_at c.loop-l.l (column end x.links.now) node (λ i. get_or x.row.now i 0) ≤ 512 * 4294967295
 sum-most c end node =
@@ -30,7 +29,7 @@ pub loop-l-init : goal.loop-l-init
 loop-l-init c = (search rules, c.requires.sums_at.0, c.requires.sums_at.1)
 
 pub overflow_cast-flow : goal.overflow_cast-flow
-overflow_cast-flow c = omega (arith, flow-most (goal.at.overflow_cast-flow c).After-shared_slice_known-1 c.loop-l.l)
+overflow_cast-flow c = omega (arith, flow-most (goal.at.overflow_cast-flow c).In-loop-l c.loop-l.l)
 
 pub overflow_cast-tail : goal.overflow_cast-tail
 overflow_cast-tail c = omega (arith, tail-fits (goal.at.overflow_cast-tail c).In-loop-l)
@@ -44,7 +43,7 @@ bounds-out-tail c = tail-fits (goal.at.bounds-out-tail c).In-loop-l
 pub overflow_add-out : goal.overflow_add-out
 overflow_add-out c =
     let node = column 0 c.args.links.now c.loop-l.l in
-    omega (arith, c.loop-l.invariant.1.at node (tail-fits (goal.at.overflow_add-out c).In-loop-l), sum-most (goal.at.overflow_add-out c).After-shared_slice_known-1 0 node, flow-most (goal.at.overflow_add-out c).After-shared_slice_known-1 c.loop-l.l)
+    omega (arith, c.loop-l.invariant.1.at node (tail-fits (goal.at.overflow_add-out c).In-loop-l), sum-most (goal.at.overflow_add-out c).In-loop-l 0 node, flow-most (goal.at.overflow_add-out c).In-loop-l c.loop-l.l)
 
 pub bounds-out-tail-in-loop-l : goal.bounds-out-tail-in-loop-l
 bounds-out-tail-in-loop-l c = tail-fits (goal.at.bounds-out-tail-in-loop-l c).In-loop-l
@@ -61,7 +60,7 @@ bounds-into-head c = head-fits (goal.at.bounds-into-head c).In-loop-l
 pub overflow_add-into : goal.overflow_add-into
 overflow_add-into c =
     let node = column 1 c.args.links.now c.loop-l.l in
-    omega (arith, c.loop-l.invariant.2.at node (head-fits (goal.at.overflow_add-into c).In-loop-l), sum-most (goal.at.overflow_add-into c).After-shared_slice_known-1 1 node, flow-most (goal.at.overflow_add-into c).After-shared_slice_known-1 c.loop-l.l)
+    omega (arith, c.loop-l.invariant.2.at node (head-fits (goal.at.overflow_add-into c).In-loop-l), sum-most (goal.at.overflow_add-into c).In-loop-l 1 node, flow-most (goal.at.overflow_add-into c).In-loop-l c.loop-l.l)
 
 pub bounds-into-head-in-loop-l : goal.bounds-into-head-in-loop-l
 bounds-into-head-in-loop-l c = head-fits (goal.at.bounds-into-head-in-loop-l c).In-loop-l

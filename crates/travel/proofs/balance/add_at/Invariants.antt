@@ -1,10 +1,7 @@
 -- `add_at` meets its contract. The invariant: both sums are those of the links passed. The measure is what is left of the links.
 -- Assumes nothing.
-use Rattle.std.proofs.Common.{◌≡◌, ℕ, ◌-◌, ◌*◌, ◌<◌, ◌≤◌, length, get_or, arith, rules}
-use Rattle.theory.specs.Study.{column}
-use Rattle.theory.specs.Flows.{sum_at}
+use Rattle.std.proofs.Common.{◌-◌, ◌≤◌, length}
 use Rattle.travel.specs.Ranges.{SumsAt}
-use Rattle.travel.specs.Laws.Sums.{sums-more, sums-most}
 use Rattle.travel.proofs.balance.add_at.Given as goal
 
 abbrev pub invariant-loop-l : goal.invariant-loop-l

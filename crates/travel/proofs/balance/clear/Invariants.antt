@@ -1,8 +1,7 @@
 -- `clear` meets its contract. The invariant: the sums from node j on are 0. The measure is j.
 -- Assumes nothing.
-use Rattle.std.proofs.Common.{◌≡◌, ◌-◌, ◌≤◌, arith, rules}
+use Rattle.std.proofs.Common.{◌≤◌}
 use Rattle.travel.specs.Ranges.{ClearPast}
-use Rattle.travel.specs.Laws.Padded.{clear-more}
 use Rattle.travel.proofs.balance.clear.Given as goal
 
 abbrev pub invariant-loop-j : goal.invariant-loop-j

@@ -1,23 +1,22 @@
 -- `row_balances` meets its contract. The invariant: the nodes passed balance. The measure is what is left of the nodes.
 -- Assumes nothing.
-use Rattle.std.proofs.Common.{◌≡◌, ℕ, ◌-◌, ◌*◌, ◌<◌, ◌≤◌, true, List, length, get_or, sym, ⊎_elim, mul-le-mul, arith, rules}
-use Rattle.travel.specs.Links.{row_balances}
+use Rattle.std.proofs.Common.{◌≡◌, ℕ, ◌*◌, ◌<◌, ◌≤◌, List, length, get_or, sym, mul-le-mul, arith, w16, w32, Fits, rules}
 use Rattle.travel.specs.Ranges.{most_flow, ClearPast, SumsAt}
 use Rattle.travel.specs.Laws.Sums.{sums_none, sums-most, sums-past}
 use Rattle.travel.specs.Laws.Balance.{balances-none, balances-there, balances-more, balances-fails}
 use Rattle.travel.proofs.balance.row_balances.Goals as goal
-use Rattle.travel.proofs.balance.row_balances.Goals.{After-shared_slice_known-then-j-destination-1, At-loop-j, In-loop-j}
+use Rattle.travel.proofs.balance.row_balances.Goals.{Then-j-destination, At-loop-j, In-loop-j, then-j-destination+else-out-j, else-j-destination}
 
 -- There are at most 128 nodes.
 node : (c : In-loop-j) → c.loop-j.j < 128
 node c = omega (arith, c.requires.row_fits.0.few-nodes)
 
 -- D(j,s), W × D(j,s), and the flow into a node.
-trips-most : (c : After-shared_slice_known-then-j-destination-1) →
+trips-most : (c : Then-j-destination) →
     get_or c.args.trips.now c.loop-j.j 0 ≤ 65535
-trips-most c = omega (arith, c.shared_slice_known-then-j-destination-1.given c.loop-j.j)
+trips-most c = let fits : Fits w16 (get_or c.args.trips.now c.loop-j.j 0) = search rules in omega arith
 
-sent-most : (c : After-shared_slice_known-then-j-destination-1) →
+sent-most : (c : Then-j-destination) →
     c.args.share * get_or c.args.trips.now c.loop-j.j 0 ≤ most_flow
 sent-most c = mul-le-mul {n₂ = 1024} (search rules) (trips-most c)
 
@@ -26,11 +25,10 @@ into-most : (c : At-loop-j) {sums : List ℕ} →
     get_or sums c.loop-j.j 0 ≤ 512 * 4294967295
 into-most c ins p =
     let x = c.args in
-    let row-most = c.shared_slice_known-2-1.given in
     omega (
       arith,
       ins.at c.loop-j.j p,
-      sums-most x.links.now 1 x.row.now (length x.links.now) 4294967295 c.loop-j.j (λ i. omega (arith, row-most i)),
+      sums-most x.links.now 1 x.row.now (length x.links.now) 4294967295 c.loop-j.j (λ i. let fits : Fits w32 (get_or x.row.now i 0) = search rules in omega arith),
     )
 
 -- The ends of links are nodes, so past the nodes the sums stay 0.
@@ -67,13 +65,13 @@ pub loop-j-init : goal.loop-j-init
 loop-j-init c = (search rules, balances-none _ _ _ _ _)
 
 pub overflow_cast-sent-then-j-destination : goal.overflow_cast-sent-then-j-destination
-overflow_cast-sent-then-j-destination c = omega (arith, trips-most (goal.at.overflow_cast-sent-then-j-destination c).After-shared_slice_known-then-j-destination-1)
+overflow_cast-sent-then-j-destination c = omega (arith, trips-most (goal.at.overflow_cast-sent-then-j-destination c).Then-j-destination)
 
 pub overflow_mul-sent : goal.overflow_mul-sent
-overflow_mul-sent c = omega (arith, sent-most (goal.at.overflow_mul-sent c).After-shared_slice_known-then-j-destination-1, trips-most (goal.at.overflow_mul-sent c).After-shared_slice_known-then-j-destination-1)
+overflow_mul-sent c = omega (arith, sent-most (goal.at.overflow_mul-sent c).Then-j-destination, trips-most (goal.at.overflow_mul-sent c).Then-j-destination)
 
 pub overflow_add-into : goal.overflow_add-into
-overflow_add-into c = omega (arith, sent-most (goal.at.overflow_add-into c).After-shared_slice_known-then-j-destination-1, trips-most (goal.at.overflow_add-into c).After-shared_slice_known-then-j-destination-1, into-most (goal.at.overflow_add-into c).At-loop-j c.add_at.ensures.sums_at_3 (node (goal.at.overflow_add-into c).In-loop-j))
+overflow_add-into c = omega (arith, sent-most (goal.at.overflow_add-into c).Then-j-destination, trips-most (goal.at.overflow_add-into c).Then-j-destination, into-most (goal.at.overflow_add-into c).At-loop-j c.add_at.ensures.sums_at_3 (node (goal.at.overflow_add-into c).In-loop-j))
 
 pub returns-then-out-j : goal.returns-then-out-j
 returns-then-out-j c =
@@ -86,7 +84,10 @@ loop-j-preserved c =
     let ins = c.add_at.ensures.sums_at_3 in
     let so_far = c.loop-j.invariant.1 in (
       search rules,
-      ⊎_elim (λ w. balances-more _ _ _ _ _ _ _ outs ins c.loop-j.j (node (goal.at.loop-j-preserved c).In-loop-j) so_far w.4.left) (λ w. balances-there _ _ _ _ _ c.loop-j.j so_far w.left) c.if-j-destination.branch,
+      elim c.if-j-destination.branch [
+        | then-j-destination+else-out-j w ↦ balances-more _ _ _ _ _ _ _ outs ins c.loop-j.j (node (goal.at.loop-j-preserved c).In-loop-j) so_far w.if-out-j.false
+        | else-j-destination w ↦ balances-there _ _ _ _ _ c.loop-j.j so_far w.if-j-destination.false
+      ],
     )
 
 pub returns : goal.returns

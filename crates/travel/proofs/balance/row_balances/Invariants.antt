@@ -1,10 +1,7 @@
 -- `row_balances` meets its contract. The invariant: the nodes passed balance. The measure is what is left of the nodes.
 -- Assumes nothing.
-use Rattle.std.proofs.Common.{◌≡◌, ℕ, ◌-◌, ◌*◌, ◌<◌, ◌≤◌, true, List, length, get_or, sym, ⊎_elim, mul-le-mul, arith, rules}
+use Rattle.std.proofs.Common.{◌≡◌, ◌-◌, ◌≤◌, true}
 use Rattle.travel.specs.Links.{row_balances}
-use Rattle.travel.specs.Ranges.{most_flow, ClearPast, SumsAt}
-use Rattle.travel.specs.Laws.Sums.{sums_none, sums-most, sums-past}
-use Rattle.travel.specs.Laws.Balance.{balances-none, balances-there, balances-more, balances-fails}
 use Rattle.travel.proofs.balance.row_balances.Given as goal
 
 abbrev pub invariant-loop-j : goal.invariant-loop-j

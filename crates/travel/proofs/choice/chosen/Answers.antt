@@ -1,15 +1,9 @@
 -- `chosen` meets its contract. The invariant: the j that is sought is `low` or above, and not above `high`. The measure is what lies
 -- between them. Assumes nothing.
-use Rattle.std.proofs.Common.{◌≡◌, ℕ, ◌-◌, min, Bool, List, sym, arith, rules}
-use Rattle.theory.specs.Moves.{qualifies}
-use Rattle.travel.specs.Links.{roads, total_of, load_of}
+use Rattle.std.proofs.Common.{◌≡◌, sym, arith, rules}
 use Rattle.travel.specs.Laws.Choice.{roads-chosen, qualifies-yes, qualifies-no}
-use Rattle.travel.specs.Laws.Bisection.{Between, between-all, between-up, between-down}
+use Rattle.travel.specs.Laws.Bisection.{between-all, between-up, between-down}
 use Rattle.travel.proofs.choice.chosen.Goals as goal
-
--- Whether a number qualifies.
-abbrev qualifying : List (List ℕ) → List (List ℕ) → ℕ → ℕ → Bool
-qualifying links flows share j = qualifies (roads links) share (total_of flows) (load_of flows) j
 
 pub loop-low-init : goal.loop-low-init
 loop-low-init c = rw c.last-high.ensures (between-all _ _)
@@ -27,7 +21,7 @@ loop-low-smaller-then-sums c = omega arith
 pub loop-low-preserved-then-sums : goal.loop-low-preserved-then-sums
 loop-low-preserved-then-sums c =
     let is = c.sums_at-sums.ensures in
-    between-up _ _ c.loop-low.invariant _ (omega arith) (qualifies-yes _ _ _ _ _ is.0 is.1 c.if-sums.true)
+    between-up _ _ c.loop-low.invariant _ (omega arith) (qualifies-yes _ _ _ _ _ is.loaded_value is.spent_value c.if-sums.true)
 
 pub loop-low-smaller : goal.loop-low-smaller
 loop-low-smaller c = omega arith
@@ -35,7 +29,7 @@ loop-low-smaller c = omega arith
 pub loop-low-preserved : goal.loop-low-preserved
 loop-low-preserved c =
     let is = c.sums_at-sums.ensures in
-    between-down _ _ c.loop-low.invariant _ (omega arith) (omega arith) (qualifies-no _ _ _ _ _ is.0 is.1 c.if-sums.false)
+    between-down _ _ c.loop-low.invariant _ (omega arith) (omega arith) (qualifies-no _ _ _ _ _ is.loaded_value is.spent_value c.if-sums.false)
 
 pub returns : goal.returns
 returns c =

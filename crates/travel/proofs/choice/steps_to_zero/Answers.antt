@@ -1,5 +1,5 @@
 -- `steps_to_zero` meets its contract: with eight bits left out, 65 times an amount is below 2^64.
-use Rattle.std.proofs.Common.{◌/◌, mul-le-mul, arith, rules}
+use Rattle.std.proofs.Common.{◌/◌, mul-le-mul, arith}
 use Rattle.travel.proofs.choice.steps_to_zero.Goals as goal
 
 pub overflow_mul-steps : goal.overflow_mul-steps

@@ -1,5 +1,4 @@
 -- `cost` meets its contract: the list of each link's power is there, whether there is one list or all. Assumes nothing.
-use Rattle.std.proofs.Common.{rules}
 use Rattle.travel.specs.Laws.Powers.{all-lists}
 use Rattle.travel.proofs.costs.cost.Goals as goal
 

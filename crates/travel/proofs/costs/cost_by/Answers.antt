@@ -1,24 +1,16 @@
 -- `cost_by` meets its contract. The invariant: the areas of the links passed are added, and those of them that are over are counted. The
 -- measure is what is left of the links. Assumes nothing.
-use Rattle.std.proofs.Common.{◌≡◌, ℕ, ◌+◌, ◌-◌, ◌≤◌, Bool, true, false, cond, length, sym, refl, ap, ◌∙◌, arith, rules}
+use Rattle.std.proofs.Common.{◌≡◌, ℕ, ◌+◌, ◌≤◌, Bool, true, false, cond, length, sym, refl, ap, ◌∙◌, arith, rules}
 use mir.Val.{bool_byte}
 use Rattle.theory.specs.Laws.Finite.{count_most}
 use Rattle.travel.specs.Laws.Costs.{cost_to, over_at, over_to, cost-none, cost-more, cost-all, cost-most, over_none, over-more, over-all}
 use Rattle.travel.specs.Laws.Powers.{list_at}
 use Rattle.travel.proofs.costs.cost_by.Goals as goal
-use Rattle.travel.proofs.costs.cost_by.Goals.{After-link_cost-link, Start}
-
--- The cost of the first l links of a call.
-abbrev cost-of : Start → ℕ → ℕ
-cost-of c l = cost_to c.args.links.now c.args.share c.args.flows.now l
-
--- How many of them are over.
-abbrev over-of : Start → ℕ → ℕ
-over-of c l = over_to c.args.links.now c.args.share c.args.flows.now l
+use Rattle.travel.proofs.costs.cost_by.Goals.{After-link_cost-link}
 
 -- After a turn the cost is that of one link more,
 turn : (c : After-link_cost-link) →
-    c.loop-l.cost + c.link_cost-link.result.area ≡ cost-of c.before.before.before.before.before.before.before.before.before (c.loop-l.l + 1)
+    c.loop-l.cost + c.link_cost-link.result.area ≡ cost_to c.args.links.now c.args.share c.args.flows.now (c.loop-l.l + 1)
 turn c =
     let x = c.args in
     omega (
@@ -33,7 +25,7 @@ byte-is true = refl
 byte-is false = refl
 
 counted : (c : After-link_cost-link) →
-    c.loop-l.over + bool_byte c.link_cost-link.result.over ≡ over-of c.before.before.before.before.before.before.before.before.before (c.loop-l.l + 1)
+    c.loop-l.over + bool_byte c.link_cost-link.result.over ≡ over_to c.args.links.now c.args.share c.args.flows.now (c.loop-l.l + 1)
 counted c =
     let x = c.args in
     omega (
@@ -43,7 +35,7 @@ counted c =
       over-more x.links.now x.share x.flows.now c.loop-l.l,
     )
 
-over-most : (c : After-link_cost-link) → over-of c.before.before.before.before.before.before.before.before.before (c.loop-l.l + 1) ≤ 512
+over-most : (c : After-link_cost-link) → over_to c.args.links.now c.args.share c.args.flows.now (c.loop-l.l + 1) ≤ 512
 over-most c =
     let x = c.args in
     omega (arith, count_most (c.loop-l.l + 1) (over_at x.links.now x.share x.flows.now))

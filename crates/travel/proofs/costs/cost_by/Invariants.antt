@@ -1,10 +1,7 @@
 -- `cost_by` meets its contract. The invariant: the areas of the links passed are added, and those of them that are over are counted. The
 -- measure is what is left of the links. Assumes nothing.
-use Rattle.std.proofs.Common.{◌≡◌, ℕ, ◌+◌, ◌-◌, ◌≤◌, Bool, true, false, cond, length, sym, refl, ap, ◌∙◌, arith, rules}
-use mir.Val.{bool_byte}
-use Rattle.theory.specs.Laws.Finite.{count_most}
-use Rattle.travel.specs.Laws.Costs.{cost_to, over_at, over_to, cost-none, cost-more, cost-all, cost-most, over_none, over-more, over-all}
-use Rattle.travel.specs.Laws.Powers.{list_at}
+use Rattle.std.proofs.Common.{◌≡◌, ◌-◌, ◌≤◌, length}
+use Rattle.travel.specs.Laws.Costs.{cost_to, over_to}
 use Rattle.travel.proofs.costs.cost_by.Given as goal
 
 abbrev pub invariant-loop-l : goal.invariant-loop-l

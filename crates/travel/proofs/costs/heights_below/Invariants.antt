@@ -1,13 +1,14 @@
 -- `heights_below` meets its contract. The invariant: what the treads passed rise is added. The measure is what is left of the treads.
 -- Assumes nothing.
-use Rattle.std.proofs.Common.{◌≡◌, ℕ, ◌+◌, ◌-◌, ◌*◌, ◌/◌, ◌<◌, ◌≤◌, List, get_or, sym, refl, ap, ◌∙◌, ap₂, arith, rules}
+use Rattle.std.proofs.Common.{◌≡◌, ℕ, ◌-◌, ◌≤◌, List, get_or}
 use Rattle.theory.specs.Finite.{sum}
-use Rattle.theory.specs.Laws.Finite.{sum-suc}
-use Rattle.travel.specs.Links.{row_power, row_time}
-use Rattle.travel.specs.Ranges.{most_time}
-use Rattle.travel.specs.Laws.Costs.{heights-most}
-use Rattle.travel.specs.Laws.Powers.{risen_at, list-within, power_below, rise-most, rise-at, heights-risen}
+use Rattle.travel.specs.Links.{row_power}
+use Rattle.travel.specs.Laws.Powers.{risen_at}
 use Rattle.travel.proofs.costs.heights_below.Given as goal
+
+-- What the first r treads of a link rise.
+abbrev pub risen-of : List ℕ → ℕ → ℕ
+risen-of link r = sum r (risen_at (get_or link 3 0) (row_power link))
 
 abbrev pub invariant-loop-r : goal.invariant-loop-r
 invariant-loop-r l = (l.r ≤ l.step) × (l.risen ≡ risen-of l.link l.r)

@@ -1,5 +1,5 @@
 -- `link_cost` meets its contract: what it adds up is the staircase (`treads-cost`). Assumes nothing.
-use Rattle.std.proofs.Common.{◌≡◌, ℕ, ◌+◌, ◌-◌, ◌*◌, ◌≤◌, get_or, ap, ◌∙◌, arith, w16, Fits, rules}
+use Rattle.std.proofs.Common.{◌≡◌, ◌+◌, ◌-◌, ◌*◌, ◌≤◌, get_or, ap, ◌∙◌, arith, w16, Fits, rules}
 use Rattle.theory.specs.Flows.{is_over}
 use Rattle.theory.specs.Cost.{link_cost}
 use Rattle.travel.specs.Links.{row_time}
@@ -7,47 +7,36 @@ use Rattle.travel.specs.Ranges.{most_time}
 use Rattle.travel.specs.Laws.Times.{width-most}
 use Rattle.travel.specs.Laws.Costs.{treads-within, whole-most, rest-most, treads-cost, cost-of-most}
 use Rattle.travel.proofs.costs.link_cost.Goals as goal
-use Rattle.travel.proofs.costs.link_cost.Goals.{After-time_at-here, Start}
-
--- The capacity, the width of a tread, and the cost.
-abbrev capacity : Start → ℕ
-capacity c = get_or c.args.t1 4 0
-
-capacity-most : (c : Start) → capacity c ≤ 65535
-capacity-most c = let fits : Fits w16 (capacity c) = search rules in omega arith
-
-abbrev width : Start → ℕ
-width c = capacity c * c.args.share
-
-abbrev cost-of : Start → ℕ
-cost-of c = link_cost (row_time c.args.t1) (capacity c) c.args.share c.args.flow
+use Rattle.travel.proofs.costs.link_cost.Goals.{After-time_at-here}
 
 -- The treads below the step are within 64·S.
-within : (c : After-time_at-here) → c.step_of.result * width c.before.before.before.before ≤ 64 * c.args.flow
-within c =
-    let x = c.args in
-    treads-within (capacity c.before.before.before.before) x.share x.flow _ c.step_of.ensures.0
+within : (c : After-time_at-here) → c.step_of-step.result * (get_or c.args.link 4 0 * c.args.share) ≤ 64 * c.args.flow
+within c = treads-within _ _ _ _ c.step_of-step.ensures.0
 
 -- What the code adds up is the cost.
 same : (c : After-time_at-here) →
-    c.heights_below.result * width c.before.before.before.before + c.time_at-here.result.time * (64 * c.args.flow - c.step_of.result * width c.before.before.before.before) ≡ cost-of c.before.before.before.before
+    let x = c.args in
+    let width = get_or x.link 4 0 * x.share in
+    c.heights_below.result * width + c.time_at-here.result.time * (64 * x.flow - c.step_of-step.result * width) ≡ link_cost (row_time x.link) (get_or x.link 4 0) x.share x.flow
 same c =
     let x = c.args in
-    treads-cost (capacity c.before.before.before.before) x.share x.flow _ c.step_of.ensures.0 (row_time x.t1) _ _ c.requires.0.fit.some-capacity (search rules) c.heights_below.ensures.0 (ap (λ r. r.time) c.time_at-here.ensures.0)
+    treads-cost (get_or x.link 4 0) x.share x.flow _ c.step_of-step.ensures.0 (row_time x.link) _ _ c.requires.0.fit.some-capacity (search rules) c.heights_below.ensures.0 (ap (λ r. r.time) c.time_at-here.ensures.0)
 
-most : (c : Start) → cost-of c ≤ 64 * c.args.flow * most_time
-most c = cost-of-most c.args.t1 c.args.share c.args.flow c.requires.0.fit (search rules)
+most : (c : After-time_at-here) →
+    let x = c.args in
+    link_cost (row_time x.link) (get_or x.link 4 0) x.share x.flow ≤ 64 * x.flow * most_time
+most c = cost-of-most c.args.link c.args.share c.args.flow c.requires.0.fit (search rules)
 
 pub overflow_mul-width : goal.overflow_mul-width
 overflow_mul-width c =
-    omega (arith, width-most (capacity (goal.at.overflow_mul-width c).Start) c.args.share (capacity-most (goal.at.overflow_mul-width c).Start) (search rules))
+    omega (arith, width-most (get_or c.args.link 4 0) c.args.share (let fits : Fits w16 (get_or c.args.link 4 0) = search rules in omega arith) (search rules))
 
 pub overflow_mul-whole : goal.overflow_mul-whole
 overflow_mul-whole c =
     let x = c.args in
     omega (
       arith,
-      whole-most (capacity (goal.at.overflow_mul-whole c).Start) x.share x.flow _ c.step_of.ensures.0 c.heights_below.result (search rules),
+      whole-most (get_or c.args.link 4 0) x.share x.flow _ c.step_of-step.ensures.0 c.heights_below.result (search rules),
     )
 
 pub overflow_mul-area-2 : goal.overflow_mul-area-2
@@ -61,12 +50,12 @@ overflow_mul-area-3 c =
     let x = c.args in
     omega (
       arith,
-      rest-most (capacity (goal.at.overflow_mul-area-3 c).Start) x.share x.flow _ c.step_of.ensures.0 c.time_at-here.result.time (search rules),
+      rest-most (get_or c.args.link 4 0) x.share x.flow _ c.step_of-step.ensures.0 c.time_at-here.result.time (search rules),
     )
 
 pub overflow_add-area : goal.overflow_add-area
-overflow_add-area c = omega (arith, same (goal.at.overflow_add-area c).After-time_at-here, most (goal.at.overflow_add-area c).Start)
+overflow_add-area c = omega (arith, same (goal.at.overflow_add-area c).After-time_at-here, most (goal.at.overflow_add-area c).After-time_at-here)
 
 pub returns : goal.returns
 returns c =
-    record { area_value = (same (goal.at.returns c).After-time_at-here, rw (same (goal.at.returns c).After-time_at-here) (most (goal.at.returns c).Start)); over_value = ap (λ r. r.over) c.time_at-here.ensures.0 ∙ ap is_over c.step_of.ensures.0 }
+    record { area_value = (same (goal.at.returns c).After-time_at-here, rw (same (goal.at.returns c).After-time_at-here) (most (goal.at.returns c).After-time_at-here)); over_value = ap (λ r. r.over) c.time_at-here.ensures.0 ∙ ap is_over c.step_of-step.ensures.0 }

@@ -1,7 +1,6 @@
 -- `product` meets its contract. The invariant: the products of the links passed are added. The measure is what is left of the links.
 -- Assumes nothing.
-use Rattle.std.proofs.Common.{◌≡◌, ◌-◌, ◌*◌, ◌≤◌, get_or, sym, mul-le-mul, arith, rules}
-use Rattle.travel.specs.Links.{list_product}
+use Rattle.std.proofs.Common.{◌≡◌, ◌*◌, ◌≤◌, get_or, sym, mul-le-mul, arith, rules}
 use Rattle.travel.specs.Ranges.{most_time, most_flow}
 use Rattle.travel.specs.Laws.Costs.{product-none, product-more, product-most}
 use Rattle.travel.proofs.costs.product.Goals as goal

@@ -1,6 +1,6 @@
 -- `put_list` meets its contract. The invariant: after the number of step 0, those of the steps below 2k - 1 are put, and nothing else is
 -- changed. The measure is what is left of the pairs of steps. Assumes nothing.
-use Rattle.std.proofs.Common.{◌≡◌, ℕ, ◌+◌, ◌-◌, ◌*◌, ◌%◌, ◌^◌, ◌<◌, ◌≤◌, List, length, get_or, set, arith, length-set, rules}
+use Rattle.std.proofs.Common.{◌≡◌, ℕ, ◌+◌, ◌-◌, ◌*◌, ◌%◌, ◌^◌, ◌<◌, List, length, get_or, set, arith, length-set, rules}
 use Rattle.theory.specs.Laws.Bits.{one_shifted}
 use Rattle.travel.specs.Links.{scaled_power}
 use Rattle.travel.specs.Laws.Powers.{PutTo, scaled-most, put_first, put-more, put-even, put_all}
@@ -28,7 +28,7 @@ odd-put : (c : After-scaled_power-in-loop-k) →
 odd-put c before so_far =
     let k = c.loop-k.k in
     let next : 2 * k - 1 + 1 ≡ 2 * k = omega arith in
-    rw next c (put-more _ before (2 * k - 1) c.loop-k.curves _ c.scaled_power-in-loop-k.ensures (omega (arith, same_size c.before.before)) so_far)
+    rw next at (put-more _ before (2 * k - 1) c.loop-k.curves _ c.scaled_power-in-loop-k.ensures (omega (arith, same_size c.before.before)) so_far)
 
 -- and what is put for the even one is its number.
 even : (c : After-scaled_power-in-loop-k) →
@@ -71,7 +71,7 @@ loop-k-preserved c =
       search rules,
       search rules,
       λ before put.
-          rw next c (put-more _ before (2 * k) _ _ (even (goal.at.loop-k-preserved c).After-scaled_power-in-loop-k) (room (goal.at.loop-k-preserved c).After-scaled_power-in-loop-k) (odd-put (goal.at.loop-k-preserved c).After-scaled_power-in-loop-k before (c.loop-k.invariant.2 before put))),
+          rw next at (put-more _ before (2 * k) _ _ (even (goal.at.loop-k-preserved c).After-scaled_power-in-loop-k) (room (goal.at.loop-k-preserved c).After-scaled_power-in-loop-k) (odd-put (goal.at.loop-k-preserved c).After-scaled_power-in-loop-k before (c.loop-k.invariant.2 before put))),
     )
 
 pub shape_of-curves : goal.shape_of-curves
@@ -80,4 +80,4 @@ shape_of-curves c = same_size (goal.at.shape_of-curves c).At-loop-k
 pub returns : goal.returns
 returns c =
     let end : 2 * c.loop-k.k - 1 ≡ 257 = omega arith in
-    put_all _ _ c.loop-k.curves (rw end c (c.loop-k.invariant.2 _ (first (goal.at.returns c).At-loop-k)))
+    put_all _ _ c.loop-k.curves (rw end at (c.loop-k.invariant.2 _ (first (goal.at.returns c).At-loop-k)))

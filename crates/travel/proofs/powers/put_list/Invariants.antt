@@ -1,9 +1,7 @@
 -- `put_list` meets its contract. The invariant: after the number of step 0, those of the steps below 2k - 1 are put, and nothing else is
 -- changed. The measure is what is left of the pairs of steps. Assumes nothing.
-use Rattle.std.proofs.Common.{◌≡◌, ℕ, ◌+◌, ◌-◌, ◌*◌, ◌%◌, ◌^◌, ◌<◌, ◌≤◌, List, length, get_or, set, arith, length-set, rules}
-use Rattle.theory.specs.Laws.Bits.{one_shifted}
-use Rattle.travel.specs.Links.{scaled_power}
-use Rattle.travel.specs.Laws.Powers.{PutTo, scaled-most, put_first, put-more, put-even, put_all}
+use Rattle.std.proofs.Common.{ℕ, ◌-◌, ◌*◌, ◌≤◌, List}
+use Rattle.travel.specs.Laws.Powers.{PutTo}
 use Rattle.travel.proofs.powers.put_list.Given as goal
 
 abbrev pub invariant-loop-k : goal.invariant-loop-k

@@ -1,6 +1,6 @@
 -- `put_powers` meets its contract. The invariant: there is room for four lists, and those passed are put. The measure is what is left of
 -- the lists. Assumes nothing.
-use Rattle.std.proofs.Common.{◌≡◌, ℕ, ◌+◌, ◌-◌, ◌*◌, ◌≤◌, length, ⊎_elim, arith, rules}
+use Rattle.std.proofs.Common.{◌≡◌, ℕ, ◌+◌, ◌*◌, ◌≤◌, length, ⊎_elim, arith, rules}
 use Rattle.travel.specs.Laws.Powers.{ListsTo, lists-none, lists-more, lists-all}
 use Rattle.travel.proofs.powers.put_powers.Goals as goal
 use Rattle.travel.proofs.powers.put_powers.Goals.{After-put_list, Else-curves-eq-ONE_LIST, Start}
@@ -11,7 +11,7 @@ some-list c = ⊎_elim (λ e. omega arith) (λ e. omega arith) c.requires
 
 -- which is put first,
 first : (c : After-put_list) (lists : ℕ) → length c.args.curves.now ≡ 512 + 257 * lists →
-    ListsTo 1 lists c.put_list.new.0
+    ListsTo 1 lists c.put_list.new.curves
 first c lists long = lists-more 0 lists _ _ (lists-none lists _ long) c.put_list.ensures
 
 -- and where that is not all there is room for four.
@@ -40,4 +40,4 @@ shape_of-curves c = omega (arith, c.loop-i.invariant.1.size, room (goal.at.shape
 pub returns : goal.returns
 returns c =
     let end : c.loop-i.i ≡ 4 = omega arith in
-    (lists-all 4 _ (omega arith) (omega arith) (rw end at c.loop-i.invariant.1), same-length-2 c)
+    (lists-all 4 _ (omega arith) (omega arith) (rw end at c.loop-i.invariant.1), omega (arith, c.loop-i.invariant.1.size, room (goal.at.returns c).Else-curves-eq-ONE_LIST))

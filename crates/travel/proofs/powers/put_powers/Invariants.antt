@@ -1,7 +1,7 @@
 -- `put_powers` meets its contract. The invariant: there is room for four lists, and those passed are put. The measure is what is left of
 -- the lists. Assumes nothing.
-use Rattle.std.proofs.Common.{◌≡◌, ℕ, ◌+◌, ◌-◌, ◌*◌, ◌≤◌, length, ⊎_elim, arith, rules}
-use Rattle.travel.specs.Laws.Powers.{ListsTo, lists-none, lists-more, lists-all}
+use Rattle.std.proofs.Common.{◌-◌, ◌≤◌}
+use Rattle.travel.specs.Laws.Powers.{ListsTo}
 use Rattle.travel.proofs.powers.put_powers.Given as goal
 
 abbrev pub invariant-loop-i : goal.invariant-loop-i

@@ -1,20 +1,20 @@
 -- `scaled_power` meets its contract. The invariant: the factors passed are multiplied. The measure is what is left of the four factors.
 -- Assumes nothing.
-use Rattle.std.proofs.Common.{◌≡◌, ◌+◌, ◌-◌, ◌*◌, ◌≤◌, sym, ◌∙◌, ap₂, ⊎_elim, le_trans, arith, rules}
+use Rattle.std.proofs.Common.{◌≡◌, ◌+◌, ◌*◌, ◌≤◌, sym, ◌∙◌, ap₂, le_trans, arith, rules}
 use native.Mathlib.Nat.{pow-le-pow_right}
 use Rattle.travel.specs.Laws.Powers.{factors, factors-none, factors-first, factors-later, factors-all, factors-most}
 use Rattle.travel.proofs.powers.scaled_power.Goals as goal
-use Rattle.travel.proofs.powers.scaled_power.Goals.{Joined-k-i}
+use Rattle.travel.proofs.powers.scaled_power.Goals.{Joined-k-i, then-k-i, else-k-i}
 
 -- After a turn there is one factor more,
 turn : (c : Joined-k-i) →
     c.loop-k.product * c.if-k-i.factor ≡ factors c.args.i c.args.r (c.loop-k.k + 1)
 turn c =
     let x = c.args in
-    ⊎_elim
-    (λ came. ap₂ ◌*◌ c.loop-k.invariant.1 came.1 ∙ sym (factors-first x.i x.r c.loop-k.k came.0.taken))
-    (λ came. ap₂ ◌*◌ c.loop-k.invariant.1 came.1 ∙ sym (factors-later x.i x.r c.loop-k.k came.0.left))
-    c.if-k-i.branch
+    elim c.if-k-i.branch [
+      | then-k-i w ↦ ap₂ ◌*◌ c.loop-k.invariant.1 w.factor-is ∙ sym (factors-first x.i x.r c.loop-k.k w.if-k-i.true)
+      | else-k-i w ↦ ap₂ ◌*◌ c.loop-k.invariant.1 w.factor-is ∙ sym (factors-later x.i x.r c.loop-k.k w.if-k-i.false)
+    ]
 
 -- and four factors, none of them more than 256, are a product of 64 bits.
 most : (c : Joined-k-i) → c.loop-k.product * c.if-k-i.factor ≤ 4294967296

@@ -1,8 +1,7 @@
 -- `scaled_power` meets its contract. The invariant: the factors passed are multiplied. The measure is what is left of the four factors.
 -- Assumes nothing.
-use Rattle.std.proofs.Common.{◌≡◌, ◌+◌, ◌-◌, ◌*◌, ◌≤◌, sym, ◌∙◌, ap₂, ⊎_elim, le_trans, arith, rules}
-use native.Mathlib.Nat.{pow-le-pow_right}
-use Rattle.travel.specs.Laws.Powers.{factors, factors-none, factors-first, factors-later, factors-all, factors-most}
+use Rattle.std.proofs.Common.{◌≡◌, ◌-◌, ◌≤◌}
+use Rattle.travel.specs.Laws.Powers.{factors}
 use Rattle.travel.proofs.powers.scaled_power.Given as goal
 
 abbrev pub invariant-loop-k : goal.invariant-loop-k

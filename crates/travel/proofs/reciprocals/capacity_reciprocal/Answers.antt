@@ -4,8 +4,8 @@ use Rattle.travel.specs.Links.{capacity_parts, reciprocal}
 use Rattle.travel.proofs.reciprocals.capacity_reciprocal.Goals as goal
 
 pub overflow_add-result : goal.overflow_add-result
-overflow_add-result c = omega (arith, div-le_self capacity_parts (get_or c.args.t1 4 0))
+overflow_add-result c = omega (arith, div-le_self capacity_parts (get_or c.args.link 4 0))
 
 pub returns : goal.returns
 unfolding reciprocal
-returns c = let fits : Fits w16 (get_or c.args.t1 4 0) = search rules in (refl, omega arith)
+returns c = let fits : Fits w16 (get_or c.args.link 4 0) = search rules in (refl, omega arith)

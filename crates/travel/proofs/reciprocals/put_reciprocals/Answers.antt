@@ -1,8 +1,7 @@
 -- `put_reciprocals` meets its contract. The invariant: the powers are there, and the reciprocals of the links passed, and the curves are as
 -- long as before. The measure is what is left of the links. Assumes nothing.
-use Rattle.std.proofs.Common.{◌≡◌, ◌-◌, ◌<◌, ◌≤◌, length, refl, ◌∙◌, arith, length-set, rules}
+use Rattle.std.proofs.Common.{◌≡◌, ◌<◌, ◌≤◌, length, refl, ◌∙◌, arith, length-set, rules}
 use Rattle.theory.specs.Study.{capacity}
-use Rattle.travel.specs.Ranges.{LinkPowers, Reciprocals}
 use Rattle.travel.specs.Laws.Reciprocals.{reciprocals-none, powers-kept, reciprocals-more}
 use Rattle.travel.proofs.reciprocals.put_reciprocals.Goals as goal
 use Rattle.travel.proofs.reciprocals.put_reciprocals.Goals.{In-loop-l}
@@ -43,4 +42,4 @@ shape_of-curves c = c.loop-l.invariant.3
 pub returns : goal.returns
 returns c =
     let end : c.loop-l.l ≡ length c.args.links.now = omega arith in
-    (record { powers = c.loop-l.invariant.1; reciprocals = rw end c c.loop-l.invariant.2 }, c.loop-l.invariant.3)
+    (record { powers = c.loop-l.invariant.1; reciprocals = rw end at c.loop-l.invariant.2 }, c.loop-l.invariant.3)

@@ -1,9 +1,7 @@
 -- `put_reciprocals` meets its contract. The invariant: the powers are there, and the reciprocals of the links passed, and the curves are as
 -- long as before. The measure is what is left of the links. Assumes nothing.
-use Rattle.std.proofs.Common.{◌≡◌, ◌-◌, ◌<◌, ◌≤◌, length, refl, ◌∙◌, arith, length-set, rules}
-use Rattle.theory.specs.Study.{capacity}
+use Rattle.std.proofs.Common.{◌≡◌, ◌-◌, ◌≤◌, length}
 use Rattle.travel.specs.Ranges.{LinkPowers, Reciprocals}
-use Rattle.travel.specs.Laws.Reciprocals.{reciprocals-none, powers-kept, reciprocals-more}
 use Rattle.travel.proofs.reciprocals.put_reciprocals.Given as goal
 
 abbrev pub invariant-loop-l : goal.invariant-loop-l

@@ -1,5 +1,5 @@
 -- `share_reciprocal` meets its contract. Assumes nothing.
-use Rattle.std.proofs.Common.{refl, div-le_self, arith, rules}
+use Rattle.std.proofs.Common.{refl, div-le_self, arith}
 use Rattle.travel.specs.Links.{share_parts, reciprocal}
 use Rattle.travel.proofs.reciprocals.share_reciprocal.Goals as goal
 

@@ -17,5 +17,5 @@ overflow_add-time c = omega (arith, rise-most _ _ _ c.requires.0 c.args.step (se
 pub returns : goal.returns
 returns c =
     let x = c.args in
-    let same : get_or x.t1 2 0 + get_or x.t1 3 0 * get_or x.curves.now (x.list + x.step) 0 / 16777216 ≡ row_time x.t1 x.step = time-at _ _ _ c.requires.0 x.step (search rules) in
-    (rw same, rw same (row_time-most x.t1 x.step c.requires.0.fit (search rules)))
+    let same : get_or x.link 2 0 + get_or x.link 3 0 * get_or x.curves.now (x.list + x.step) 0 / 16777216 ≡ row_time x.link x.step = time-at _ _ _ c.requires.0 x.step (search rules) in
+    (rw same, rw same (row_time-most x.link x.step c.requires.0.fit (search rules)))

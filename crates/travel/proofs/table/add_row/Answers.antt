@@ -1,7 +1,6 @@
 -- `add_row` meets its contract. The invariant: the row is added to the sums passed. The measure is what is left of the links.
 -- Assumes nothing.
-use Rattle.std.proofs.Common.{◌≡◌, ◌-◌, ◌≤◌, length, ◌∙◌, arith, length-set, rules}
-use Rattle.travel.specs.Ranges.{RowAdded}
+use Rattle.std.proofs.Common.{◌≡◌, ◌∙◌, arith, length-set, rules}
 use Rattle.travel.specs.Laws.Rows.{row-none, row_more}
 use Rattle.travel.proofs.table.add_row.Goals as goal
 
@@ -9,7 +8,7 @@ pub loop-l-init : goal.loop-l-init
 loop-l-init c = (search rules, c.requires.2, row-none c.args.row.now c.args.sums.now)
 
 pub overflow_cast-sums : goal.overflow_cast-sums
-overflow_cast-sums c = omega (arith, c.shared_slice_known-1.given c.loop-l.l)
+overflow_cast-sums c = omega arith
 
 pub overflow_add-sums : goal.overflow_add-sums
 overflow_add-sums c =
@@ -18,7 +17,6 @@ overflow_add-sums c =
       arith,
       c.loop-l.invariant.2.kept l (omega arith),
       c.requires.3 l (omega arith),
-      c.shared_slice_known-1.given l,
     )
 
 pub loop-l-preserved : goal.loop-l-preserved

@@ -1,8 +1,7 @@
 -- `add_row` meets its contract. The invariant: the row is added to the sums passed. The measure is what is left of the links.
 -- Assumes nothing.
-use Rattle.std.proofs.Common.{◌≡◌, ◌-◌, ◌≤◌, length, ◌∙◌, arith, length-set, rules}
+use Rattle.std.proofs.Common.{◌≡◌, ◌-◌, ◌≤◌, length}
 use Rattle.travel.specs.Ranges.{RowAdded}
-use Rattle.travel.specs.Laws.Rows.{row-none, row_more}
 use Rattle.travel.proofs.table.add_row.Given as goal
 
 abbrev pub invariant-loop-l : goal.invariant-loop-l

@@ -1,6 +1,6 @@
 -- `totals_fit` meets its contract. The invariant: the totals passed are at most the limit. The measure is what is left of the links.
 -- Assumes nothing.
-use Rattle.std.proofs.Common.{◌≡◌, ℕ, ◌-◌, ◌≤◌, Bool, true, leb, List, get_or, sym, ◌∙◌, arith, rules, le-leb}
+use Rattle.std.proofs.Common.{◌≡◌, ℕ, Bool, leb, List, get_or, sym, ◌∙◌, arith, rules, le-leb}
 use borrow.Author.Tests.{lt-leb}
 use Rattle.theory.specs.Finite.{all}
 use Rattle.theory.specs.Laws.Finite.{all-suc, all-refuted, both}

@@ -1,9 +1,6 @@
 -- `totals_fit` meets its contract. The invariant: the totals passed are at most the limit. The measure is what is left of the links.
 -- Assumes nothing.
-use Rattle.std.proofs.Common.{◌≡◌, ℕ, ◌-◌, ◌≤◌, Bool, true, leb, List, get_or, sym, ◌∙◌, arith, rules, le-leb}
-use borrow.Author.Tests.{lt-leb}
-use Rattle.theory.specs.Finite.{all}
-use Rattle.theory.specs.Laws.Finite.{all-suc, all-refuted, both}
+use Rattle.std.proofs.Common.{◌≡◌, ◌-◌, ◌≤◌, true}
 use Rattle.travel.specs.Links.{list_fits}
 use Rattle.travel.proofs.table.totals_fit.Given as goal
 

@@ -1,6 +1,6 @@
 -- `write_totals` meets its contract. The invariant: the sums are the totals over the rows passed. The measure is what is left of the rows.
 -- Assumes nothing.
-use Rattle.std.proofs.Common.{◌≡◌, ℕ, ◌+◌, ◌-◌, ◌*◌, ◌≤◌, length, get_or, take, drop, sym, ap, ◌∙◌, mul-le-mul_right, arith, rules}
+use Rattle.std.proofs.Common.{◌≡◌, ℕ, ◌+◌, ◌-◌, ◌*◌, ◌≤◌, length, get_or, take, drop, sym, ap, ◌∙◌, mul-le-mul_right, arith, w32, Fits, rules}
 use Rattle.theory.specs.Flows.{link_total}
 use Rattle.travel.specs.Links.{padded}
 use Rattle.travel.specs.Ranges.{RowAdded}
@@ -26,7 +26,7 @@ sum-within c l =
     let table = c.args.table.now in
     rw c.loop-k.invariant.1
     (padded-within m (link_total c.loop-k.k m table) (c.loop-k.k * 4294967295)
-    (λ i p. link_total-most m table i c.loop-k.k 4294967295 (λ j. omega (arith, c.shared_slice_known-1.given j))) l)
+    (λ i p. link_total-most m table i c.loop-k.k 4294967295 (λ j. let fits : Fits w32 (get_or table j 0) = search rules in omega arith)) l)
 
 pub loop-k-init : goal.loop-k-init
 loop-k-init c = (search rules, c.requires.3 ∙ padded-zeros c.args.m _ (omega arith) (λ l p. link_total-none _ _ l))
@@ -59,7 +59,7 @@ loop-k-preserved c =
     let table = c.args.table.now in
     let m = c.args.m in
     let k = c.loop-k.k in
-    let sum : RowAdded m (take (length table - k * m) (drop (k * m) table)) (padded m (link_total k m table)) c.add_row.new.1.1.0 = rw c.loop-k.invariant.1 at c.add_row.ensures in (
+    let sum : RowAdded m (take (length table - k * m) (drop (k * m) table)) (padded m (link_total k m table)) c.add_row.new.sums = rw c.loop-k.invariant.1 at c.add_row.ensures in (
       search rules,
       padded-added m (link_total k m table) (link_total (k + 1) m table) _ _ (search rules) sum
           (λ l p. link_total-more m table l k ∙ ap (λ x. link_total k m table l + x) (sym (get_d-from table (k * m) l (omega (arith, row_within (goal.at.loop-k-preserved c).In-loop-k))))),
