@@ -12,19 +12,21 @@ use Rattle.judging.proofs.audit.audit_table.Goals as goal
 use Rattle.judging.proofs.audit.audit_table.Goals.{After-product}
 
 pub times-requires : goal.times-requires
-times-requires c = let given = c.requires.judgeable in record { links_fit = (links-fit given.ready, share-fits given, totals-within given c.requires.totals_value); link_powers = (link-powers c.requires.curve_room c.put_powers.ensures, zeros-clear (length c.args.links.now)) }
+times-requires c = let given = c.requires.judgeable in
+    record {
+      links_fit = (links-fit given.ready, share-fits given, totals-within given c.requires.totals_value);
+      link_powers = (link-powers c.requires.curve_room c.put_powers.ensures, zeros-clear (length c.args.links.now));
+    }
 
 pub least_times-least-requires : goal.least_times-least-requires
-least_times-least-requires c = ((c).requires.0.ready, c.times.ensures.times_fit)
+least_times-least-requires c = (c.requires.judgeable.ready, c.times.ensures.times_fit)
 
 pub product-requires : goal.product-requires
 product-requires c = let given = c.requires.judgeable in
     (given.ready.few-links, c.times.ensures.times_fit.times-fit, totals-within given c.requires.totals_value)
 
 -- W × the least times are at most the times spent.
-least :
-    (c : After-product) →
-    (of-powers (of-times (c))).args.share * c.least_times-least.result ≤ c.product.result
+least : (c : After-product) → c.args.share * c.least_times-least.result ≤ c.product.result
 least c =
     let given = c.requires.judgeable in
     let most = least_fits given c.requires.totals_value c.times.ensures.times_after c.times.ensures.times_fit in
@@ -39,8 +41,11 @@ pub overflow_sub-gap : goal.overflow_sub-gap
 overflow_sub-gap c = least (goal.at.overflow_sub-gap c).After-product
 
 pub cost-costs-requires : goal.cost-costs-requires
-cost-costs-requires c = let at = of-times (c) in
-    let given = (of-powers at).pre.0 in record { links_fit = (links-fit given.ready, share-fits given, totals-within given (of-powers at).pre.1.0); link_powers = link-powers (of-powers at).pre.1.1 at.put-powers.ensures }
+cost-costs-requires c = let given = c.requires.judgeable in
+    record {
+      links_fit = (links-fit given.ready, share-fits given, totals-within given c.requires.totals_value);
+      link_powers = link-powers c.requires.curve_room c.put_powers.ensures;
+    }
 
 pub returns : goal.returns
 returns c = let given = c.requires.judgeable in

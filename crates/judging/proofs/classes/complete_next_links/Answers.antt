@@ -7,17 +7,15 @@ use lib.ListN.{length, drop}
 use lib.Seq.{length-take-le}
 use borrow.Author.Rules.{rules}
 use Rattle.theory.specs.Laws.Parts.{length-behind}
-use Rattle.judging.specs.Study.{Study, study_of}
+use Rattle.judging.specs.Study.{study_of}
 use Rattle.judging.specs.Classes.{HasLorries}
 use Rattle.judging.specs.Laws.Chains.{two-rows}
 use Rattle.judging.specs.Laws.Counted.{count-within, middle-within, middle-small, cars-asked, cars-linked, cars-trips, lorries-asked, lorries-linked, lorries-trips, cars-found, front_long, lorries-found, full-cars, full-both}
 use Rattle.judging.proofs.classes.complete_next_links.Goals as goal
-use Rattle.judging.proofs.classes.complete_next_links.Goals.{After-car_count-cars, After-complete_table, Start, Then-cars-commodities}
+use Rattle.judging.proofs.classes.complete_next_links.Goals.{After-car_count-cars, After-complete_table, Then-cars-commodities}
 
-abbrev study : Start → Study
-study c = let x = c.args in study_of x.nodes x.links.now x.commodities.now x.trips.now
-
-some-lorries : (c : Then-cars-commodities) → HasLorries (study (c))
+some-lorries :
+    (c : Then-cars-commodities) → let x = c.args in HasLorries (study_of x.nodes x.links.now x.commodities.now x.trips.now)
 some-lorries c = omega (arith, c.if-cars-commodities.true, c.car_count-cars.ensures.0)
 
 -- There is a row for each commodity of cars,
@@ -25,8 +23,10 @@ rows-within : (c : After-car_count-cars) → c.car_count-cars.result ≤ length 
 rows-within c = omega (arith, c.car_count-cars.ensures.1, c.requires.class_chains.1.size)
 
 -- and as many are completed.
-rows_long : (c : After-complete_table) → length c.complete_table.new.1.1.1.1.1.1.0 ≡ c.car_count-cars.result
-rows_long c = c.complete_table.ensures.table_len_unchanged ∙ length-take-le c.car_count-cars.result (c).args.next.now (rows-within c.before.before)
+rows_long : (c : After-complete_table) → length c.complete_table.new.table ≡ c.car_count-cars.result
+rows_long c =
+    c.complete_table.ensures.table_len_unchanged
+    ∙ length-take-le c.car_count-cars.result c.args.next.now (omega (arith, c.car_count-cars.ensures.1, c.requires.class_chains.1.size))
 
 pub overflow_mul-middle : goal.overflow_mul-middle
 overflow_mul-middle c = omega (arith, middle-small c.requires.ready.0 c.car_count-cars.ensures.0)
@@ -53,13 +53,6 @@ complete_table-requires c =
     let e = c.car_count-cars.ensures.0 in
     record { all_searchable = (cars-asked ready e fit, cars-linked ready e chains); trips_len = cars-trips ready e; nexts = cars-found ready e nexts }
 
--- The rows are as many as they were.
-next-long :
-    (c : Then-cars-commodities) →
-    length (c.complete_table.new.1.1.1.1.1.1.0 ++ drop c.car_count-cars.result c.args.next.now) ≡ length c.args.next.now
-next-long c =
-    front_long c.requires.ready.0 c.car_count-cars.ensures.0 c.requires.class_chains.1 c.complete_table.new.1.1.1.1.1.1.0 (rows_long c.before.before)
-
 pub offset_bounds-trips-middle : goal.offset_bounds-trips-middle
 offset_bounds-trips-middle c =
     omega (arith, middle-small c.requires.ready.0 c.car_count-cars.ensures.0)
@@ -71,28 +64,35 @@ pub slice_bounds-complete_table-start-then-cars-commodities : goal.slice_bounds-
 slice_bounds-complete_table-start-then-cars-commodities c = middle-within c.requires.ready.0 c.car_count-cars.ensures.0
 
 pub slice_bounds-complete_table-count-then-cars-commodities-2 : goal.slice_bounds-complete_table-count-then-cars-commodities-2
-slice_bounds-complete_table-count-then-cars-commodities-2 c = two-rows (c).requires.1.0
+slice_bounds-complete_table-count-then-cars-commodities-2 c = two-rows c.requires.class_chains.0
 
 pub slice_bounds-complete_table-start-then-cars-commodities-2 : goal.slice_bounds-complete_table-start-then-cars-commodities-2
-slice_bounds-complete_table-start-then-cars-commodities-2 c = two-rows (c).requires.1.0
+slice_bounds-complete_table-start-then-cars-commodities-2 c = two-rows c.requires.class_chains.0
 
 pub complete_table-requires-then-cars-commodities : goal.complete_table-requires-then-cars-commodities
 complete_table-requires-then-cars-commodities c =
     let (ready, fit) = c.requires.ready in let (chains, nexts) = c.requires.class_chains in
-    let e = c.car_count-cars.ensures.0 in record { all_searchable = (lorries-asked ready e fit (some-lorries (goal.at.complete_table-requires-then-cars-commodities c).Then-cars-commodities), lorries-linked ready e chains (some-lorries (goal.at.complete_table-requires-then-cars-commodities c).Then-cars-commodities)); trips_len = lorries-trips ready e; nexts = lorries-found ready e nexts c.complete_table.new.1.1.1.1.1.1.0 (rows_long (goal.at.complete_table-requires-then-cars-commodities c).After-complete_table) (some-lorries (goal.at.complete_table-requires-then-cars-commodities c).Then-cars-commodities) }
+    let e = c.car_count-cars.ensures.0 in
+    let some = some-lorries (goal.at.complete_table-requires-then-cars-commodities c).Then-cars-commodities in
+    let rows = rows_long (goal.at.complete_table-requires-then-cars-commodities c).After-complete_table in
+    record {
+      all_searchable = (lorries-asked ready e fit some, lorries-linked ready e chains some);
+      trips_len = lorries-trips ready e;
+      nexts = lorries-found ready e nexts c.complete_table.new.table rows some;
+    }
 
 pub returns-then-cars-commodities : goal.returns-then-cars-commodities
 returns-then-cars-commodities c =
     let (ready, fit) = c.requires.ready in let (chains, nexts) = c.requires.class_chains in
     let first = c.complete_table in
-    let rows = first.last.1.1.1.1.1.1.0 in
-    let others = c.complete_table-then-cars-commodities.new.1.1.1.1.1.1.0 in
-    full-both ready c.car_count-cars.ensures.0 nexts rows (rows_long (goal.at.returns-then-cars-commodities c).After-complete_table) first.ensures.0 others
+    let rows = first.new.table in
+    let others = c.complete_table-then-cars-commodities.new.table in
+    full-both ready c.car_count-cars.ensures.0 nexts rows (rows_long (goal.at.returns-then-cars-commodities c).After-complete_table) first.ensures.all_nexts others
     (c.complete_table-then-cars-commodities.ensures.table_len_unchanged ∙ length-behind (rows ++ drop c.car_count-cars.result c.args.next.now) c.car_count-cars.result)
     c.complete_table-then-cars-commodities.ensures.all_nexts
 
 pub returns-else-cars-commodities : goal.returns-else-cars-commodities
 returns-else-cars-commodities c =
     let (ready, fit) = c.requires.ready in let (chains, nexts) = c.requires.class_chains in
-    full-cars ready c.car_count-cars.ensures.0 nexts c.complete_table.new.1.1.1.1.1.1.0 (rows_long (goal.at.returns-else-cars-commodities c).After-complete_table) c.complete_table.ensures.all_nexts
+    full-cars ready c.car_count-cars.ensures.0 nexts c.complete_table.new.table (rows_long (goal.at.returns-else-cars-commodities c).After-complete_table) c.complete_table.ensures.all_nexts
     (omega (arith, c.if-cars-commodities.false))

@@ -6,18 +6,16 @@ use lib.ListN.{length}
 use lib.Seq.{length-take-le}
 use borrow.Author.Rules.{rules}
 use Rattle.search.specs.Groups.{least_over}
-use Rattle.judging.specs.Study.{Study, study_of}
+use Rattle.judging.specs.Study.{study_of}
 use Rattle.judging.specs.Classes.{HasLorries}
 use Rattle.judging.specs.Laws.Study.{chainable}
 use Rattle.judging.specs.Laws.Least.{least-small}
 use Rattle.judging.specs.Laws.Counted.{middle-within, middle-small, cars-asked, cars-chain, cars-trips, lorries-asked, lorries-chain, lorries-trips, counted-least, both-least}
 use Rattle.judging.proofs.classes.least_times.Goals as goal
-use Rattle.judging.proofs.classes.least_times.Goals.{After-least_times-others, Else-commodities-cars, Start}
+use Rattle.judging.proofs.classes.least_times.Goals.{After-least_times-others, Else-commodities-cars}
 
-abbrev study : Start → Study
-study c = let x = c.args in study_of x.nodes x.links.now x.commodities.now x.trips.now
-
-some-lorries : (c : Else-commodities-cars) → HasLorries (study (c))
+some-lorries :
+    (c : Else-commodities-cars) → let x = c.args in HasLorries (study_of x.nodes x.links.now x.commodities.now x.trips.now)
 some-lorries c = omega (arith, c.if-commodities-cars.false, c.car_count-cars.ensures.0)
 
 pub overflow_mul-middle : goal.overflow_mul-middle
@@ -45,7 +43,7 @@ returns-then-commodities-cars c =
     counted-least c.requires.0 c.car_count-cars.ensures.0 c.args.times.now c.least_times-least.ensures c.if-commodities-cars.true
 
 pub into_chain-into-requires-2 : goal.into_chain-into-requires-2
-into_chain-into-requires-2 c = chainable (c).requires.0
+into_chain-into-requires-2 c = chainable c.requires.0
 
 pub offset_bounds-trips-middle : goal.offset_bounds-trips-middle
 offset_bounds-trips-middle c =
@@ -61,12 +59,13 @@ pub least_times-others-requires : goal.least_times-others-requires
 least_times-others-requires c =
     let (ready, fit) = c.requires in
     let e = c.car_count-cars.ensures.0 in
-    record { all_searchable = (lorries-asked ready e fit (some-lorries (goal.at.least_times-others-requires c).Else-commodities-cars), lorries-chain ready e (some-lorries (goal.at.least_times-others-requires c).Else-commodities-cars) c.into_chain-into-2.ensures); trips_len = lorries-trips ready e }
+    let some = some-lorries (goal.at.least_times-others-requires c).Else-commodities-cars in
+    record { all_searchable = (lorries-asked ready e fit some, lorries-chain ready e some c.into_chain-into-2.ensures); trips_len = lorries-trips ready e }
 
 -- Both sums are that of all commodities.
 both :
     (c : After-least_times-others) →
-    let x = (c).args in
+    let x = c.args in
     c.least_times-least.result + c.least_times-others.result ≡ least_over x.nodes x.links.now x.commodities.now x.trips.now x.times.now
 both c =
     both-least c.requires.0 c.car_count-cars.ensures.0 c.args.times.now c.least_times-least.ensures c.least_times-others.ensures

@@ -5,16 +5,12 @@ use mathlib.Core.List.{List, ◌++◌}
 use lib.ListN.{length, drop}
 use lib.Seq.{length-take-le}
 use borrow.Author.Rules.{rules}
-use Rattle.judging.specs.Study.{Study, study_of, commodity_count}
-use Rattle.judging.specs.Classes.{cars_in, HasLorries}
+use Rattle.judging.specs.Study.{study_of}
+use Rattle.judging.specs.Classes.{HasLorries}
 use Rattle.judging.specs.Laws.Study.{chainable}
 use Rattle.judging.specs.Laws.Chains.{length_front, first-empty, rest-empty, chains-cars, chains-both}
 use Rattle.judging.proofs.classes.put_class_chains.Goals as goal
-use Rattle.judging.proofs.classes.put_class_chains.Goals.{After-put_chains, Start, Then-car_count-commodities}
-
--- The study, and the places at which the cars' chains are there and the lorries' are to be put.
-abbrev study : Start → Study
-study c = let x = c.args in study_of x.nodes x.links.now x.commodities.now x.trips.now
+use Rattle.judging.proofs.classes.put_class_chains.Goals.{After-put_chains, Then-car_count-commodities}
 
 pub slice_bounds-put_chains-end : goal.slice_bounds-put_chains-end
 slice_bounds-put_chains-end c = c.requires.1.for-cars
@@ -28,18 +24,19 @@ put_chains-requires c = (chainable c.requires.0, first-empty c.requires.1)
 -- The rows are as many as they were.
 rows_long :
     (c : After-put_chains) →
-    length (c.put_chains.new.1.1.0 ++ drop 2 c.args.chains.now) ≡ length c.args.chains.now
-rows_long c = length_front c.args.chains.now 2 c.requires.1.for-cars c.put_chains.new.1.1.0 c.put_chains.ensures.1
+    length (c.put_chains.new.chains ++ drop 2 c.args.chains.now) ≡ length c.args.chains.now
+rows_long c = length_front c.args.chains.now 2 c.requires.1.for-cars c.put_chains.new.chains c.put_chains.ensures.1
 
 -- There are lorries.
-some-lorries : (c : Then-car_count-commodities) → HasLorries (study (c))
+some-lorries :
+    (c : Then-car_count-commodities) → let x = c.args in HasLorries (study_of x.nodes x.links.now x.commodities.now x.trips.now)
 some-lorries c = omega (arith, c.if-car_count-commodities.true, c.car_count.ensures.0)
 
 pub slice_bounds-put_chains-count : goal.slice_bounds-put_chains-count
-slice_bounds-put_chains-count c = omega (arith, rows_long (goal.at.slice_bounds-put_chains-count c).After-put_chains, (c).requires.1.for-cars)
+slice_bounds-put_chains-count c = omega (arith, rows_long (goal.at.slice_bounds-put_chains-count c).After-put_chains, c.requires.1.for-cars)
 
 pub slice_bounds-put_chains-start : goal.slice_bounds-put_chains-start
-slice_bounds-put_chains-start c = omega (arith, rows_long (goal.at.slice_bounds-put_chains-start c).After-put_chains, (c).requires.1.for-cars)
+slice_bounds-put_chains-start c = omega (arith, rows_long (goal.at.slice_bounds-put_chains-start c).After-put_chains, c.requires.1.for-cars)
 
 pub slice_bounds-put_chains-end-then-car_count-commodities : goal.slice_bounds-put_chains-end-then-car_count-commodities
 slice_bounds-put_chains-end-then-car_count-commodities c = omega arith
@@ -47,14 +44,14 @@ slice_bounds-put_chains-end-then-car_count-commodities c = omega arith
 pub put_chains-requires-then-car_count-commodities : goal.put_chains-requires-then-car_count-commodities
 put_chains-requires-then-car_count-commodities c =
     let (ready, room) = c.requires in
-    (chainable ready, rest-empty room c.put_chains.last.1.1.0 c.put_chains.ensures.1 (some-lorries (goal.at.put_chains-requires-then-car_count-commodities c).Then-car_count-commodities))
+    (chainable ready, rest-empty room c.put_chains.new.chains c.put_chains.ensures.1 (some-lorries (goal.at.put_chains-requires-then-car_count-commodities c).Then-car_count-commodities))
 
 pub returns-then-car_count-commodities : goal.returns-then-car_count-commodities
 returns-then-car_count-commodities c =
-    chains-both c.requires.1 c.put_chains.last.1.1.0 c.put_chains.ensures.1 c.put_chains.ensures.0 (some-lorries (goal.at.returns-then-car_count-commodities c).Then-car_count-commodities)
+    chains-both c.requires.1 c.put_chains.new.chains c.put_chains.ensures.1 c.put_chains.ensures.0 (some-lorries (goal.at.returns-then-car_count-commodities c).Then-car_count-commodities)
     c.put_chains-then-car_count-commodities.ensures.0 c.put_chains-then-car_count-commodities.ensures.1
 
 pub returns-else-car_count-commodities : goal.returns-else-car_count-commodities
 returns-else-car_count-commodities c =
-    chains-cars c.requires.1 c.put_chains.new.1.1.0 c.put_chains.ensures.1 c.put_chains.ensures.0
+    chains-cars c.requires.1 c.put_chains.new.chains c.put_chains.ensures.1 c.put_chains.ensures.0
     (omega (arith, c.if-car_count-commodities.false, c.car_count.ensures.0))

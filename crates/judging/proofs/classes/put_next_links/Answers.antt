@@ -6,17 +6,15 @@ use lib.ListN.{length}
 use lib.Seq.{length-take-le}
 use borrow.Author.Rules.{rules}
 use Rattle.theory.specs.Laws.Parts.{length-behind, length-behind-replaced}
-use Rattle.judging.specs.Study.{Study, study_of}
+use Rattle.judging.specs.Study.{study_of}
 use Rattle.judging.specs.Classes.{HasLorries}
 use Rattle.judging.specs.Laws.Chains.{two-rows}
 use Rattle.judging.specs.Laws.Counted.{count-within, middle-within, middle-small, cars-asked, cars-linked, cars-trips, lorries-asked, lorries-linked, lorries-trips, counted-cars, counted-both}
 use Rattle.judging.proofs.classes.put_next_links.Goals as goal
-use Rattle.judging.proofs.classes.put_next_links.Goals.{Start, Then-cars-commodities}
+use Rattle.judging.proofs.classes.put_next_links.Goals.{Then-cars-commodities}
 
-abbrev study : Start → Study
-study c = let x = c.args in study_of x.nodes x.links.now x.commodities.now x.trips.now
-
-some-lorries : (c : Then-cars-commodities) → HasLorries (study (c))
+some-lorries :
+    (c : Then-cars-commodities) → let x = c.args in HasLorries (study_of x.nodes x.links.now x.commodities.now x.trips.now)
 some-lorries c = omega (arith, c.if-cars-commodities.true, c.car_count-cars.ensures.0)
 
 pub overflow_mul-middle : goal.overflow_mul-middle
@@ -56,17 +54,19 @@ pub slice_bounds-next_table-start-then-cars-commodities : goal.slice_bounds-next
 slice_bounds-next_table-start-then-cars-commodities c = middle-within c.requires.ready.0 c.car_count-cars.ensures.0
 
 pub slice_bounds-next_table-count-then-cars-commodities-2 : goal.slice_bounds-next_table-count-then-cars-commodities-2
-slice_bounds-next_table-count-then-cars-commodities-2 c = two-rows (c).requires.1.0
+slice_bounds-next_table-count-then-cars-commodities-2 c = two-rows c.requires.class_chains.0
 
 pub slice_bounds-next_table-start-then-cars-commodities-2 : goal.slice_bounds-next_table-start-then-cars-commodities-2
-slice_bounds-next_table-start-then-cars-commodities-2 c = two-rows (c).requires.1.0
+slice_bounds-next_table-start-then-cars-commodities-2 c = two-rows c.requires.class_chains.0
 
 pub next_table-requires-then-cars-commodities : goal.next_table-requires-then-cars-commodities
 next_table-requires-then-cars-commodities c =
     let (ready, fit) = c.requires.ready in let (chains, long) = c.requires.class_chains in
     let e = c.car_count-cars.ensures.0 in
-    let n = c.car_count-cars.result in record {
-      all_searchable = (lorries-asked ready e fit (some-lorries (goal.at.next_table-requires-then-cars-commodities c).Then-cars-commodities), lorries-linked ready e chains (some-lorries (goal.at.next_table-requires-then-cars-commodities c).Then-cars-commodities));
+    let n = c.car_count-cars.result in
+    let some = some-lorries (goal.at.next_table-requires-then-cars-commodities c).Then-cars-commodities in
+    record {
+      all_searchable = (lorries-asked ready e fit some, lorries-linked ready e chains some);
       trips_len = (
         lorries-trips ready e,
         omega (
@@ -74,7 +74,7 @@ next_table-requires-then-cars-commodities c =
           long,
           c.next_table.ensures.table_len_unchanged,
           length-behind c.args.commodities.now n,
-          length-behind c.next_table.new.1.1.1.1.1.1.0 n,
+          length-behind c.next_table.new.table n,
         ),
       );
     }
@@ -84,9 +84,9 @@ returns-then-cars-commodities c =
     let (ready, fit) = c.requires.ready in let (chains, long) = c.requires.class_chains in
     let e = c.car_count-cars.ensures.0 in
     let first = c.next_table in
-    let nexts = first.last.1.1.1.1.1.1.0 in
-    let rows = c.next_table-then-cars-commodities.new.1.1.1.1.1.1.0 in
-    let rows_long = c.next_table-then-cars-commodities.ensures.table_len_unchanged ∙ length-behind nexts c.car_count-cars.result in record { class_nexts = counted-both ready e (omega (arith, long, first.ensures.1)) first.ensures.0 rows rows_long c.next_table-then-cars-commodities.ensures.nexts; next_len_unchanged = length-behind-replaced nexts c.car_count-cars.result (omega (arith, long, first.ensures.1, c.car_count-cars.ensures.1)) rows rows_long ∙ first.ensures.1 }
+    let nexts = first.new.table in
+    let rows = c.next_table-then-cars-commodities.new.table in
+    let rows_long = c.next_table-then-cars-commodities.ensures.table_len_unchanged ∙ length-behind nexts c.car_count-cars.result in record { class_nexts = counted-both ready e (omega (arith, long, first.ensures.table_len_unchanged)) first.ensures.nexts rows rows_long c.next_table-then-cars-commodities.ensures.nexts; next_len_unchanged = length-behind-replaced nexts c.car_count-cars.result (omega (arith, long, first.ensures.table_len_unchanged, c.car_count-cars.ensures.1)) rows rows_long ∙ first.ensures.table_len_unchanged }
 
 pub returns-else-cars-commodities : goal.returns-else-cars-commodities
 returns-else-cars-commodities c =

@@ -50,14 +50,13 @@ pub chosen-j-requires : goal.chosen-j-requires
 chosen-j-requires c = (move-fits c.requires.judgeable c.judge.ensures (totals-were (goal.at.chosen-j-requires c).Start), c.put_reciprocals.ensures.0)
 
 pub can_move-moved-requires : goal.can_move-moved-requires
-can_move-moved-requires c = (start (of-judge (c))).requires.0.share-most
+can_move-moved-requires c = c.requires.judgeable.share-most
 
 pub move_table-after-requires : goal.move_table-after-requires
 move_table-after-requires c = movable c.requires.judgeable c.judge.ensures (totals-were (goal.at.move_table-after-requires c).Start) c.chosen-j.ensures
 
 pub overflow_mul-share : goal.overflow_mul-share
-overflow_mul-share c = let at = of-judge (of-gap (c)) in
-    omega (arith, (start at).pre.0.share-most)
+overflow_mul-share c = omega (arith, c.requires.judgeable.share-most)
 
 pub put_note-requires : goal.put_note-requires
 put_note-requires c = (
@@ -66,25 +65,21 @@ put_note-requires c = (
 )
 
 pub shape_of-curves : goal.shape_of-curves
-shape_of-curves c =
-    let at = of-judge (of-gap (of-chosen (c))) in
-    at.put-reciprocals.ensures.1 ∙ at.before.before.before.before.put-powers.ensures.1
+shape_of-curves c = c.put_reciprocals.auto.curves ∙ c.put_powers.auto.curves
 
 pub shape_of-chains : goal.shape_of-chains
-shape_of-chains c =
-    let at = of-judge (of-gap (of-chosen (c))) in at.before.before.before.before.before.before.chains.given
+shape_of-chains c = c.put_class_chains.auto.chains
 
 pub shape_of-next : goal.shape_of-next
-shape_of-next c = c.next-2-1.given ∙ (of-chosen (c)).before.before.before.before.next.given
+shape_of-next c = search rules
 
 pub shape_of-volumes : goal.shape_of-volumes
-shape_of-volumes c = (of-chosen (c)).before.before.before.volumes.given
+shape_of-volumes c = omega arith
 
 pub cost-costs-requires : goal.cost-costs-requires
-cost-costs-requires c = let judged = of-gap (of-chosen (c)) in
-    let at = of-judge judged in
-    let given = (start at).pre.0 in
-    record { links_fit = (links-fit given.ready, share-fits given, totals-within given (totals-are given judged.judge.ensures (totals-were (start at)))); link_powers = at.put-reciprocals.ensures.0.powers }
+cost-costs-requires c = let given = c.requires.judgeable in
+    let totals = totals-are given c.judge.ensures (totals-were (goal.at.cost-costs-requires c).Start) in
+    record { links_fit = (links-fit given.ready, share-fits given, totals-within given totals); link_powers = c.put_reciprocals.ensures.0.powers }
 
 pub returns : goal.returns
 returns c = let judgeable = c.requires.judgeable in
