@@ -1,14 +1,8 @@
 -- `next::complete_table` meets its contract.
-use Rattle.std.proofs.Common.{◌∙◌, arith}
-use Rattle.routes.specs.Laws.Table.{groups_none, groups-all, group-span, span-rows, trips-within, all-put, all-kept}
+use Rattle.std.proofs.Common.{◌∙◌}
+use Rattle.routes.specs.Laws.Table.{groups-all, group-span, span-rows, trips-within, all-put, all-kept}
 use Rattle.routes.proofs.next.complete_table.Goals as goal
 use Rattle.routes.proofs.next.complete_table.Goals.{then-group_trips-eq0, else-group_trips-eq0}
-
-pub loop-first-init : goal.loop-first-init
-loop-first-init c = groups_none
-
-pub group_end-past-requires : goal.group_end-past-requires
-group_end-past-requires c = (c.requires.all_searchable.0.few-destinations, c.loop-first-test.true)
 
 pub group_trips-requires : goal.group_trips-requires
 group_trips-requires c =
@@ -31,10 +25,6 @@ put_next-requires c =
     let long = rows.size ∙ c.loop-first.invariant.rows.size in
     record { all_searchable = given; first_in_bounds = (inside, past); past_in_bounds = (span-rows given.0 inside past (rw long c.requires.nexts.size), rows.put) }
 
-pub overflow_add-first : goal.overflow_add-first
-overflow_add-first c =
-    omega (arith, c.requires.all_searchable.0.few-destinations, c.loop-first-test.true)
-
 pub loop-first-preserved : goal.loop-first-preserved
 loop-first-preserved c =
     let given = c.requires.all_searchable in
@@ -47,9 +37,6 @@ loop-first-preserved c =
           all-kept given.0 inside past done c.requires.nexts (λ nobody. w.if-group_trips-eq0.false (c.group_trips.ensures.1 nobody))
           )
     ]
-
-pub shape_of-table : goal.shape_of-table
-shape_of-table c = c.loop-first.invariant.rows.size
 
 pub returns : goal.returns
 returns c =

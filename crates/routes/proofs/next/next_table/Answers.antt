@@ -1,14 +1,8 @@
 -- `next::next_table` meets its contract.
 use Rattle.std.proofs.Common.{◌∙◌, arith}
-use Rattle.routes.specs.Laws.Table.{groups_none, groups-all, group-span, span-rows, trips-within, nexts-put, nexts-skip}
+use Rattle.routes.specs.Laws.Table.{groups-all, group-span, span-rows, trips-within, nexts-put, nexts-skip}
 use Rattle.routes.proofs.next.next_table.Goals as goal
 use Rattle.routes.proofs.next.next_table.Goals.{then-group_trips-gt0, else-group_trips-gt0}
-
-pub loop-first-init : goal.loop-first-init
-loop-first-init c = groups_none
-
-pub group_end-past-requires : goal.group_end-past-requires
-group_end-past-requires c = (c.requires.all_searchable.0.few-destinations, c.loop-first-test.true)
 
 pub clear_rows-requires : goal.clear_rows-requires
 clear_rows-requires c =
@@ -32,10 +26,6 @@ put_next-requires c =
     let long = rows.size ∙ c.loop-first.invariant.rows.size in
     record { all_searchable = given; first_in_bounds = (inside, past); past_in_bounds = (span-rows given.0 inside past (rw long c.requires.trips_len.1), rows.put) }
 
-pub overflow_add-first : goal.overflow_add-first
-overflow_add-first c =
-    omega (arith, c.requires.all_searchable.0.few-destinations, c.loop-first-test.true)
-
 pub loop-first-preserved : goal.loop-first-preserved
 loop-first-preserved c =
     let g = c.requires.all_searchable.0 in
@@ -50,9 +40,6 @@ loop-first-preserved c =
           nexts-skip g inside past trips done rows (c.group_trips.ensures.0 (omega (arith, w.if-group_trips-gt0.false)))
           )
     ]
-
-pub shape_of-table : goal.shape_of-table
-shape_of-table c = c.loop-first.invariant.rows.size
 
 pub returns : goal.returns
 returns c =

@@ -1,10 +1,7 @@
 -- `next::put_closed` meets its contract.
-use Rattle.std.proofs.Common.{◌≡◌, arith, rules}
-use Rattle.routes.specs.Laws.Table.{rows_none, rows_more, row_before}
+use Rattle.std.proofs.Common.{arith, rules}
+use Rattle.routes.specs.Laws.Table.{rows_more, row_before}
 use Rattle.routes.proofs.next.put_closed.Goals as goal
-
-pub loop-k-init : goal.loop-k-init
-loop-k-init c = (search rules, search rules, rows_none)
 
 pub put_own-requires : goal.put_own-requires
 put_own-requires c =
@@ -16,9 +13,3 @@ pub loop-k-preserved : goal.loop-k-preserved
 loop-k-preserved c =
     let inv = c.loop-k.invariant.2 in
     (search rules, search rules, rows_more _ (omega arith) c.put_own.ensures (omega arith) inv)
-
-pub shape_of-table : goal.shape_of-table
-shape_of-table c = c.loop-k.invariant.2.size
-
-pub returns : goal.returns
-returns c = let all : c.loop-k.k ≡ c.args.past = omega arith in rw all at c.loop-k.invariant.2

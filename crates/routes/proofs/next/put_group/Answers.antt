@@ -1,5 +1,5 @@
 -- `next::put_group` meets its contract.
-use Rattle.std.proofs.Common.{◌≡◌, ◌≤◌, refl, arith, rules}
+use Rattle.std.proofs.Common.{◌≤◌, refl, arith, rules}
 use Rattle.routes.specs.Laws.Table.{put-none, put-more}
 use Rattle.routes.proofs.next.put_group.Goals as goal
 use Rattle.routes.proofs.next.put_group.Goals.{Start}
@@ -23,9 +23,3 @@ put_node-requires c =
 pub loop-j-preserved : goal.loop-j-preserved
 loop-j-preserved c =
     (search rules, put-more c.args.group.now c.requires.each_searchable.0 c.loop-j.invariant.1 (omega (arith, few-nodes (goal.at.loop-j-preserved c).Start, c.loop-j-test.true)) c.put_node.ensures)
-
-pub shape_of-table : goal.shape_of-table
-shape_of-table c = c.loop-j.invariant.1.size
-
-pub returns : goal.returns
-returns c = let all : c.loop-j.j ≡ c.args.nodes = omega arith in rw all at c.loop-j.invariant.1

@@ -1,5 +1,5 @@
 -- `next::put_next` meets its contract: the rows have the links with open heads after `put_group`, and all next links after `put_closed`.
-use Rattle.std.proofs.Common.{◌+◌, ◌<◌, ◌≤◌, length, ◌∙◌, arith}
+use Rattle.std.proofs.Common.{◌+◌, ◌<◌, ◌≤◌, length, arith}
 use Rattle.search.specs.Given.{class_of}
 use Rattle.search.specs.Chains.{Linked}
 use Rattle.search.specs.Lanes.{EachSearchable}
@@ -16,9 +16,6 @@ span c = let (low, high, few) = group-span c.requires.all_searchable.0 c.require
 -- There are two rows of chains.
 two : (c : Start) → 1 < length c.args.chains.now
 two c = linked-two c.requires.all_searchable.1
-
-pub group_of-group-requires : goal.group_of-group-requires
-group_of-group-requires c = (c.requires.all_searchable.0.few-destinations, c.requires.first_in_bounds.0)
 
 -- The network can be searched to the destinations of the group,
 searchable : (c : After-group_of-group) →
@@ -52,10 +49,6 @@ put_closed-requires c =
     let put = c.put_group.ensures in
     let long = put.size in
     record { each_searchable = (searchable (goal.at.put_closed-requires c).After-group_of-group, c.search.ensures); into_value = ((linked (goal.at.put_closed-requires c).After-group_of-group).into, put.put); first_le_past = (low, high, few, omega (arith, room, long)) }
-
-pub shape_of-table : goal.shape_of-table
-shape_of-table c =
-    c.put_closed.ensures.size ∙ c.put_group.ensures.size
 
 pub returns : goal.returns
 returns c =

@@ -4,7 +4,6 @@ use mathlib.Core.Path.{sym, ◌∙◌}
 use native.Mathlib.Nat.{mul-le-mul_right}
 use native.Mathlib.Omega.{arith}
 use lib.ListN.{length}
-use Rattle.search.specs.Least.{most_at_node}
 use Rattle.search.specs.Laws.Groups.{group-class, members-searchable}
 use Rattle.search.specs.Laws.Least.{group-adds, all_none, all_more, all-skip, all-below}
 use Rattle.search.proofs.least.least_times.Goals as goal
@@ -12,9 +11,6 @@ use Rattle.search.proofs.least.least_times.Goals.{After-group_end-past, then-gro
 
 pub loop-first-init : goal.loop-first-init
 loop-first-init c = (sym (all_none _ _ _ _ _), omega arith)
-
-pub group_end-past-requires : goal.group_end-past-requires
-group_end-past-requires c = (c.requires.all_searchable.0.few-destinations, c.loop-first-test.true)
 
 -- The trips to the group are a part of all trips.
 part : (c : After-group_end-past) →
@@ -39,9 +35,6 @@ part c =
 pub group_trips-requires : goal.group_trips-requires
 group_trips-requires c = let (few, ordered, most, within, group) = part (goal.at.group_trips-requires c).After-group_end-past in (few, ordered, most, within)
 
-pub group_of-group-requires : goal.group_of-group-requires
-group_of-group-requires c = (c.requires.all_searchable.0.few-destinations, c.loop-first-test.true)
-
 pub search-requires : goal.search-requires
 search-requires c =
     let given = c.requires.all_searchable in
@@ -53,15 +46,6 @@ pub least_to_group-least-requires : goal.least_to_group-least-requires
 least_to_group-least-requires c =
     let (few, ordered, most, within, group) = part (goal.at.least_to_group-least-requires c).After-group_end-past in
     (few, within, ordered, group, most, c.search.ensures.marked)
-
-pub overflow_add-least : goal.overflow_add-least
-overflow_add-least c =
-    let before : c.loop-first.first * (128 * most_at_node) ≤ 32 * (128 * most_at_node) =
-    mul-le-mul_right {m = c.loop-first.first} {n = 32} (128 * most_at_node) (omega (arith, c.loop-first-test.true, c.requires.all_searchable.0.few-destinations)) in
-    omega (arith, before, c.loop-first.invariant.1, group-adds c.least_to_group-least.ensures (part (goal.at.overflow_add-least c).After-group_end-past).4)
-
-pub overflow_add-first : goal.overflow_add-first
-overflow_add-first c = omega (arith, c.requires.all_searchable.0.few-destinations, c.loop-first-test.true)
 
 pub loop-first-preserved : goal.loop-first-preserved
 loop-first-preserved c =

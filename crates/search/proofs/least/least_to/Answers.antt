@@ -1,11 +1,9 @@
 -- `least::least_to` meets its contract.
 use Prim.Native.Nat.{ℕ, ◌*◌, ◌≤◌, ◌<◌}
-use native.Mathlib.Nat.{mul-le-mul_right}
 use native.Mathlib.Omega.{arith}
 use borrow.Author.Rules.{rules}
-use mathlib.Core.Path.{◌≡◌}
 use mathlib.Core.List.{List, []}
-use lib.ListN.{length, get_or}
+use lib.ListN.{get_or}
 use Rattle.search.specs.Least.{most_at_node}
 use Rattle.search.specs.Lanes.{Marked}
 use Rattle.search.specs.Laws.Lanes.{row-most}
@@ -25,14 +23,6 @@ product-least-requires c =
     let x = c.args in
     omega (arith, most x.trips.now x.marks.now x.k c.loop-j.j c.requires.2 c.requires.1 (omega (arith, c.requires.0, c.loop-j-test.true)) (omega (arith, c.type_inv.trips c.loop-j.j)))
 
-pub overflow_add-least : goal.overflow_add-least
-overflow_add-least c =
-    let x = c.args in
-    let turn = c.loop-j in
-    let node : turn.j < 128 = omega (arith, c.requires.0, c.loop-j-test.true) in
-    let few : turn.j * most_at_node ≤ 128 * most_at_node = mul-le-mul_right {m = turn.j} {n = 128} most_at_node (omega (arith, node)) in
-    omega (arith, most x.trips.now x.marks.now x.k turn.j c.requires.2 c.requires.1 node (omega (arith, c.type_inv.trips turn.j)), c.product-least.ensures, turn.invariant.1.most, few)
-
 pub loop-j-preserved : goal.loop-j-preserved
 loop-j-preserved c =
     let x = c.args in
@@ -42,6 +32,3 @@ loop-j-preserved c =
           (least_more x.trips.now x.marks.now x.k c.loop-j.j c.loop-j.least node (omega (arith, c.type_inv.trips c.loop-j.j))
           (row-most x.marks.now c.requires.2 node x.k c.requires.1) c.loop-j.invariant.1),
     )
-
-pub returns : goal.returns
-returns c = let all : c.loop-j.j ≡ length c.args.trips.now = omega arith in rw all at c.loop-j.invariant.1

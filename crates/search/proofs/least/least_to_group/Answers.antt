@@ -5,7 +5,6 @@ use native.Mathlib.Omega.{arith}
 use borrow.Author.Rules.{rules}
 use mathlib.Core.Path.{◌≡◌}
 use lib.ListN.{length, take, drop}
-use Rattle.search.specs.Least.{most_at_node}
 use Rattle.search.specs.Laws.Trips.{length_part, group-within}
 use Rattle.search.specs.Laws.Least.{group-none, group-more}
 use Rattle.search.proofs.least.least_to_group.Goals as goal
@@ -34,38 +33,12 @@ row-length c =
     let at = c.loop-k.k * x.nodes in
     omega (arith, length_part at (at + x.nodes) x.trips.now (omega arith) (within c).0)
 
-pub overflow_mul-k : goal.overflow_mul-k
-overflow_mul-k c = omega (arith, (within (goal.at.overflow_mul-k c).In-loop-k).1)
-
-pub overflow_mul-k-in-loop-k : goal.overflow_mul-k-in-loop-k
-overflow_mul-k-in-loop-k c = omega (arith, (within (goal.at.overflow_mul-k-in-loop-k c).In-loop-k).1)
-
-pub overflow_add-k : goal.overflow_add-k
-overflow_add-k c = omega (arith, (within (goal.at.overflow_add-k c).In-loop-k).1)
-
-pub offset_bounds-trips-k : goal.offset_bounds-trips-k
-offset_bounds-trips-k c = omega (arith, (within (goal.at.offset_bounds-trips-k c).In-loop-k).1)
-
-pub slice_bounds-least_to-start : goal.slice_bounds-least_to-start
-slice_bounds-least_to-start c = omega (arith, (within (goal.at.slice_bounds-least_to-start c).In-loop-k).0)
-
-pub slice_bounds-least_to-end : goal.slice_bounds-least_to-end
-slice_bounds-least_to-end c = omega (arith, (within (goal.at.slice_bounds-least_to-end c).In-loop-k).0)
-
 pub least_to-least-requires : goal.least_to-least-requires
 least_to-least-requires c = (
   omega (arith, row-length (goal.at.least_to-least-requires c).In-loop-k, c.requires.0),
   omega (arith, c.requires.3, c.loop-k-test.true),
   c.requires.5,
 )
-
-pub overflow_add-least : goal.overflow_add-least
-overflow_add-least c =
-    let turn = c.loop-k in
-    let most : c.args.nodes * most_at_node ≤ 128 * most_at_node = mul-le-mul_right {m = c.args.nodes} {n = 128} most_at_node c.requires.0 in
-    let group : (turn.k - c.args.first) * (128 * most_at_node) ≤ 8 * (128 * most_at_node) =
-    mul-le-mul_right {m = turn.k - c.args.first} {n = 8} (128 * most_at_node) (omega (arith, c.requires.3, turn.invariant.1)) in
-    omega (arith, turn.invariant.2.most, (rw (row-length (goal.at.overflow_add-least c).In-loop-k) at c.least_to-least.ensures).most, most, group)
 
 pub loop-k-preserved : goal.loop-k-preserved
 loop-k-preserved c =
@@ -76,6 +49,3 @@ loop-k-preserved c =
       group-more x.nodes x.trips.now x.marks.now x.first turn.k turn.least c.least_to-least.result c.requires.0 turn.invariant.0
           (within (goal.at.loop-k-preserved c).In-loop-k).0 turn.invariant.2 (rw (row-length (goal.at.loop-k-preserved c).In-loop-k) at c.least_to-least.ensures),
     )
-
-pub returns : goal.returns
-returns c = let all : c.loop-k.k ≡ c.args.past = omega arith in rw all at c.loop-k.invariant.2

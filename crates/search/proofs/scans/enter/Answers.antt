@@ -1,23 +1,17 @@
 -- `scans::enter` meets its contract.
 use Prim.Native.Nat.{◌<◌}
-use mathlib.Core.Path.{◌≡◌, refl}
+use mathlib.Core.Path.{refl}
 use native.Mathlib.Omega.{arith}
 use borrow.Author.Rules.{rules}
 use Rattle.search.specs.Laws.Lanes.{enter-marked, enter-hands, enter-more}
 use Rattle.search.proofs.scans.enter.Goals as goal
 use Rattle.search.proofs.scans.enter.Goals.{After-node_of-place}
 
-pub loop-k-init : goal.loop-k-init
-loop-k-init c = (search rules, c.requires.each_entered)
-
 -- The destination is one of 128 nodes.
 destination : (c : After-node_of-place) → c.node_of-place.result < 128
 destination c =
     let given = c.requires.each_searchable.0.each c.loop-k.k c.loop-k-test.true in
     omega (arith, c.node_of-place.ensures, given.destination-node, given.roads.few-nodes)
-
-pub overflow_add-place : goal.overflow_add-place
-overflow_add-place c = omega (arith, destination (goal.at.overflow_add-place c).After-node_of-place)
 
 pub scan-requires : goal.scan-requires
 scan-requires c =
@@ -27,6 +21,3 @@ scan-requires c =
 pub loop-k-preserved : goal.loop-k-preserved
 loop-k-preserved c =
     (search rules, enter-more c.requires.each_searchable.0 c.loop-k-test.true c.loop-k.invariant.1 c.node_of-place.ensures refl c.scan.ensures)
-
-pub returns : goal.returns
-returns c = let all : c.loop-k.k ≡ 8 = omega arith in rw all at c.loop-k.invariant.1

@@ -4,15 +4,9 @@ use mathlib.Core.Path.{◌≡◌, ◌∙◌, ap}
 use native.Mathlib.Nat.{le_refl}
 use native.Mathlib.Omega.{arith}
 use borrow.Author.Rules.{rules}
-use Rattle.search.specs.Laws.Rows.{worked-none, worked-more}
+use Rattle.search.specs.Laws.Rows.{worked-more}
 use Rattle.search.specs.Laws.Lanes.{row-most, each-relaxed}
 use Rattle.search.proofs.scans.relax.Goals as goal
-
-pub loop-k-init : goal.loop-k-init
-loop-k-init c = (search rules, worked-none)
-
-pub overflow_add-ahead : goal.overflow_add-ahead
-overflow_add-ahead c = omega (arith, c.requires.tail_bound.2 c.loop-k.k c.loop-k-test.true)
 
 pub lower-requires : goal.lower-requires
 lower-requires c =

@@ -21,18 +21,6 @@ at-link c =
     let (g, chain) = c.requires.each_searchable in
     each_at g chain (c.loop-l.invariant c.args.group g chain c.requires.each_searching.0 c.requires.each_hands) c.loop-l-test.true c.index-i.ensures
 
-pub offset_bounds-links-i : goal.offset_bounds-links-i
-offset_bounds-links-i c = omega (arith, at-link (goal.at.offset_bounds-links-i c).After-index-i)
-
-pub bounds-links-i : goal.bounds-links-i
-bounds-links-i c = (at-link (goal.at.bounds-links-i c).After-index-i).0
-
-pub offset_bounds-times-i : goal.offset_bounds-times-i
-offset_bounds-times-i c = omega (arith, at-link (goal.at.offset_bounds-times-i c).After-index-i)
-
-pub bounds-times-i : goal.bounds-times-i
-bounds-times-i c = (at-link (goal.at.bounds-times-i c).After-index-i).1
-
 pub relax-requires : goal.relax-requires
 relax-requires c =
     let (below, few, tail-node, short) = at-link (goal.at.relax-requires c).After-index-i in
@@ -42,15 +30,6 @@ relax-requires c =
       tail_bound = (omega (arith, c.index.ensures), short, c.requires.each_searching.2);
       shaped = (scanning.shaped, each-marked g chain scanning);
     }
-
-pub overflow_add-l : goal.overflow_add-l
-overflow_add-l c = omega (arith, at-link (goal.at.overflow_add-l c).After-index-i)
-
-pub offset_bounds-into-i : goal.offset_bounds-into-i
-offset_bounds-into-i c = omega (arith, at-link (goal.at.offset_bounds-into-i c).After-index-i)
-
-pub bounds-into-i : goal.bounds-into-i
-bounds-into-i c = omega (arith, at-link (goal.at.bounds-into-i c).After-index-i)
 
 -- The next link of the chain is higher,
 pub loop-l-smaller : goal.loop-l-smaller

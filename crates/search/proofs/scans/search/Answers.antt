@@ -40,13 +40,6 @@ pub sweep_down-requires : goal.sweep_down-requires
 sweep_down-requires c =
     record { each_searchable = c.requires; each_scans = c.sweep_up-count.ensures.scans }
 
-pub loop-group-smaller : goal.loop-group-smaller
-loop-group-smaller c =
-    omega (arith, c.sweep_up-count.ensures.falls, c.if-count-eq0.false, c.sweep_down.ensures.falls)
-
-pub loop-group-preserved : goal.loop-group-preserved
-loop-group-preserved c = c.sweep_down.ensures.scans
-
 pub returns : goal.returns
 returns c =
     let given = c.requires.0 in

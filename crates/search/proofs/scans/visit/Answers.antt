@@ -9,26 +9,8 @@ use Rattle.search.proofs.scans.visit.Goals.{Start}
 node : (c : Start) → c.args.k < 128
 node c = omega (arith, c.requires.each_scans.1, (c.requires.each_searchable.0.each 0 (omega arith)).roads.few-nodes)
 
-pub offset_bounds-marks-k : goal.offset_bounds-marks-k
-offset_bounds-marks-k c = omega (arith, node (goal.at.offset_bounds-marks-k c).Start)
-
-pub bounds-marks-k : goal.bounds-marks-k
-bounds-marks-k c = node (goal.at.bounds-marks-k c).Start
-
-pub offset_bounds-scanned-k : goal.offset_bounds-scanned-k
-offset_bounds-scanned-k c = omega (arith, node (goal.at.offset_bounds-scanned-k c).Start)
-
-pub bounds-scanned-k : goal.bounds-scanned-k
-bounds-scanned-k c = node (goal.at.bounds-scanned-k c).Start
-
 pub fallen-requires : goal.fallen-requires
 fallen-requires c = above_at c.requires.each_searchable.0 c.requires.each_scans.0 (node (goal.at.fallen-requires c).Start)
-
-pub offset_bounds-scanned-k-then-fallen-gt0 : goal.offset_bounds-scanned-k-then-fallen-gt0
-offset_bounds-scanned-k-then-fallen-gt0 c = omega (arith, node (goal.at.offset_bounds-scanned-k-then-fallen-gt0 c).Start)
-
-pub bounds-scanned-k-then-fallen-gt0 : goal.bounds-scanned-k-then-fallen-gt0
-bounds-scanned-k-then-fallen-gt0 c = node (goal.at.bounds-scanned-k-then-fallen-gt0 c).Start
 
 pub scan-requires : goal.scan-requires
 scan-requires c =
