@@ -2,12 +2,9 @@
 use borrow.Author.Rules.{rules}
 use native.Mathlib.Omega.{arith}
 use mathlib.Core.Path.{◌≡◌}
-use Prim.Native.Nat.{◌*◌, ◌-◌, ◌≤◌}
 use lib.ListN.{length}
-use Rattle.theory.specs.Finite.{rows}
 use Rattle.travel.specs.Links.{list_time}
 use Rattle.travel.specs.Laws.Powers.{all-lists, list_at}
-use Rattle.text.specs.Put.{Put}
 use Rattle.text.specs.Laws.Put as puts
 use Rattle.pages.specs.Lines.{row_line}
 use Rattle.pages.proofs.lines.put_lines.Goals as goal

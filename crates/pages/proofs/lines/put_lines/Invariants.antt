@@ -1,14 +1,9 @@
 -- `pages::lines::put_lines` meets its contract. The loop's invariant: the lines of the links passed are put, 30 bytes each.
-use borrow.Author.Rules.{rules}
-use native.Mathlib.Omega.{arith}
 use mathlib.Core.Path.{◌≡◌}
 use Prim.Native.Nat.{◌*◌, ◌-◌, ◌≤◌}
 use lib.ListN.{length}
 use Rattle.theory.specs.Finite.{rows}
-use Rattle.travel.specs.Links.{list_time}
-use Rattle.travel.specs.Laws.Powers.{all-lists, list_at}
 use Rattle.text.specs.Put.{Put}
-use Rattle.text.specs.Laws.Put as puts
 use Rattle.pages.specs.Lines.{row_line}
 use Rattle.pages.proofs.lines.put_lines.Given as goal
 

@@ -1,7 +1,6 @@
 -- `pages::page_in` meets its contract: it prints a table that its questions accept.
 use native.Mathlib.Omega.{arith}
 use mathlib.Core.Path.{◌≡◌, refl, sym, ◌∙◌}
-use borrow.Author.Rules.{rules}
 use Rattle.calls.specs.Calls.{page_number}
 use Rattle.calls.specs.Laws.Calls.{page-kept}
 use Rattle.calls.specs.Laws.Questions.{Passed}

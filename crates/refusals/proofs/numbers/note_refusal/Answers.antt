@@ -1,8 +1,7 @@
 -- `refusals::note_refusal` meets its contract: where the note is too short, the questions of a start, and then 12; otherwise the audit's.
-use borrow.Author.Rules.{rules}
 use native.Mathlib.Nat.{mul-le-mul}
 use native.Mathlib.Omega.{arith}
-use mathlib.Core.Path.{◌≡◌, sym, ◌∙◌}
+use mathlib.Core.Path.{sym, ◌∙◌}
 use Rattle.refusals.specs.Laws.Parts.{parts-sized, note-short, note-long}
 use Rattle.refusals.specs.Laws.Numbers.{pass-long, pass-short, pass-started}
 use Rattle.refusals.proofs.numbers.note_refusal.Goals as goal

@@ -1,8 +1,6 @@
 -- `refusals::run_refusal` meets its contract: the questions of a start, and then the budget's.
 use mathlib.Core.Path.{◌≡◌, sym, ◌∙◌}
 use mathlib.Core.Bool.{cond}
-use borrow.Author.Rules.{rules}
-use borrow.Author.Tests.{not-true, not-false}
 use Rattle.calls.specs.Calls.{run_number}
 use Rattle.refusals.specs.Laws.Numbers.{run-started, run-budget}
 use Rattle.refusals.proofs.numbers.run_refusal.Goals as goal

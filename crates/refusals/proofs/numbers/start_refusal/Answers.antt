@@ -1,6 +1,5 @@
 -- `refusals::start_refusal` meets its contract: questions 1 to 5 of the file, then 6 to 11 of its parts, then 12 of the table.
 use Rattle.std.proofs.Common.{ℕ, List}
-use borrow.Author.Rules.{rules}
 use borrow.Author.Tests.{ltb-true}
 use native.Mathlib.Nat.{mul-le-mul}
 use native.Mathlib.Omega.{arith}

@@ -2,7 +2,6 @@
 use native.Mathlib.Nat.{mul-le-mul}
 use native.Mathlib.Omega.{arith}
 use mathlib.Core.Path.{◌≡◌, sym, ◌∙◌}
-use borrow.Author.Rules.{rules}
 use Rattle.calls.specs.Calls.{start_number}
 use Rattle.questions.specs.Laws.Questions.{total_of}
 use Rattle.refusals.specs.Laws.Parts.{parts-sized}

@@ -1,7 +1,5 @@
 -- `refusals::curve_places` meets its contract.
-use borrow.Author.Rules.{rules}
 use borrow.Author.Tests.{lt-ltb, le-ltb}
-use native.Mathlib.Omega.{arith}
 use Rattle.refusals.specs.Places.{curve_places}
 use Rattle.refusals.proofs.places.curve_places.Goals as goal
 

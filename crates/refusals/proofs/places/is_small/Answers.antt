@@ -1,7 +1,5 @@
 -- `refusals::is_small` meets its contract.
-use borrow.Author.Rules.{rules}
 use borrow.Author.Tests.{le-leb, lt-leb}
-use native.Mathlib.Omega.{arith}
 use Rattle.refusals.specs.Places.{is_small}
 use Rattle.refusals.proofs.places.is_small.Goals as goal
 
