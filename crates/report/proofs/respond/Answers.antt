@@ -9,7 +9,8 @@ use Rattle.report.proofs.respond.Goals.{Else-refusal-ne0}
 pub returns-then-refusal-ne0 : goal.returns-then-refusal-ne0
 returns-then-refusal-ne0 c =
     let r = c.run_input-answer.ensures in
-    responded c.write_refusal.ensures (printed-refused _ _ r c.if-refusal-ne0.true) r.left
+    let (size, (text, left)) = responded c.write_refusal.ensures (printed-refused _ _ r c.if-refusal-ne0.true) r.left in
+    record { value = size; out_after = text; table_after = left }
 
 -- An accepted run's input has a study behind its first four bytes.
 long : (c : Else-refusal-ne0) → 4 ≤ length c.args.input.now
@@ -28,4 +29,5 @@ write_accepted-requires c =
 pub returns : goal.returns
 returns c =
     let r = c.run_input-answer.ensures in
-    responded c.write_accepted.ensures (printed-accepted _ _ r c.if-refusal-ne0.false) r.left
+    let (size, (text, left)) = responded c.write_accepted.ensures (printed-accepted _ _ r c.if-refusal-ne0.false) r.left in
+    record { value = size; out_after = text; table_after = left }

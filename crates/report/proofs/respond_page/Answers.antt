@@ -12,7 +12,8 @@ use Rattle.report.proofs.respond_page.Goals.{Else-refusal-ne0}
 pub returns-then-refusal-ne0 : goal.returns-then-refusal-ne0
 returns-then-refusal-ne0 c =
     let r = c.run_input-answer.ensures in
-    responded c.write_refusal.ensures (page-refused _ _ r c.if-refusal-ne0.true) r.left
+    let (size, (text, left)) = responded c.write_refusal.ensures (page-refused _ _ r c.if-refusal-ne0.true) r.left in
+    record { value = size; out_after = text; table_after = left }
 
 -- An accepted run's input has a study behind its first four bytes.
 long : (c : Else-refusal-ne0) → 4 ≤ length c.args.input.now
@@ -35,4 +36,5 @@ returns c =
     let audited = ran-audited _ _ r c.if-refusal-ne0.false in
     let size = ap (λ m. 30 * m) c.link_count.ensures in
     let room : 15360 ≤ length c.args.out.now = omega arith in
-    responded (written-page _ _ _ _ audited room c.page.ensures.page_after size (page-accepted _ _ r c.if-refusal-ne0.false)) refl r.left
+    let (size, (text, left)) = responded (written-page _ _ _ _ audited room c.page.ensures.page_after size (page-accepted _ _ r c.if-refusal-ne0.false)) refl r.left in
+    record { value = size; out_after = text; table_after = left }

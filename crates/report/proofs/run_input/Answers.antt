@@ -1,5 +1,4 @@
 -- `report::run_input` meets its contract: it runs the study behind the first four bytes.
-use borrow.Author.Rules.{rules}
 use Rattle.report.specs.Laws.Printed.{ran-short, ran-long}
 use Rattle.report.proofs.run_input.Goals as goal
 
@@ -8,4 +7,4 @@ returns-then-input-lt4 c = ran-short _ _ c.if-input-lt4.true c.refused.ensures
 
 pub returns : goal.returns
 returns c =
-    ran-long _ _ c.if-input-lt4.false c.u16_at-budget.ensures c.u16_at-excess.ensures c.run.ensures
+    ran-long _ _ c.if-input-lt4.false c.u16_at-budget.ensures c.u16_at-excess.ensures (c.run.ensures.value, c.run.ensures.table_after)

@@ -37,4 +37,4 @@ pub returns : goal.returns
 returns c =
     written_as
     (listed_same _ _ _ c.requires.0 c.decode-opening.ensures c.totals-flows.ensures.0 _ refl c.times.ensures.times_after)
-    c.write_listing.ensures
+    (c.write_listing.ensures.value, c.write_listing.ensures.out_after)

@@ -1,5 +1,4 @@
 -- `questions::access::barred_to` meets its contract.
-use borrow.Author.Rules.{rules}
 use Rattle.theory.specs.Study.{barred_to}
 use Rattle.questions.proofs.access.barred_to.Goals as goal
 

@@ -1,5 +1,4 @@
 -- `questions::access::may_use` meets its contract.
-use borrow.Author.Rules.{rules}
 use mathlib.Core.List.{[], ◌∷◌}
 use mathlib.Core.Path.{◌≡◌, sym, ◌∙◌}
 use Rattle.theory.specs.Study.{of_lorries, barred_to}
@@ -9,7 +8,7 @@ use Rattle.questions.proofs.access.may_use.Goals as goal
 use Rattle.questions.proofs.access.may_use.Goals.{After-barred_to}
 
 -- Whether the commodity is barred from the link.
-answer : (c : After-barred_to) → let x = c.args in c.barred_to.result ≡ barred_to (x.t1 ∷ []) (of_lorries x.commodity) 0
+answer : (c : After-barred_to) → let x = c.args in c.barred_to.result ≡ barred_to (x.link ∷ []) (of_lorries x.commodity) 0
 answer c = rw c.of_lorries.ensures at c.barred_to.ensures
 
 pub returns-then-barred_to : goal.returns-then-barred_to

@@ -1,15 +1,10 @@
 -- `questions::questions::destinations_are_nodes` meets its contract: the destinations before k are nodes.
-use borrow.Author.Rules.{rules}
 use mathlib.Core.Bool.{true}
-use mathlib.Core.Path.{◌≡◌, refl}
-use native.Mathlib.Omega.{arith}
+use mathlib.Core.Path.{◌≡◌}
 use lib.Dec.{ltb}
 use lib.ListN.{length, get_or}
-use Prim.Native.Nat.{◌≤◌, ◌<◌, ◌-◌}
-use borrow.Author.Tests.{lt-ltb, le-ltb}
+use Prim.Native.Nat.{◌≤◌, ◌-◌}
 use Rattle.theory.specs.Finite.{all}
-use Rattle.questions.specs.Destinations.{all_nodes}
-use Rattle.questions.specs.Laws.Questions.{all_more, all-failed, all_held}
 use Rattle.questions.proofs.fields.destinations_are_nodes.Given as goal
 
 abbrev pub invariant-loop-k : goal.invariant-loop-k

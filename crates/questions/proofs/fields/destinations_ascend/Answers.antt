@@ -1,11 +1,7 @@
 -- `questions::questions::destinations_ascend` meets its contract: the destinations up to k ascend.
 use borrow.Author.Rules.{rules}
-use mathlib.Core.Bool.{true}
-use mathlib.Core.Path.{◌≡◌, refl}
+use mathlib.Core.Path.{refl}
 use native.Mathlib.Omega.{arith}
-use lib.Dec.{ltb}
-use lib.ListN.{length, get_or}
-use Prim.Native.Nat.{◌+◌, ◌≤◌, ◌-◌}
 use borrow.Author.Tests.{lt-ltb, le-ltb}
 use Rattle.theory.specs.Finite.{all}
 use Rattle.questions.specs.Destinations.{all_ascending}

@@ -1,15 +1,10 @@
 -- `questions::questions::destinations_ascend` meets its contract: the destinations up to k ascend.
-use borrow.Author.Rules.{rules}
 use mathlib.Core.Bool.{true}
-use mathlib.Core.Path.{◌≡◌, refl}
-use native.Mathlib.Omega.{arith}
+use mathlib.Core.Path.{◌≡◌}
 use lib.Dec.{ltb}
 use lib.ListN.{length, get_or}
 use Prim.Native.Nat.{◌+◌, ◌≤◌, ◌-◌}
-use borrow.Author.Tests.{lt-ltb, le-ltb}
 use Rattle.theory.specs.Finite.{all}
-use Rattle.questions.specs.Destinations.{all_ascending}
-use Rattle.questions.specs.Laws.Questions.{all_more, all-failed, all_held}
 use Rattle.questions.proofs.fields.destinations_ascend.Given as goal
 
 abbrev pub invariant-loop-k : goal.invariant-loop-k

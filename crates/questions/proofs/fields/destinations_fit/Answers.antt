@@ -1,5 +1,4 @@
 -- `questions::questions::destinations_fit` meets its contract: both halves of the question.
-use borrow.Author.Rules.{rules}
 use mathlib.Core.Path.{sym, ◌∙◌}
 use Rattle.study.proofs.Flags.{and_yes, and_no, was-yes, was-no}
 use Rattle.questions.specs.Laws.Questions.{destinations-halves}

@@ -1,9 +1,6 @@
 -- `questions::questions::ends_fit` meets its contract: the links before l fit.
 use borrow.Author.Rules.{rules}
-use lib.ListN.{length}
-use mathlib.Core.Bool.{true}
 use mathlib.Core.Path.{◌≡◌, refl, sym, ◌∙◌}
-use Prim.Native.Nat.{◌≤◌, ◌-◌}
 use Rattle.study.proofs.Flags.{was-yes, was-no}
 use Rattle.theory.specs.Finite.{all}
 use Rattle.questions.specs.Laws.Questions.{all_more, all-failed, all_held, ends_test, ends-all}

@@ -1,12 +1,10 @@
 -- `questions::questions::ends_fit` meets its contract: the links before l fit.
-use borrow.Author.Rules.{rules}
 use lib.ListN.{length}
 use mathlib.Core.Bool.{true}
-use mathlib.Core.Path.{◌≡◌, refl, sym, ◌∙◌}
+use mathlib.Core.Path.{◌≡◌}
 use Prim.Native.Nat.{◌≤◌, ◌-◌}
-use Rattle.study.proofs.Flags.{was-yes, was-no}
 use Rattle.theory.specs.Finite.{all}
-use Rattle.questions.specs.Laws.Questions.{all_more, all-failed, all_held, ends_test, ends-all}
+use Rattle.questions.specs.Laws.Questions.{ends_test}
 use Rattle.questions.proofs.fields.ends_fit.Given as goal
 
 abbrev pub invariant-loop-l : goal.invariant-loop-l

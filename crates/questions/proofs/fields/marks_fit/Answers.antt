@@ -1,9 +1,6 @@
 -- `questions::fields::marks_fit` meets its contract: the bytes before i fit.
 use borrow.Author.Rules.{rules}
-use mathlib.Core.Bool.{true}
-use mathlib.Core.Path.{◌≡◌, refl, sym, ◌∙◌}
-use lib.ListN.{length}
-use Prim.Native.Nat.{◌≤◌, ◌-◌}
+use mathlib.Core.Path.{refl, sym, ◌∙◌}
 use borrow.Author.Tests.{le-leb, lt-leb}
 use Rattle.theory.specs.Finite.{all}
 use Rattle.questions.specs.Laws.Questions.{all_more, all-failed, all_held, mark_test, marks-all}

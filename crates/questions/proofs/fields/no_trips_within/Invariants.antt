@@ -1,15 +1,10 @@
 -- `questions::questions::no_trips_within` meets its contract: the commodities before k have no trips of their own.
-use borrow.Author.Rules.{rules}
 use mathlib.Core.Bool.{true}
-use mathlib.Core.Path.{◌≡◌, refl, sym, ◌∙◌}
-use native.Mathlib.Omega.{arith}
-use lib.Dec.{eqb}
-use lib.Arith.{digits_lt}
-use lib.ListN.{length, get_or}
-use Prim.Native.Nat.{◌+◌, ◌*◌, ◌≤◌, ◌<◌, ◌-◌}
-use borrow.Author.Tests.{eq-eqb, ne_eqb}
+use mathlib.Core.Path.{◌≡◌}
+use lib.ListN.{length}
+use Prim.Native.Nat.{◌≤◌, ◌-◌}
 use Rattle.theory.specs.Finite.{all}
-use Rattle.questions.specs.Laws.Questions.{all_more, all-failed, all_held, within_test, within_all}
+use Rattle.questions.specs.Laws.Questions.{within_test}
 use Rattle.questions.proofs.fields.no_trips_within.Given as goal
 
 abbrev pub invariant-loop-k : goal.invariant-loop-k

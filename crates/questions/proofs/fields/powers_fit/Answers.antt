@@ -1,9 +1,6 @@
 -- `questions::fields::powers_fit` meets its contract: the powers of the links before l fit.
 use borrow.Author.Rules.{rules}
-use lib.ListN.{length}
-use mathlib.Core.Bool.{true}
 use mathlib.Core.Path.{◌≡◌, refl}
-use Prim.Native.Nat.{◌≤◌, ◌-◌}
 use Rattle.study.proofs.Flags.{was-yes, was-no}
 use Rattle.theory.specs.Finite.{all}
 use Rattle.questions.specs.Fields.{power_test, powers_fit}

@@ -1,13 +1,10 @@
 -- `questions::fields::powers_fit` meets its contract: the powers of the links before l fit.
-use borrow.Author.Rules.{rules}
 use lib.ListN.{length}
 use mathlib.Core.Bool.{true}
-use mathlib.Core.Path.{◌≡◌, refl}
+use mathlib.Core.Path.{◌≡◌}
 use Prim.Native.Nat.{◌≤◌, ◌-◌}
-use Rattle.study.proofs.Flags.{was-yes, was-no}
 use Rattle.theory.specs.Finite.{all}
-use Rattle.questions.specs.Fields.{power_test, powers_fit}
-use Rattle.questions.specs.Laws.Questions.{all_more, all-failed, all_held}
+use Rattle.questions.specs.Fields.{power_test}
 use Rattle.questions.proofs.fields.powers_fit.Given as goal
 
 abbrev pub invariant-loop-l : goal.invariant-loop-l

@@ -1,7 +1,6 @@
 -- `questions::fields::times_fit` meets its contract: question 7 is both its halves, and links of power 4 pass the second.
-use borrow.Author.Rules.{rules}
-use mathlib.Core.Path.{◌≡◌, sym, ◌∙◌}
-use mathlib.Core.Bool.{true, false}
+use mathlib.Core.Path.{◌≡◌}
+use mathlib.Core.Bool.{true}
 use Rattle.study.proofs.Flags.{was-yes, was-no}
 use Rattle.questions.specs.Fields.{roads_fit}
 use Rattle.questions.specs.Laws.Questions.{times-both, fourth-fit}

@@ -1,5 +1,4 @@
 -- `questions::questions::total_fits` meets its contract.
-use borrow.Author.Rules.{rules}
 use Rattle.questions.proofs.fields.total_fits.Goals as goal
 
 pub returns : goal.returns

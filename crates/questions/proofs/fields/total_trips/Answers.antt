@@ -3,7 +3,6 @@ use borrow.Author.Rules.{rules}
 use lib.ListN.{length, get_or}
 use mathlib.Core.Path.{◌≡◌, refl, ◌∙◌}
 use native.Mathlib.Omega.{arith}
-use Prim.Native.Nat.{◌*◌, ◌≤◌, ◌-◌}
 use Rattle.theory.specs.Finite.{sum}
 use Rattle.theory.specs.Laws.Finite.{sum-suc}
 use Rattle.questions.proofs.fields.total_trips.Goals as goal

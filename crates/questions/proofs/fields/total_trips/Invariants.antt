@@ -1,11 +1,8 @@
 -- `questions::total_trips` meets its contract: the total of the entries before i.
-use borrow.Author.Rules.{rules}
 use lib.ListN.{length, get_or}
-use mathlib.Core.Path.{◌≡◌, refl, ◌∙◌}
-use native.Mathlib.Omega.{arith}
+use mathlib.Core.Path.{◌≡◌}
 use Prim.Native.Nat.{◌*◌, ◌≤◌, ◌-◌}
 use Rattle.theory.specs.Finite.{sum}
-use Rattle.theory.specs.Laws.Finite.{sum-suc}
 use Rattle.questions.proofs.fields.total_trips.Given as goal
 
 abbrev pub invariant-loop-i : goal.invariant-loop-i

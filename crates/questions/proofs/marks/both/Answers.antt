@@ -1,6 +1,5 @@
 -- `questions::marks::both` meets its contract.
 use mathlib.Core.Path.{refl}
-use borrow.Author.Rules.{rules}
 use Rattle.theory.specs.Marks.{union}
 use Rattle.questions.proofs.marks.both.Goals as goal
 

@@ -1,6 +1,5 @@
 -- `questions::marks::is_marked` meets its contract.
 use mathlib.Core.Path.{sym, ◌∙◌}
-use borrow.Author.Rules.{rules}
 use Rattle.theory.specs.Laws.Bits.{read-bit}
 use Rattle.theory.specs.Laws.Marks.{marked-low, marked-high}
 use Rattle.questions.proofs.marks.is_marked.Goals as goal

@@ -1,5 +1,4 @@
 -- `questions::marks::lowest_unvisited` meets its contract.
-use borrow.Author.Rules.{rules}
 use Rattle.theory.specs.Laws.Marks.{lowest-low, lowest-high}
 use Rattle.questions.proofs.marks.lowest_unvisited.Goals as goal
 

@@ -1,5 +1,4 @@
 -- `questions::marks::nodes_below` meets its contract.
-use borrow.Author.Rules.{rules}
 use borrow.Author.Tests.{lt-ltb, le-ltb}
 use Rattle.theory.specs.Marks.{nodes_below}
 use Rattle.questions.proofs.marks.nodes_below.Goals as goal

@@ -2,7 +2,6 @@
 use lib.Pow.{pow_pos}
 use mathlib.Core.Path.{◌≡◌}
 use native.Mathlib.Omega.{arith}
-use borrow.Author.Rules.{rules}
 use Rattle.theory.specs.Laws.Bits.{one_shifted}
 use Rattle.questions.proofs.marks.ones.Goals as goal
 

@@ -1,7 +1,6 @@
 -- `questions::marks::only_node` meets its contract.
 use Prim.Native.Nat.{◌-◌}
 use native.Mathlib.Omega.{arith}
-use borrow.Author.Rules.{rules}
 use borrow.Author.Tests.{lt-ltb, le-ltb}
 use Rattle.theory.specs.Laws.Bits.{one_shifted}
 use Rattle.theory.specs.Marks.{only_node}

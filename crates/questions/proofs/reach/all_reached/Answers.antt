@@ -1,5 +1,4 @@
 -- `questions::reach::all_reached` meets its contract.
-use borrow.Author.Rules.{rules}
 use Rattle.questions.specs.Reach.{all_reached}
 use Rattle.questions.proofs.reach.all_reached.Goals as goal
 

@@ -1,5 +1,4 @@
 -- `questions::reach::classes_reach` meets its contract: question 11 is put to each class by itself.
-use borrow.Author.Rules.{rules}
 use Prim.Native.Nat.{◌*◌, ◌≤◌}
 use lib.ListN.{length, length-take}
 use mathlib.Core.Path.{◌∙◌}

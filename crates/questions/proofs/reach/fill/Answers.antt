@@ -1,7 +1,6 @@
 -- `questions::reach::fill` meets its contract.
 use mathlib.Core.Path.{sym, ◌∙◌}
 use native.Mathlib.Omega.{arith}
-use borrow.Author.Rules.{rules}
 use Rattle.questions.specs.Laws.Reach.{filled-before, filled-now}
 use Rattle.questions.proofs.reach.fill.Goals as goal
 

@@ -1,5 +1,4 @@
 -- `questions::reach::lorries_only` meets its contract: there is no number past the end of the list.
-use borrow.Author.Rules.{rules}
 use mathlib.Core.Path.{◌≡◌}
 use native.Mathlib.Omega.{arith}
 use lib.ListN.{get_or, get_or-eq_default}

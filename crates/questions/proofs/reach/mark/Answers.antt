@@ -1,7 +1,6 @@
 -- `questions::reach::mark` meets its contract.
 use Prim.Native.Nat.{◌%◌}
 use native.Mathlib.Omega.{arith}
-use borrow.Author.Rules.{rules}
 use Rattle.theory.specs.Laws.Bits.{one_shifted}
 use Rattle.questions.specs.Laws.Reach.{set-marks}
 use Rattle.questions.proofs.reach.mark.Goals as goal

@@ -6,7 +6,6 @@ use Rattle.theory.specs.Study.{barred_to}
 use Rattle.questions.specs.Laws.Questions.{Ends, ends-below}
 use Rattle.questions.specs.Laws.Reach.{tails-barred, tails-more, row-there}
 use Rattle.questions.specs.Reach.{row_of}
-use borrow.Author.Rules.{rules}
 use Rattle.questions.proofs.reach.mark_tail.Goals as goal
 use Rattle.questions.proofs.reach.mark_tail.Goals.{After-barred_to, After-row_place-i, Start}
 
@@ -36,7 +35,7 @@ at_row c = rw c.node.ensures at c.row_place-i.ensures
 pub mark-requires : goal.mark-requires
 mark-requires c =
     let x = c.args in
-    let place = row-there (ends (goal.at.mark-requires c).Start) x.l c.requires.l_in_bounds.0 x.all-open (length x.rows.now) c.requires.nodes_bound.2 c.requires.l_in_bounds.1 in (
+    let place = row-there (ends (goal.at.mark-requires c).Start) x.l c.requires.l_in_bounds.0 x.all_open (length x.rows.now) c.requires.nodes_bound.2 c.requires.l_in_bounds.1 in (
       omega (arith, at_row (goal.at.mark-requires c).After-row_place-i, place),
       omega (arith, c.node-2.ensures, (ends (goal.at.mark-requires c).Start).tail-node x.l c.requires.l_in_bounds.0, c.requires.nodes_bound.0),
       c.requires.l_in_bounds.2.pairs,

@@ -1,11 +1,9 @@
 -- `questions::reach::mark_tails` meets its contract: the first l links have marked their tails.
-use Prim.Native.Nat.{◌-◌, ◌≤◌}
 use lib.ListN.{length}
 use mathlib.Core.Path.{◌≡◌, refl, ◌∙◌}
 use native.Mathlib.Omega.{arith}
 use borrow.Author.Rules.{rules}
 use Rattle.questions.specs.Laws.Reach.{tails-none}
-use Rattle.questions.specs.Reach.{Tails}
 use Rattle.questions.proofs.reach.mark_tails.Goals as goal
 
 pub loop-l-init : goal.loop-l-init

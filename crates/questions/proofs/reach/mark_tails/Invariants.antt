@@ -1,10 +1,7 @@
 -- `questions::reach::mark_tails` meets its contract: the first l links have marked their tails.
 use Prim.Native.Nat.{◌-◌, ◌≤◌}
 use lib.ListN.{length}
-use mathlib.Core.Path.{◌≡◌, refl, ◌∙◌}
-use native.Mathlib.Omega.{arith}
-use borrow.Author.Rules.{rules}
-use Rattle.questions.specs.Laws.Reach.{tails-none}
+use mathlib.Core.Path.{◌≡◌}
 use Rattle.questions.specs.Reach.{Tails}
 use Rattle.questions.proofs.reach.mark_tails.Given as goal
 

@@ -1,6 +1,5 @@
 -- `questions::reach::next_node` meets its contract.
 use mathlib.Core.Path.{sym, ◌∙◌}
-use borrow.Author.Rules.{rules}
 use Rattle.questions.specs.Reach.{next_node}
 use Rattle.questions.proofs.reach.next_node.Goals as goal
 

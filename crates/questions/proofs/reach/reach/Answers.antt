@@ -3,11 +3,10 @@ use Prim.Native.Nat.{◌<◌}
 use mathlib.Core.Bool.{true, false}
 use mathlib.Core.Path.{◌≡◌, sym, ◌∙◌}
 use native.Mathlib.Omega.{arith}
-use borrow.Author.Rules.{rules}
-use Rattle.theory.specs.Laws.Marks.{lacking, lacking-less, next-unvisited, none-unvisited}
+use Rattle.theory.specs.Laws.Marks.{lacking-less, next-unvisited, none-unvisited}
 use Rattle.theory.specs.Marks.{marked}
-use Rattle.questions.specs.Laws.Reach.{grown-none, grown-next, reached-tails, reaching-first, reaching-next}
-use Rattle.questions.specs.Reach.{Grown, Rows, Reaching}
+use Rattle.questions.specs.Laws.Reach.{grown-next, reaching-first, reaching-next}
+use Rattle.questions.specs.Laws.Reach.{grown-none, reached-tails}
 use Rattle.questions.proofs.reach.reach.Goals as goal
 use Rattle.questions.proofs.reach.reach.Goals.{Else-tail-eq-NO_NODE}
 

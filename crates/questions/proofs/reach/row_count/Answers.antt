@@ -1,6 +1,5 @@
 -- `questions::reach::row_count` meets its contract.
 use native.Mathlib.Omega.{arith}
-use borrow.Author.Rules.{rules}
 use Rattle.theory.specs.Laws.Cases.{true-false}
 use Rattle.questions.proofs.reach.row_count.Goals as goal
 

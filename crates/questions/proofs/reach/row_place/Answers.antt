@@ -1,5 +1,4 @@
 -- `questions::reach::row_place` meets its contract.
-use borrow.Author.Rules.{rules}
 use borrow.Author.Tests.{eq-eqb, ne_eqb}
 use Rattle.questions.specs.Reach.{row_place}
 use Rattle.questions.proofs.reach.row_place.Goals as goal

@@ -4,11 +4,11 @@ use mathlib.Core.Bool.{true, false}
 use mathlib.Core.Path.{◌≡◌}
 use native.Mathlib.Nat.{lt_of_le_of_lt}
 use native.Mathlib.Omega.{arith}
-use borrow.Author.Rules.{rules}
 use Rattle.theory.specs.Laws.Marks.{lacking, lacking-most, lacking-less, marked-own}
 use Rattle.theory.specs.Marks.{marked}
-use Rattle.questions.specs.Laws.Reach.{next-reached, searching-first, searching-below, searching-visit, searching-whole, searching-last}
-use Rattle.questions.specs.Reach.{Searching, next_node}
+use Rattle.questions.specs.Laws.Reach.{next-reached, searching-below, searching-visit, searching-whole, searching-last}
+use Rattle.questions.specs.Laws.Reach.{searching-first}
+use Rattle.questions.specs.Reach.{Searching}
 use Rattle.questions.proofs.reach.search.Goals as goal
 use Rattle.questions.proofs.reach.search.Goals.{After-both-first, After-both-seen, In-loop-next}
 

@@ -1,13 +1,6 @@
 -- `questions::reach::search` meets its contract: the nodes reached and visited, and the next.
-use Prim.Native.Nat.{◌<◌}
-use mathlib.Core.Bool.{true, false}
 use mathlib.Core.Path.{◌≡◌}
-use native.Mathlib.Nat.{lt_of_le_of_lt}
-use native.Mathlib.Omega.{arith}
-use borrow.Author.Rules.{rules}
-use Rattle.theory.specs.Laws.Marks.{lacking, lacking-most, lacking-less, marked-own}
-use Rattle.theory.specs.Marks.{marked}
-use Rattle.questions.specs.Laws.Reach.{next-reached, searching-first, searching-below, searching-visit, searching-whole, searching-last}
+use Rattle.theory.specs.Laws.Marks.{lacking}
 use Rattle.questions.specs.Reach.{Searching, next_node}
 use Rattle.questions.proofs.reach.search.Given as goal
 

@@ -1,6 +1,5 @@
 -- `questions::reach::tails_into` meets its contract.
 use native.Mathlib.Omega.{arith}
-use borrow.Author.Rules.{rules}
 use Rattle.questions.specs.Reach.{tails_into}
 use Rattle.questions.proofs.reach.tails_into.Goals as goal
 

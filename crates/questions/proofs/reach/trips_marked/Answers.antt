@@ -4,12 +4,10 @@ use lib.ListN.{length}
 use mathlib.Core.Bool.{true, false}
 use mathlib.Core.Path.{◌≡◌, sym, ◌∙◌}
 use native.Mathlib.Omega.{arith}
-use borrow.Author.Rules.{rules}
 use borrow.Author.Tests.{ltb-true}
-use Rattle.theory.specs.Laws.Marks.{lacking, lacking-less, marked-own, marked-below, next-unvisited, none-unvisited}
+use Rattle.theory.specs.Laws.Marks.{lacking-less, marked-own, marked-below, next-unvisited, none-unvisited}
 use Rattle.theory.specs.Marks.{marked, nodes_below}
 use Rattle.questions.specs.Laws.Reach.{passed_first, passed-next, passed-fails, passed-last}
-use Rattle.questions.specs.Reach.{Passed}
 use Rattle.questions.proofs.reach.trips_marked.Goals as goal
 use Rattle.questions.proofs.reach.trips_marked.Goals.{Else-j-eq-NO_NODE}
 

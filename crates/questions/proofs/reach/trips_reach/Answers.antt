@@ -1,5 +1,4 @@
 -- `questions::reach::trips_reach` meets its contract.
-use borrow.Author.Rules.{rules}
 use Rattle.questions.specs.Laws.Reach.{none-at-first, room-more}
 use Rattle.questions.proofs.reach.trips_reach.Goals as goal
 

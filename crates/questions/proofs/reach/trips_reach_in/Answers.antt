@@ -1,7 +1,6 @@
 -- `questions::reach::trips_reach_in` meets its contract: the destinations of the commodities before k are reached from every node with trips to them, and rows have grown.
-use Prim.Native.Nat.{◌+◌, ◌*◌, ◌<◌, ◌≤◌, ◌-◌}
+use Prim.Native.Nat.{◌+◌, ◌*◌, ◌<◌, ◌≤◌}
 use lib.ListN.{get_or, length}
-use mathlib.Core.Bool.{true}
 use mathlib.Core.Path.{◌≡◌, refl, sym, ◌∙◌, ap}
 use native.Mathlib.Omega.{arith}
 use borrow.Author.Rules.{rules}
@@ -9,15 +8,11 @@ use Rattle.study.proofs.Flags.{was-yes, was-no}
 use Rattle.theory.specs.Finite.{all}
 use Rattle.theory.specs.Marks.{marked}
 use Rattle.theory.specs.Study.{node_of}
-use Rattle.questions.specs.Laws.Questions.{Ends, ends-below, all_more, all-failed, all_held}
-use Rattle.questions.specs.Laws.Reach.{rows-first, tails-below, grown-none, grown-next, search-answer, reach_test, reach-all, trips-there, trips-count, marks-answer}
-use Rattle.questions.specs.Reach.{Rows, Grown}
+use Rattle.questions.specs.Laws.Questions.{ends-below, all_more, all-failed, all_held}
+use Rattle.questions.specs.Laws.Reach.{rows-first, tails-below, grown-next, search-answer, reach_test, reach-all, trips-there, trips-count, marks-answer}
+use Rattle.questions.specs.Laws.Reach.{grown-none}
 use Rattle.questions.proofs.reach.trips_reach_in.Goals as goal
-use Rattle.questions.proofs.reach.trips_reach_in.Goals.{After-trips_marked, In-loop-k, Start}
-
--- The links' ends are nodes.
-ends : (c : Start) → Ends c.args.nodes c.args.links.now
-ends c = ends-below _ _ c.requires.links_value
+use Rattle.questions.proofs.reach.trips_reach_in.Goals.{After-trips_marked, In-loop-k}
 
 pub mark_tails-requires : goal.mark_tails-requires
 mark_tails-requires c = record { nodes_bound = (c.requires.sized.0.few-nodes, c.requires.links_value, c.requires.sized.1); room = c.requires.room }
@@ -26,7 +21,7 @@ pub loop-k-init : goal.loop-k-init
 unfolding all
 loop-k-init c =
     let (size, tails) = c.mark_tails.ensures in
-    (search rules, refl, grown-none, rows-first (ends (goal.at.loop-k-init c).Start) tails c.requires.sized.0.few-nodes (omega (arith, size, c.requires.room.0.rows-open)))
+    (search rules, refl, grown-none, rows-first (ends-below _ _ c.requires.links_value) tails c.requires.sized.0.few-nodes (omega (arith, size, c.requires.room.0.rows-open)))
 
 -- The destination of commodity k is a node, and the trips to it are there.
 here : (c : In-loop-k) → node_of (get_or c.args.commodities.now c.loop-k.k 0) < c.args.nodes
@@ -70,7 +65,7 @@ tested c =
     let class = c.lorries_only.ensures ∙ sym (c.requires.to_nodes.1 _ c.loop-k-test.true) in
     let tails = rw class at c.mark_tails.ensures.1 in
     let found = rw (c.tails_into-tails.ensures, c.node_of-s.ensures) at c.reach-reached.ensures in
-    let answer = search-answer _ _ _ _ (ends c.before.before.before.before.before.before.before.before.before.before.before.before.before.before.before.before.before) (here c.before.before.before.before.before.before.before.before.before) tails c.args.all-open c.requires.sized.1 c.loop-k.invariant.2 _ found.reaching found.tails-reached in
+    let answer = search-answer _ _ _ _ (ends-below _ _ c.requires.links_value) (c.requires.to_nodes.0 _ c.loop-k-test.true) tails c.args.all_open c.requires.sized.1 c.loop-k.invariant.2 _ found.reaching found.tails-reached in
     c.trips_marked.ensures ∙ marks-answer _ _ _ _ c.loop-k-test.true c.requires.sized.0.entries-long _ _ answer
 
 pub returns-then-not-trips_marked : goal.returns-then-not-trips_marked

@@ -1,16 +1,10 @@
 -- `questions::reach::trips_reach_in` meets its contract: the destinations of the commodities before k are reached from every node with trips to them, and rows have grown.
-use Prim.Native.Nat.{◌+◌, ◌*◌, ◌<◌, ◌≤◌, ◌-◌}
-use lib.ListN.{get_or, length}
+use Prim.Native.Nat.{◌≤◌, ◌-◌}
+use lib.ListN.{length}
 use mathlib.Core.Bool.{true}
-use mathlib.Core.Path.{◌≡◌, refl, sym, ◌∙◌, ap}
-use native.Mathlib.Omega.{arith}
-use borrow.Author.Rules.{rules}
-use Rattle.study.proofs.Flags.{was-yes, was-no}
+use mathlib.Core.Path.{◌≡◌}
 use Rattle.theory.specs.Finite.{all}
-use Rattle.theory.specs.Marks.{marked}
-use Rattle.theory.specs.Study.{node_of}
-use Rattle.questions.specs.Laws.Questions.{Ends, ends-below, all_more, all-failed, all_held}
-use Rattle.questions.specs.Laws.Reach.{rows-first, tails-below, grown-none, grown-next, search-answer, reach_test, reach-all, trips-there, trips-count, marks-answer}
+use Rattle.questions.specs.Laws.Reach.{reach_test}
 use Rattle.questions.specs.Reach.{Rows, Grown}
 use Rattle.questions.proofs.reach.trips_reach_in.Given as goal
 

@@ -1,11 +1,9 @@
 -- `questions::study_refusal` meets its contract: each question that is passed was answered yes, and the first that is not gives its number.
-use borrow.Author.Rules.{rules}
 use mathlib.Core.Bool.{true, false}
 use borrow.Author.Tests.{eqb-true}
 use mathlib.Core.Path.{◌≡◌, ◌∙◌}
 use native.Mathlib.Omega.{arith}
 use Rattle.study.proofs.Flags.{was-yes, was-no}
-use Rattle.theory.specs.Network.{Network}
 use Rattle.theory.specs.Study.{network}
 use Rattle.calls.specs.Questions.{ends_fit, times_fit, destinations_fit, marks_fit, no_trips_within, total_fits, trips_reach, study_questions}
 use Rattle.questions.specs.Sized.{ToNodes}
@@ -13,14 +11,10 @@ use Rattle.questions.specs.Laws.Questions.{entries_fit, ends-answer, within-answ
 use Rattle.questions.specs.Laws.Commodities.{cars-within, to-nodes, cars-alike, lorries-alike}
 use Rattle.questions.specs.Laws.Reach.{none-closed}
 use Rattle.questions.proofs.refusal.study_refusal.Goals as goal
-use Rattle.questions.proofs.refusal.study_refusal.Goals.{Else-not-classes_reach, Else-not-destinations_fit, Else-not-ends_fit, Else-not-marks_fit, Else-not-marks_fit-2, Else-not-no_trips_within, Else-not-times_fit, Else-not-total_fits, Start}
-
--- The network of the study.
-abbrev study : Start → Network
-study c = network c.args.nodes c.args.links.now c.args.commodities.now c.args.trips.now
+use Rattle.questions.proofs.refusal.study_refusal.Goals.{Else-not-classes_reach, Else-not-destinations_fit, Else-not-ends_fit, Else-not-marks_fit, Else-not-marks_fit-2, Else-not-no_trips_within, Else-not-times_fit, Else-not-total_fits}
 
 -- The answer to each question that is passed is yes.
-yes-6 : (c : Else-not-ends_fit) → ends_fit (study c.before.before.before.before.before.before.before) ≡ true
+yes-6 : (c : Else-not-ends_fit) → ends_fit (network c.args.nodes c.args.links.now c.args.commodities.now c.args.trips.now) ≡ true
 yes-6 c = was-yes (c.ends_fit.ensures ∙ ends-answer _ _ _ _) c.if-not-ends_fit.false
 
 yes-7 : (c : Else-not-times_fit) → times_fit c.args.links.now ≡ true
@@ -35,19 +29,19 @@ yes-19 c = search was-yes
 yes-23 : (c : Else-not-marks_fit-2) → marks_fit c.args.barred.now ≡ true
 yes-23 c = search was-yes
 
-yes-9 : (c : Else-not-no_trips_within) → no_trips_within (study c.before.before.before.before.before.before.before.before.before.before.before.before.before.before.before.before.before) ≡ true
+yes-9 : (c : Else-not-no_trips_within) → no_trips_within (network c.args.nodes c.args.links.now c.args.commodities.now c.args.trips.now) ≡ true
 yes-9 c = was-yes (c.no_trips_within.ensures ∙ within-answer _ _ _ _) c.if-not-no_trips_within.false
 
-yes-10 : (c : Else-not-total_fits) → total_fits (study c.before.before.before.before.before.before.before.before.before.before.before.before.before.before.before.before.before.before.before) ≡ true
+yes-10 : (c : Else-not-total_fits) → total_fits (network c.args.nodes c.args.links.now c.args.commodities.now c.args.trips.now) ≡ true
 yes-10 c = was-yes (c.total_fits.ensures ∙ total-answer _ _ _ _ c.requires.sized.0) c.if-not-total_fits.false
 
-yes-11 : (c : Else-not-classes_reach) → trips_reach (study c.before.before.before.before.before.before.before.before.before.before.before.before.before.before.before.before.before.before.before.before.before) ≡ true
+yes-11 : (c : Else-not-classes_reach) → trips_reach (network c.args.nodes c.args.links.now c.args.commodities.now c.args.trips.now) ≡ true
 yes-11 c = search was-yes
 
 pub returns-then-not-ends_fit : goal.returns-then-not-ends_fit
 unfolding study_questions
 returns-then-not-ends_fit c =
-    let refused : ends_fit (study (goal.at.returns-then-not-ends_fit c).Start) ≡ false = was-no (c.ends_fit.ensures ∙ ends-answer _ _ _ _) c.if-not-ends_fit.true in
+    let refused : ends_fit (network c.args.nodes c.args.links.now c.args.commodities.now c.args.trips.now) ≡ false = was-no (c.ends_fit.ensures ∙ ends-answer _ _ _ _) c.if-not-ends_fit.true in
     rw (refused)
 
 pub returns-then-not-times_fit : goal.returns-then-not-times_fit
@@ -84,7 +78,7 @@ no_trips_within-requires c = record { trips_len = c.requires.sized.0.entries-lon
 pub returns-then-not-no_trips_within : goal.returns-then-not-no_trips_within
 unfolding study_questions
 returns-then-not-no_trips_within c =
-    let refused : no_trips_within (study (goal.at.returns-then-not-no_trips_within c).Start) ≡ false = was-no (c.no_trips_within.ensures ∙ within-answer _ _ _ _) c.if-not-no_trips_within.true in
+    let refused : no_trips_within (network c.args.nodes c.args.links.now c.args.commodities.now c.args.trips.now) ≡ false = was-no (c.no_trips_within.ensures ∙ within-answer _ _ _ _) c.if-not-no_trips_within.true in
     rw (yes-6 (goal.at.returns-then-not-no_trips_within c).Else-not-ends_fit, yes-7 (goal.at.returns-then-not-no_trips_within c).Else-not-times_fit, yes-8 (goal.at.returns-then-not-no_trips_within c).Else-not-destinations_fit, yes-19 (goal.at.returns-then-not-no_trips_within c).Else-not-marks_fit, yes-23 (goal.at.returns-then-not-no_trips_within c).Else-not-marks_fit-2, refused)
 
 pub total_fits-requires : goal.total_fits-requires
@@ -95,7 +89,7 @@ total_fits-requires c =
 pub returns-then-not-total_fits : goal.returns-then-not-total_fits
 unfolding study_questions
 returns-then-not-total_fits c =
-    let refused : total_fits (study (goal.at.returns-then-not-total_fits c).Start) ≡ false = was-no (c.total_fits.ensures ∙ total-answer _ _ _ _ c.requires.sized.0) c.if-not-total_fits.true in
+    let refused : total_fits (network c.args.nodes c.args.links.now c.args.commodities.now c.args.trips.now) ≡ false = was-no (c.total_fits.ensures ∙ total-answer _ _ _ _ c.requires.sized.0) c.if-not-total_fits.true in
     rw (yes-6 (goal.at.returns-then-not-total_fits c).Else-not-ends_fit, yes-7 (goal.at.returns-then-not-total_fits c).Else-not-times_fit, yes-8 (goal.at.returns-then-not-total_fits c).Else-not-destinations_fit, yes-19 (goal.at.returns-then-not-total_fits c).Else-not-marks_fit, yes-23 (goal.at.returns-then-not-total_fits c).Else-not-marks_fit-2, yes-9 (goal.at.returns-then-not-total_fits c).Else-not-no_trips_within, refused)
 
 pub classes_reach-requires : goal.classes_reach-requires
@@ -107,7 +101,7 @@ classes_reach-requires c =
 pub returns-then-not-classes_reach : goal.returns-then-not-classes_reach
 unfolding study_questions
 returns-then-not-classes_reach c =
-    let refused : trips_reach (study (goal.at.returns-then-not-classes_reach c).Start) ≡ false = search was-no in
+    let refused : trips_reach (network c.args.nodes c.args.links.now c.args.commodities.now c.args.trips.now) ≡ false = search was-no in
     rw (yes-6 (goal.at.returns-then-not-classes_reach c).Else-not-ends_fit, yes-7 (goal.at.returns-then-not-classes_reach c).Else-not-times_fit, yes-8 (goal.at.returns-then-not-classes_reach c).Else-not-destinations_fit, yes-19 (goal.at.returns-then-not-classes_reach c).Else-not-marks_fit, yes-23 (goal.at.returns-then-not-classes_reach c).Else-not-marks_fit-2, yes-9 (goal.at.returns-then-not-classes_reach c).Else-not-no_trips_within, yes-10 (goal.at.returns-then-not-classes_reach c).Else-not-total_fits, refused)
 
 pub returns : goal.returns

@@ -1,5 +1,4 @@
 -- `may_carry` meets its contract.
-use borrow.Author.Rules.{rules}
 use borrow.Author.Tests.{eq-eqb, ne_eqb}
 use mathlib.Core.Bool.{or-true, or-false}
 use Rattle.questions.proofs.table.may_carry.Goals as goal

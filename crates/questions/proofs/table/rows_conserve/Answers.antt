@@ -1,14 +1,11 @@
 -- `rows_conserve` meets its contract. The invariant: the rows before `k` balance, and the sums are 0 past the nodes. The measure is what is
 -- left of the rows.
-use Prim.Native.Nat.{◌+◌, ◌*◌, ◌-◌, ◌≤◌}
-use mathlib.Core.Path.{◌≡◌, sym, ◌∙◌}
-use mathlib.Core.Bool.{true}
+use Prim.Native.Nat.{◌+◌, ◌*◌, ◌≤◌}
+use mathlib.Core.Path.{sym, ◌∙◌}
 use native.Mathlib.Omega.{arith}
 use borrow.Author.Rules.{rules}
-use borrow.Author.Tests.{not-true, not-false}
 use lib.ListN.{length}
-use Rattle.questions.specs.Laws.Rows.{rows_before, rows_none, rows_pass, rows-fail, rows_all}
-use Rattle.travel.specs.Ranges.{ClearPast}
+use Rattle.questions.specs.Laws.Rows.{rows_none, rows_pass, rows-fail, rows_all}
 use Rattle.travel.specs.Laws.Padded.{zeros-past}
 use Rattle.theory.specs.Laws.Parts.{row_within, row-most, length_part}
 use Rattle.questions.proofs.table.rows_conserve.Goals as goal

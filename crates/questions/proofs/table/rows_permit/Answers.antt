@@ -1,17 +1,15 @@
 -- `rows_permit` meets its contract: the links before l carry no flow that they may not.
-use Prim.Native.Nat.{◌-◌, ◌≤◌}
 use mathlib.Core.Path.{◌≡◌, refl}
 use mathlib.Core.Bool.{true}
-use mathlib.Core.Logic.{⊎_elim}
 use native.Mathlib.Omega.{arith}
 use borrow.Author.Rules.{rules}
-use lib.ListN.{length}
 use Rattle.study.proofs.Flags.{was-yes, was-no}
 use Rattle.theory.specs.Finite.{all}
 use Rattle.questions.specs.Rows.{link_permits, rows_permit}
 use Rattle.questions.specs.Laws.Questions.{all_more, all-failed, all_held}
 use Rattle.questions.specs.Laws.Rows.{open-permits}
 use Rattle.questions.proofs.table.rows_permit.Goals as goal
+use Rattle.questions.proofs.table.rows_permit.Goals.{else-links-l-ne0-via-then-links-l-ne0+else-not-link_permits, else-links-l-ne0-via-else-links-l-ne0}
 
 pub loop-l-init : goal.loop-l-init
 unfolding all
@@ -26,11 +24,12 @@ returns-then-not-link_permits c = all-failed _ _ _ (search rules) (was-no c.link
 
 pub loop-l-preserved : goal.loop-l-preserved
 loop-l-preserved c =
-    let permits =
-    ⊎_elim
-    (λ w. was-yes w.1.ensures w.2.left)
-    (λ w. open-permits _ _ _ _ (omega (arith, w.left)) (omega (arith, w.left)))
-    c.else-links-l-ne0.branch in
+    let permits : link_permits c.args.links.now c.args.commodities.now c.args.table.now c.loop-l.l ≡ true =
+    elim c.else-links-l-ne0.branch [
+      | else-links-l-ne0-via-then-links-l-ne0+else-not-link_permits w ↦ was-yes w.link_permits.ensures w.if-not-link_permits.false
+      | else-links-l-ne0-via-else-links-l-ne0 w ↦ open-permits _ _ _ _ (omega arith) (omega arith)
+    ]
+    in
     (search rules, all_more _ _ c.loop-l.invariant.1 permits)
 
 pub returns : goal.returns

@@ -3,7 +3,6 @@ use Prim.Native.Nat.{◌*◌}
 use mathlib.Core.Path.{◌≡◌}
 use mathlib.Core.Bool.{true}
 use native.Mathlib.Omega.{arith}
-use borrow.Author.Rules.{rules}
 use lib.ListN.{length}
 use Rattle.study.proofs.Flags.{was-yes, was-no}
 use Rattle.calls.specs.Questions.{share_fits}
@@ -20,8 +19,8 @@ in-range c = was-yes c.share_fits.ensures c.if-not-share_fits.false
 -- Question 15 is answered yes.
 fit :
     (c : Else-not-totals_fit) →
-    let x = (c).args in
-    list_fits (length x.links.now) c.write_totals.new.1.1.1.0 (x.share * x.total) ≡ true
+    let x = c.args in
+    list_fits (length x.links.now) c.write_totals.new.sums (x.share * x.total) ≡ true
 fit c = was-yes c.totals_fit.ensures c.if-not-totals_fit.false
 
 pub returns-then-not-share_fits : goal.returns-then-not-share_fits
@@ -49,12 +48,12 @@ returns-then-not-rows_conserve c = record {
 }
 
 pub rows_permit-requires : goal.rows_permit-requires
-rows_permit-requires c = (c).requires.0.holds
+rows_permit-requires c = c.requires.table_fits.holds
 
 -- Question 16 is answered yes.
 conserve :
     (c : Else-not-rows_conserve) →
-    let x = (c).args in
+    let x = c.args in
     rows_conserve x.nodes x.links.now x.commodities.now x.trips.now x.share x.table.now ≡ true
 conserve c = was-yes c.rows_conserve.ensures c.if-not-rows_conserve.false
 
