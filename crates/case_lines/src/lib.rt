@@ -8,6 +8,8 @@
 //     LABEL     the rest of the line, which is printed
 //
 // A number is below 2³².
+#![tactic(auto)]
+
 mod bytes;
 mod input;
 mod output;
