@@ -1,7 +1,7 @@
 // The answers of document 01's calls, as values. What each call answers, for any bytes, is defined in specs/; this crate has no code.
 
 // How a run ended. A refused run has no ending.
-#[derive(Drop)]
+#[derive(Clone, Copy)]
 pub enum Ending {
     Refused,
     Reached,
@@ -10,7 +10,7 @@ pub enum Ending {
 }
 
 // What a pass did. A refused pass did nothing.
-#[derive(Drop)]
+#[derive(Clone, Copy)]
 pub enum Outcome {
     Refused,
     Moved,
@@ -19,7 +19,7 @@ pub enum Outcome {
 
 // In each answer `refusal` is the number of the first question that refused, or 0, and a refusal has 0 in every other field. `over` counts the
 // links of the judged table that are past their curves (A.4).
-#[derive(Drop)]
+#[derive(Clone, Copy)]
 pub struct RunAnswer {
     pub refusal: u8,
     pub ending: Ending,
@@ -30,7 +30,7 @@ pub struct RunAnswer {
     pub over: u32,
 }
 
-#[derive(Drop)]
+#[derive(Clone, Copy)]
 pub struct PassAnswer {
     pub refusal: u8,
     pub outcome: Outcome,
@@ -40,7 +40,7 @@ pub struct PassAnswer {
     pub over: u32,
 }
 
-#[derive(Drop)]
+#[derive(Clone, Copy)]
 pub struct AuditAnswer {
     pub refusal: u8,
     pub gap: u64,
@@ -49,7 +49,7 @@ pub struct AuditAnswer {
 }
 
 // (A.6) Taking back: the resulting share.
-#[derive(Drop)]
+#[derive(Clone, Copy)]
 pub struct TakeBackAnswer {
     pub refusal: u8,
     pub share: u32,
