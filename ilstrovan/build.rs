@@ -28,7 +28,7 @@ fn main() {
     println!("cargo::rerun-if-changed={}", archive.display());
     if !archive.is_file() {
         println!(
-            "cargo::error={} is missing: run `rt staticlib interface` at the top of the repository, \
+            "cargo::error={} is missing: run `rt lib` in crates/interface_c and copy out/libinterface_c.a there, \
              or set {FOLDER} to the folder that holds libinterface.a",
             archive.display()
         );

@@ -5,7 +5,7 @@
  * caller lends. Every number they return or write is proved to be the one that
  * documents 01 and 02 define, for any bytes, any table, any note and any
  * numbers. Link with target/staticlib/libinterface.a, which
- * `rt staticlib interface` writes for x86-64 Linux; it needs only the C
+ * `.ci/run` makes of crates/interface_c for x86-64 Linux; it needs only the C
  * library.
  *
  * Returned by every call

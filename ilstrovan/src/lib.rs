@@ -2,7 +2,7 @@
 //!
 //! The calls are Rattle code, every one of them proved to answer what documents
 //! 01 and 02 define, for any bytes, tables and numbers. This package links the
-//! static library that holds them (`rt staticlib interface`) and gives them the
+//! static library that holds them (`rt lib` in crates/interface_c) and gives them the
 //! types of Rust.
 //!
 //! ```

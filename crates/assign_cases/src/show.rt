@@ -2,19 +2,25 @@
 ghost use Rattle.std.specs.Prelude.{◌≤◌, length};
 
 use case_lines::{label, number_within, text};
+use std::io;
 
 // What `page` prints, or `assign`.
-pub fn show(paged: bool, input: &[u8], table: &mut [u32]) {
-    let size = number_within(input.len());
-    label();
-    text(b"\n");
-    respond(paged, &input[..size], table);
+pub fn show(
+    rt: &(impl Input + Print),
+    paged: bool,
+    input: &[u8],
+    table: &mut [u32],
+) -> io::Result<()> {
+    let size = number_within(rt, input.len())?;
+    label(rt)?;
+    text(rt, b"\n")?;
+    respond(rt, paged, &input[..size], table)
 }
 
-fn respond(paged: bool, input: &[u8], table: &mut [u32]) {
+fn respond(rt: &impl Print, paged: bool, input: &[u8], table: &mut [u32]) -> io::Result<()> {
     let mut printed = [0u8; 32768];
     let size = response(paged, input, table, &mut printed);
-    text(&printed[..size]);
+    text(rt, &printed[..size])
 }
 
 // Answers how many bytes are printed.

@@ -1,57 +1,80 @@
 // The calls, each with its numbers and its label from standard input.
 use crate::report;
 use case_lines::{label, number};
+use std::io;
 
 // The numbers of a note.
-pub fn read_note(note: &mut [u16]) {
+pub fn read_note(rt: &impl Input, note: &mut [u16]) -> io::Result<()> {
     for i in 0..note.len() {
-        note[i] = (number() % 65536) as u16;
+        note[i] = (number(rt)? % 65536) as u16;
     }
+    Ok(())
 }
 
-pub fn call(word: u8, file: &[u8], table: &mut [u32], note: &mut [u16]) {
+pub fn call(
+    rt: &(impl Input + Print),
+    word: u8,
+    file: &[u8],
+    table: &mut [u32],
+    note: &mut [u16],
+) -> io::Result<()> {
     match word {
-        b's' => start(file, table),
-        b'a' => audit(file, table),
-        b'p' => pass(file, table, note),
-        b'b' => take_back(file, table, note),
-        _ => run(file, table),
+        b's' => start(rt, file, table),
+        b'a' => audit(rt, file, table),
+        b'p' => pass(rt, file, table, note),
+        b'b' => take_back(rt, file, table, note),
+        _ => run(rt, file, table),
     }
 }
 
-fn start(file: &[u8], table: &mut [u32]) {
-    label();
-    report::start(assignment::start(file, table));
-    report::left(table);
+fn start(rt: &(impl Input + Print), file: &[u8], table: &mut [u32]) -> io::Result<()> {
+    label(rt)?;
+    report::start(rt, assignment::start(file, table))?;
+    report::left(rt, table)
 }
 
-fn audit(file: &[u8], table: &[u32]) {
-    let share = number() as u32;
-    label();
-    report::audit(share, assignment::audit(file, table, share));
-    report::left(table);
+fn audit(rt: &(impl Input + Print), file: &[u8], table: &[u32]) -> io::Result<()> {
+    let share = number(rt)? as u32;
+    label(rt)?;
+    report::audit(rt, share, assignment::audit(file, table, share))?;
+    report::left(rt, table)
 }
 
-fn pass(file: &[u8], table: &mut [u32], note: &mut [u16]) {
-    let share = number() as u32;
-    label();
-    report::pass(share, passes::pass(file, table, share, note));
-    report::noted(note);
-    report::left(table);
+fn pass(
+    rt: &(impl Input + Print),
+    file: &[u8],
+    table: &mut [u32],
+    note: &mut [u16],
+) -> io::Result<()> {
+    let share = number(rt)? as u32;
+    label(rt)?;
+    report::pass(rt, share, passes::pass(file, table, share, note))?;
+    report::noted(rt, note)?;
+    report::left(rt, table)
 }
 
-fn take_back(file: &[u8], table: &mut [u32], note: &[u16]) {
-    let share = number() as u32;
-    label();
-    report::take_back(share, passes::take_back(file, table, share, note));
-    report::noted(note);
-    report::left(table);
+fn take_back(
+    rt: &(impl Input + Print),
+    file: &[u8],
+    table: &mut [u32],
+    note: &[u16],
+) -> io::Result<()> {
+    let share = number(rt)? as u32;
+    label(rt)?;
+    report::take_back(rt, share, passes::take_back(file, table, share, note))?;
+    report::noted(rt, note)?;
+    report::left(rt, table)
 }
 
-fn run(file: &[u8], table: &mut [u32]) {
-    let budget = number() as u32;
-    let excess = (number() % 65536) as u16;
-    label();
-    report::run(budget, excess, assignment::run(file, table, budget, excess));
-    report::left(table);
+fn run(rt: &(impl Input + Print), file: &[u8], table: &mut [u32]) -> io::Result<()> {
+    let budget = number(rt)? as u32;
+    let excess = (number(rt)? % 65536) as u16;
+    label(rt)?;
+    report::run(
+        rt,
+        budget,
+        excess,
+        assignment::run(file, table, budget, excess),
+    )?;
+    report::left(rt, table)
 }

@@ -11,9 +11,12 @@
 //     run BUDGET EXCESS LABEL
 //
 // Most tables and notes have more numbers than their study asks for, which no call may change.
-ghost use Rattle.std.specs.Prelude.{◌≤◌, length};
+#![tactic(auto)]
+
+ghost use Rattle.std.specs.Prelude.{◌≤◌, length, IfOk};
 
 use case_lines::{read_study, read_table, word};
+use std::io;
 
 mod calling;
 mod report;
@@ -22,61 +25,74 @@ mod report;
 const MOST_LINES: usize = 1000;
 
 // How much of the file's and the table's memory is in use.
-#[derive(Drop)]
+#[derive(Clone, Copy)]
 struct Sizes {
     file: usize,
     table: usize,
 }
 
-fn main() {
+fn main(rt: HostRuntime) -> io::Result<()> {
     let mut file_space = [0u8; 96];
     let mut table_space = [0u32; 5];
     let mut note_space = [7u16; 8];
     let file: &mut [u8] = &mut file_space;
     let table: &mut [u32] = &mut table_space;
     let note: &mut [u16] = &mut note_space;
-    run(file, table, note);
+    run(&rt, file, table, note)
 }
 
-fn run(file: &mut [u8], table: &mut [u32], note: &mut [u16]) {
+fn run(
+    rt: &(impl Input + Print),
+    file: &mut [u8],
+    table: &mut [u32],
+    note: &mut [u16],
+) -> io::Result<()> {
     let mut sizes = Sizes { file: 0, table: 0 };
     for _ in 0..MOST_LINES {
-        let word = word();
+        let word = word(rt)?;
         if word == 0 {
-            return;
+            return Ok(());
         }
-        sizes = run_line(word, file, table, note, sizes);
+        sizes = run_line(rt, word, file, table, note, sizes)?;
     }
+    Ok(())
 }
 
-fn run_line(word: u8, file: &mut [u8], table: &mut [u32], note: &mut [u16], sizes: Sizes) -> Sizes
+fn run_line(
+    rt: &(impl Input + Print),
+    word: u8,
+    file: &mut [u8],
+    table: &mut [u32],
+    note: &mut [u16],
+    sizes: Sizes,
+) -> io::Result<Sizes>
     requires { (sizes.file ≤ length file.old) × (sizes.table ≤ length table.old) }
-    ensures { (result.file ≤ length file.old) × (result.table ≤ length table.old) }
+    ensures { IfOk result (λ after. (after.file ≤ length file.old) × (after.table ≤ length table.old)) }
 {
     let size = sizes.file;
     let count = sizes.table;
     match word {
         b'f' => {
-            let size = read_study(file);
-            Sizes {
+            let size = read_study(rt, file)?;
+            Ok(Sizes {
                 file: size,
                 table: count,
-            }
+            })
         }
         b't' => {
-            let count = read_table(table);
-            Sizes {
+            let count = read_table(rt, table)?;
+            Ok(Sizes {
                 file: size,
                 table: count,
-            }
+            })
         }
         b'n' => {
-            calling::read_note(note);
-            sizes
+            calling::read_note(rt, note)?;
+            Ok(sizes)
         }
         _ => {
-            calling::call(word, &file[..size], &mut table[..count], note);
-            sizes
+            calling::call(rt, word, &file[..size], &mut table[..count], note)?;
+            Ok(sizes)
         }
     }
 }

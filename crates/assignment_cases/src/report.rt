@@ -1,13 +1,15 @@
 // The answers in words.
 use calls::{AuditAnswer, Ending, Outcome, PassAnswer, RunAnswer, TakeBackAnswer};
 use case_lines::{print, text};
+use std::io;
 
-pub fn start(refusal: u8) {
-    print(b": start, refusal #", &[refusal as u64]);
+pub fn start(rt: &impl Print, refusal: u8) -> io::Result<()> {
+    print(rt, b": start, refusal #", &[refusal as u64])
 }
 
-pub fn audit(share: u32, answer: AuditAnswer) {
+pub fn audit(rt: &impl Print, share: u32, answer: AuditAnswer) -> io::Result<()> {
     print(
+        rt,
         b": audit at share #, refusal #, gap #, cost #, over #",
         &[
             share as u64,
@@ -16,17 +18,19 @@ pub fn audit(share: u32, answer: AuditAnswer) {
             answer.cost,
             answer.over as u64,
         ],
-    );
+    )
 }
 
-pub fn pass(share: u32, answer: PassAnswer) {
+pub fn pass(rt: &impl Print, share: u32, answer: PassAnswer) -> io::Result<()> {
     print(
+        rt,
         b": pass at share #, refusal #",
         &[share as u64, answer.refusal as u64],
-    );
+    )?;
     let outcome = answer.outcome;
-    name_outcome(outcome);
+    name_outcome(rt, outcome)?;
     print(
+        rt,
         b", gap #, cost #, share #, over #",
         &[
             answer.gap,
@@ -34,24 +38,27 @@ pub fn pass(share: u32, answer: PassAnswer) {
             answer.share as u64,
             answer.over as u64,
         ],
-    );
+    )
 }
 
-pub fn take_back(share: u32, answer: TakeBackAnswer) {
+pub fn take_back(rt: &impl Print, share: u32, answer: TakeBackAnswer) -> io::Result<()> {
     print(
+        rt,
         b": taking back at share #, refusal #, share #",
         &[share as u64, answer.refusal as u64, answer.share as u64],
-    );
+    )
 }
 
-pub fn run(budget: u32, excess: u16, answer: RunAnswer) {
+pub fn run(rt: &impl Print, budget: u32, excess: u16, answer: RunAnswer) -> io::Result<()> {
     print(
+        rt,
         b": run with budget # and excess #, refusal #",
         &[budget as u64, excess as u64, answer.refusal as u64],
-    );
+    )?;
     let ending = answer.ending;
-    name_ending(ending);
+    name_ending(rt, ending)?;
     print(
+        rt,
         b", judged #, share #, gap #, cost #, over #",
         &[
             answer.judged as u64,
@@ -60,47 +67,48 @@ pub fn run(budget: u32, excess: u16, answer: RunAnswer) {
             answer.cost,
             answer.over as u64,
         ],
-    );
+    )
 }
 
-fn name_outcome(outcome: Outcome) {
+fn name_outcome(rt: &impl Print, outcome: Outcome) -> io::Result<()> {
     match outcome {
-        Outcome::Refused => text(b", refused"),
-        Outcome::Moved => text(b", moved"),
-        Outcome::Finest => text(b", finest"),
+        Outcome::Refused => text(rt, b", refused"),
+        Outcome::Moved => text(rt, b", moved"),
+        Outcome::Finest => text(rt, b", finest"),
     }
 }
 
-fn name_ending(ending: Ending) {
+fn name_ending(rt: &impl Print, ending: Ending) -> io::Result<()> {
     match ending {
-        Ending::Refused => text(b", refused"),
-        Ending::Reached => text(b", reached"),
-        Ending::Finest => text(b", finest"),
-        Ending::Spent => text(b", spent"),
+        Ending::Refused => text(rt, b", refused"),
+        Ending::Reached => text(rt, b", reached"),
+        Ending::Finest => text(rt, b", finest"),
+        Ending::Spent => text(rt, b", spent"),
     }
 }
 
 // The numbers of the note.
-pub fn noted(note: &[u16]) {
-    text(b", note");
+pub fn noted(rt: &impl Print, note: &[u16]) -> io::Result<()> {
+    text(rt, b", note")?;
     for i in 0..note.len() {
-        entry(note[i]);
+        entry(rt, note[i])?;
     }
+    Ok(())
 }
 
-fn entry(x: u16) {
-    print(b" #", &[x as u64]);
+fn entry(rt: &impl Print, x: u16) -> io::Result<()> {
+    print(rt, b" #", &[x as u64])
 }
 
 // The numbers of the table, and the end of the line.
-pub fn left(table: &[u32]) {
-    text(b", table");
+pub fn left(rt: &impl Print, table: &[u32]) -> io::Result<()> {
+    text(rt, b", table")?;
     for i in 0..table.len() {
-        flow(table[i]);
+        flow(rt, table[i])?;
     }
-    text(b"\n");
+    text(rt, b"\n")
 }
 
-fn flow(x: u32) {
-    print(b" #", &[x as u64]);
+fn flow(rt: &impl Print, x: u32) -> io::Result<()> {
+    print(rt, b" #", &[x as u64])
 }

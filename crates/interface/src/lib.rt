@@ -1,5 +1,4 @@
-// Document 01's six calls and those of document 02's requests, for programs in other languages to link
-// (`rt staticlib interface`).
+// Document 01's six calls and those of document 02's requests, as `interface_c` gives them to programs in other languages.
 //
 // Each function returns the refusal number, or 0. `answer` receives the other fields of the call's
 // answer, in its order; a refusal writes 0 in each. No call has a `requires`. A slice is passed
@@ -15,23 +14,20 @@ ghost use Rattle.interface.specs.Numbers.{audit_numbers, pass_numbers, run_numbe
 
 use calls::{AuditAnswer, Ending, Outcome, PassAnswer, RunAnswer, TakeBackAnswer};
 
-#[unsafe(no_mangle)]
-pub extern "C" fn ilstrovan_check(file: &[u8]) -> u8
+pub fn ilstrovan_check(file: &[u8]) -> u8
     ensures { result ≡ check_number file.now }
 {
     network::check(file)
 }
 
-#[unsafe(no_mangle)]
-pub extern "C" fn ilstrovan_pack(file: &[u8], output: &mut [u8]) -> u8
+pub fn ilstrovan_pack(file: &[u8], output: &mut [u8]) -> u8
     ensures value { result ≡ pack_number file.now output.old }
     ensures output_after { output.new ≡ pack_output file.now output.old }
 {
     network::pack(file, output)
 }
 
-#[unsafe(no_mangle)]
-pub extern "C" fn ilstrovan_start(file: &[u8], table: &mut [u32]) -> u8
+pub fn ilstrovan_start(file: &[u8], table: &mut [u32]) -> u8
     ensures value { result ≡ start_number file.now table.old }
     ensures table_after { table.new ≡ start_table file.now table.old }
 {
@@ -39,8 +35,7 @@ pub extern "C" fn ilstrovan_start(file: &[u8], table: &mut [u32]) -> u8
 }
 
 // Writes outcome (1 moved, 2 finest), gap, cost, the new share and how many links of the judged table are over, and fills the note of a move.
-#[unsafe(no_mangle)]
-pub extern "C" fn ilstrovan_pass(
+pub fn ilstrovan_pass(
     file: &[u8],
     table: &mut [u32],
     share: u32,
@@ -58,8 +53,7 @@ pub extern "C" fn ilstrovan_pass(
 }
 
 // Takes the loading of the note that a pass filled back out of the table, and writes the resulting share.
-#[unsafe(no_mangle)]
-pub extern "C" fn ilstrovan_take_back(
+pub fn ilstrovan_take_back(
     file: &[u8],
     table: &mut [u32],
     share: u32,
@@ -76,8 +70,7 @@ pub extern "C" fn ilstrovan_take_back(
 }
 
 // Writes ending (1 reached, 2 finest, 3 spent), tables judged, share, gap, cost and how many links are over.
-#[unsafe(no_mangle)]
-pub extern "C" fn ilstrovan_run(
+pub fn ilstrovan_run(
     file: &[u8],
     table: &mut [u32],
     budget: u32,
@@ -94,13 +87,7 @@ pub extern "C" fn ilstrovan_run(
 }
 
 // Writes gap, cost and how many links are over.
-#[unsafe(no_mangle)]
-pub extern "C" fn ilstrovan_audit(
-    file: &[u8],
-    table: &[u32],
-    share: u32,
-    answer: &mut [u64; 3],
-) -> u8
+pub fn ilstrovan_audit(file: &[u8], table: &[u32], share: u32, answer: &mut [u64; 3]) -> u8
     ensures value { result ≡ (audit_answer file.now table.now share).refusal }
     ensures answer_after { answer.new ≡ audit_numbers (audit_answer file.now table.now share) }
 {
@@ -110,8 +97,7 @@ pub extern "C" fn ilstrovan_audit(
 }
 
 // Writes the page of the table, 30 bytes a link, at the start of the page slice.
-#[unsafe(no_mangle)]
-pub extern "C" fn ilstrovan_page(file: &[u8], table: &[u32], share: u32, page: &mut [u8]) -> u8
+pub fn ilstrovan_page(file: &[u8], table: &[u32], share: u32, page: &mut [u8]) -> u8
     ensures value { result ≡ page_number file.now table.now share page.old }
     ensures page_after { page.new ≡ page_slice file.now table.now share page.old }
 {

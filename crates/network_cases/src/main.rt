@@ -8,9 +8,12 @@
 //     pack SIZE LABEL       prints what check and pack answer, with an output of so many bytes
 //     show LABEL            prints the output
 //     again                 takes the output as the file
-ghost use Rattle.std.specs.Prelude.{◌≤◌, length};
+#![tactic(auto)]
+
+ghost use Rattle.std.specs.Prelude.{◌≤◌, length, IfOk};
 
 use case_lines::{read_study, word};
+use std::io;
 
 mod report;
 mod row;
@@ -19,75 +22,88 @@ mod row;
 const MOST_LINES: usize = 1000;
 
 // How much of the file's and the output's memory is in use.
-#[derive(Drop)]
+#[derive(Clone, Copy)]
 struct Sizes {
     file: usize,
     output: usize,
 }
 
-fn main() {
+fn main(rt: HostRuntime) -> io::Result<()> {
     let mut file_space = [0u8; 23288];
     let mut output_space = [0u8; 23288];
     let file: &mut [u8] = &mut file_space;
     let output: &mut [u8] = &mut output_space;
-    run(file, output);
+    run(&rt, file, output)
 }
 
-fn run(file: &mut [u8], output: &mut [u8]) {
+fn run(rt: &(impl Input + Print), file: &mut [u8], output: &mut [u8]) -> io::Result<()> {
     let mut sizes = Sizes { file: 0, output: 0 };
     for _ in 0..MOST_LINES {
-        let word = word();
+        let word = word(rt)?;
         if word == 0 {
-            return;
+            return Ok(());
         }
-        sizes = run_line(word, file, output, sizes);
+        sizes = run_line(rt, word, file, output, sizes)?;
     }
+    Ok(())
 }
 
-fn run_line(word: u8, file: &mut [u8], output: &mut [u8], sizes: Sizes) -> Sizes
+fn run_line(
+    rt: &(impl Input + Print),
+    word: u8,
+    file: &mut [u8],
+    output: &mut [u8],
+    sizes: Sizes,
+) -> io::Result<Sizes>
     requires { (sizes.file ≤ length file.old) × (sizes.output ≤ length output.old) }
-    ensures { (result.file ≤ length file.old) × (result.output ≤ length output.old) }
+    ensures { IfOk result (λ after. (after.file ≤ length file.old) × (after.output ≤ length output.old)) }
 {
     let size = sizes.file;
     let room = sizes.output;
     match word {
         b'p' => {
-            let room = report::pack(&file[..size], output);
-            Sizes {
+            let room = report::pack(rt, &file[..size], output)?;
+            Ok(Sizes {
                 file: size,
                 output: room,
-            }
+            })
         }
         b's' => {
-            report::show(&output[..room]);
-            sizes
+            report::show(rt, &output[..room])?;
+            Ok(sizes)
         }
         _ => {
-            let size = change(word, file, size, &output[..room]);
-            Sizes {
+            let size = change(rt, word, file, size, &output[..room])?;
+            Ok(Sizes {
                 file: size,
                 output: room,
-            }
+            })
         }
     }
 }
 
 // Another file, or a change in the file. Answers the file's size.
-fn change(word: u8, file: &mut [u8], size: usize, output: &[u8]) -> usize
+fn change(
+    rt: &impl Input,
+    word: u8,
+    file: &mut [u8],
+    size: usize,
+    output: &[u8],
+) -> io::Result<usize>
     requires { size ≤ length file.old }
-    ensures { result ≤ length file.old }
+    ensures { IfOk result (λ after. after ≤ length file.old) }
 {
     match word {
-        b'f' => read_study(file),
-        b'r' => row::read(file),
-        b'a' => copy(output, file),
+        b'f' => read_study(rt, file),
+        b'r' => row::read(rt, file),
+        b'a' => Ok(copy(output, file)),
         b'l' => {
-            row::read_link(file);
-            size
+            row::read_link(rt, file)?;
+            Ok(size)
         }
         _ => {
-            row::read_trips(file);
-            size
+            row::read_trips(rt, file)?;
+            Ok(size)
         }
     }
 }

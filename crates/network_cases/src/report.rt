@@ -1,36 +1,38 @@
 // Lines of output.
-ghost use Rattle.std.specs.Prelude.{◌≤◌, ◌<◌, length};
+ghost use Rattle.std.specs.Prelude.{◌≤◌, ◌<◌, length, IfOk};
 
 use case_lines::{label, number_within, print, text};
+use std::io;
 
 // Reads the size of the output, which is answered, and the label.
-pub fn pack(file: &[u8], output: &mut [u8]) -> usize
-    ensures { result ≤ length output.old }
+pub fn pack(rt: &(impl Input + Print), file: &[u8], output: &mut [u8]) -> io::Result<usize>
+    ensures { IfOk result (λ room. room ≤ length output.old) }
 {
-    let room = number_within(output.len());
-    label();
-    answers(file, &mut output[..room]);
-    room
+    let room = number_within(rt, output.len())?;
+    label(rt)?;
+    answers(rt, file, &mut output[..room])?;
+    Ok(room)
 }
 
 // What check and pack answer of a file, and a digest of the output that pack was lent.
-fn answers(file: &[u8], output: &mut [u8]) {
+fn answers(rt: &impl Print, file: &[u8], output: &mut [u8]) -> io::Result<()> {
     fill(output);
     let check = network::check(file) as u64;
     let pack = network::pack(file, output) as u64;
     print(
+        rt,
         b": check #, pack #, output #\n",
         &[check, pack, digest(output)],
-    );
+    )
 }
 
 // Reads the label of a line with every byte of the output.
-pub fn show(output: &[u8]) {
-    label();
+pub fn show(rt: &(impl Input + Print), output: &[u8]) -> io::Result<()> {
+    label(rt)?;
     for i in 0..output.len() {
-        print(b" #", &[wide(output[i])]);
+        print(rt, b" #", &[wide(output[i])])?;
     }
-    text(b"\n");
+    text(rt, b"\n")
 }
 
 // Every byte of the output is 170 before a pack.

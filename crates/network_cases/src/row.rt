@@ -1,30 +1,31 @@
 // The largest study: 128 nodes in a row, each link from a node to the next, 32 destinations. In this
 // order of the links one sweep of a reach search marks few nodes.
-ghost use Rattle.std.specs.Prelude.{◌≤◌, ◌<◌, length};
+ghost use Rattle.std.specs.Prelude.{◌≤◌, ◌<◌, length, IfOk};
 
 use case_lines::{number, put, read_header, read_numbers};
+use std::io;
 
 // Reads the header. Answers the file's size.
-pub fn read(file: &mut [u8]) -> usize
-    ensures { result ≤ length file.old }
+pub fn read(rt: &impl Input, file: &mut [u8]) -> io::Result<usize>
+    ensures { IfOk result (λ size. size ≤ length file.old) }
 {
-    let size = read_header(file);
+    let size = read_header(rt, file)?;
     put_links(file);
     put_rows(file);
-    size
+    Ok(size)
 }
 
 // Reads a link, its tail and its head.
-pub fn read_link(file: &mut [u8]) {
-    let start = 32 + 10 * (number() as usize);
-    read_numbers(file, start, start + 4, 2);
+pub fn read_link(rt: &impl Input, file: &mut [u8]) -> io::Result<()> {
+    let start = 32 + 10 * (number(rt)? as usize);
+    read_numbers(rt, file, start, start + 4, 2)
 }
 
 // Reads a destination, a node, and the trips from it.
-pub fn read_trips(file: &mut [u8]) {
-    let row = 5216 + 256 * (number() as usize);
-    let start = row + 2 * (number() as usize);
-    read_numbers(file, start, start + 2, 2);
+pub fn read_trips(rt: &impl Input, file: &mut [u8]) -> io::Result<()> {
+    let row = 5216 + 256 * (number(rt)? as usize);
+    let start = row + 2 * (number(rt)? as usize);
+    read_numbers(rt, file, start, start + 2, 2)
 }
 
 fn put_links(file: &mut [u8]) {

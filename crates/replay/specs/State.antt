@@ -3,7 +3,7 @@ use Rattle.std.specs.Prelude.{ℕ, ◌≤◌}
 use Rattle.replay.specs.declared.State.{State}
 
 pub record Within (file table note bytes : ℕ) (state : State) : Type 0 where
-  pub file-fits : state.file ≤ file
+  pub file_fits : state.file ≤ file
   pub table_fits : state.table ≤ table
-  pub note-fits : state.note ≤ note
-  pub output-fits : state.output ≤ bytes
+  pub note_fits : state.note ≤ note
+  pub output_fits : state.output ≤ bytes

@@ -1,8 +1,9 @@
 // What a stream holds: little-endian numbers, and lengths with the bytes or numbers after them. At
 // the end of the input a number is 0.
-ghost use Rattle.std.specs.Prelude.{◌+◌, ◌*◌, ◌≤◌, ◌<◌, length, ◌≡◌};
+ghost use Rattle.std.specs.Prelude.{◌+◌, ◌*◌, ◌≤◌, ◌<◌, length, ◌≡◌, IfOk};
 
-use libc::STDIN_FILENO;
+use std::io;
+use streams::read_full;
 
 // A length that stands for what was left.
 const SAME: u32 = 4294967295;
@@ -15,75 +16,85 @@ pub struct Read {
     pub whole: bool,
 }
 
-pub fn byte() -> u8 {
+pub fn byte(rt: &impl Input) -> io::Result<u8> {
     let mut bytes = [0u8; 1];
-    io::read_full(STDIN_FILENO, &mut bytes);
-    bytes[0]
+    read_full(rt, &mut bytes)?;
+    Ok(bytes[0])
 }
 
-pub fn half() -> u16 {
+pub fn half(rt: &impl Input) -> io::Result<u16> {
     let mut bytes = [0u8; 2];
-    io::read_full(STDIN_FILENO, &mut bytes);
-    half_at(&bytes, 0)
+    read_full(rt, &mut bytes)?;
+    Ok(half_at(&bytes, 0))
 }
 
-pub fn word() -> u32 {
+pub fn word(rt: &impl Input) -> io::Result<u32> {
     let mut bytes = [0u8; 4];
-    io::read_full(STDIN_FILENO, &mut bytes);
-    word_at(&bytes, 0)
+    read_full(rt, &mut bytes)?;
+    Ok(word_at(&bytes, 0))
 }
 
 // A length and its bytes, put at the start of `bytes`, of which `kept` were left.
-pub fn read_bytes(bytes: &mut [u8], kept: usize) -> Read
+pub fn read_bytes(rt: &impl Input, bytes: &mut [u8], kept: usize) -> io::Result<Read>
     requires { kept ≤ length bytes.old }
-    ensures { result.count ≤ length bytes.old }
+    ensures { IfOk result (λ read. read.count ≤ length bytes.old) }
 {
-    let n = word();
+    let n = word(rt)?;
     if n == SAME {
-        return as_left(kept);
+        return Ok(as_left(kept));
     }
     let count = n as usize;
     if bytes.len() < count {
-        return missing();
+        return Ok(missing());
     }
-    let whole = fill(bytes, count);
-    Read { count, whole }
+    let whole = fill(rt, bytes, count)?;
+    Ok(Read { count, whole })
 }
 
 // A length and its numbers, put at the start of `table`, of which `kept` were left.
-pub fn read_numbers(table: &mut [u32], bytes: &mut [u8], kept: usize) -> Read
+pub fn read_numbers(
+    rt: &impl Input,
+    table: &mut [u32],
+    bytes: &mut [u8],
+    kept: usize,
+) -> io::Result<Read>
     requires { (kept ≤ length table.old) × (4 * length table.old ≤ length bytes.old) }
-    ensures { result.count ≤ length table.old }
+    ensures { IfOk result (λ read. read.count ≤ length table.old) }
 {
-    let n = word();
+    let n = word(rt)?;
     if n == SAME {
-        return as_left(kept);
+        return Ok(as_left(kept));
     }
     let count = n as usize;
     if table.len() < count {
-        return missing();
+        return Ok(missing());
     }
-    let whole = fill(bytes, 4 * count);
+    let whole = fill(rt, bytes, 4 * count)?;
     decode(bytes, table, count);
-    Read { count, whole }
+    Ok(Read { count, whole })
 }
 
 // The same of numbers of 16 bits.
-pub fn read_halves(note: &mut [u16], bytes: &mut [u8], kept: usize) -> Read
+pub fn read_halves(
+    rt: &impl Input,
+    note: &mut [u16],
+    bytes: &mut [u8],
+    kept: usize,
+) -> io::Result<Read>
     requires { (kept ≤ length note.old) × (2 * length note.old ≤ length bytes.old) }
-    ensures { result.count ≤ length note.old }
+    ensures { IfOk result (λ read. read.count ≤ length note.old) }
 {
-    let n = word();
+    let n = word(rt)?;
     if n == SAME {
-        return as_left(kept);
+        return Ok(as_left(kept));
     }
     let count = n as usize;
     if note.len() < count {
-        return missing();
+        return Ok(missing());
     }
-    let whole = fill(bytes, 2 * count);
+    let whole = fill(rt, bytes, 2 * count)?;
     decode_halves(bytes, note, count);
-    Read { count, whole }
+    Ok(Read { count, whole })
 }
 
 // What was left, with nothing read.
@@ -103,11 +114,11 @@ fn missing() -> Read
 }
 
 // Reads into the first `size` bytes. Answers whether the stream has as many.
-fn fill(bytes: &mut [u8], size: usize) -> bool
+fn fill(rt: &impl Input, bytes: &mut [u8], size: usize) -> io::Result<bool>
     requires { size ≤ length bytes.old }
 {
-    let got = io::read_full(STDIN_FILENO, &mut bytes[..size]);
-    got == size
+    let got = read_full(rt, &mut bytes[..size])?;
+    Ok(got == size)
 }
 
 fn decode(bytes: &[u8], table: &mut [u32], count: usize)

@@ -1,23 +1,27 @@
 // A line of answers: the call's name, its numbers in decimal, and the digest in 16 hexadecimal
 // digits, separated by single spaces.
-use libc::STDOUT_FILENO;
+use std::io;
 
-pub fn print(name: &[u8], refusal: u8, numbers: &[u64], digest: u64) {
-    io::write_all(STDOUT_FILENO, name);
-    number(refusal as u64);
-    each(numbers);
-    io::write_all(STDOUT_FILENO, b" ");
-    io::print_hex(STDOUT_FILENO, digest, 16);
-    io::write_all(STDOUT_FILENO, b"\n");
+pub fn print(
+    rt: &impl Print,
+    name: &[u8],
+    refusal: u8,
+    numbers: &[u64],
+    digest: u64,
+) -> io::Result<()> {
+    rt.write_all(name)?;
+    number(rt, refusal as u64)?;
+    each(rt, numbers)?;
+    println!(rt; " {digest:016x}")
 }
 
-fn each(numbers: &[u64]) {
+fn each(rt: &impl Print, numbers: &[u64]) -> io::Result<()> {
     for i in 0..numbers.len() {
-        number(numbers[i]);
+        number(rt, numbers[i])?;
     }
+    Ok(())
 }
 
-fn number(n: u64) {
-    io::write_all(STDOUT_FILENO, b" ");
-    io::print_decimal(STDOUT_FILENO, n);
+fn number(rt: &impl Print, n: u64) -> io::Result<()> {
+    print!(rt; " {n}")
 }

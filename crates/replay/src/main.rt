@@ -12,11 +12,14 @@
 //
 // A length of 2^32 - 1 has nothing after it: the file of the call before, the table as the call
 // before left it, or the note as the last call that was lent one left it (empty before any).
-ghost use Rattle.std.specs.Prelude.{◌≡◌, ◌*◌, ◌≤◌, length};
+#![tactic(auto)]
+
+ghost use Rattle.std.specs.Prelude.{◌≡◌, ◌*◌, ◌≤◌, length, IfOk};
 ghost use Rattle.replay.specs.State.{Within};
 
 use crate::input::Read;
 use crate::play::Call;
+use std::io;
 
 mod digest;
 mod input;
@@ -28,7 +31,7 @@ const MOST_CALLS: usize = 1000000;
 
 // A call's kind, or 0 at the end of the stream, and how much of the file's, the table's, the note's and
 // the output's memory is in use.
-#[derive(Drop)]
+#[derive(Clone, Copy)]
 struct State {
     kind: u8,
     file: usize,
@@ -37,7 +40,7 @@ struct State {
     output: usize,
 }
 
-fn main() {
+fn main(rt: HostRuntime) -> io::Result<()> {
     let mut file_space = [0u8; 65540];
     let mut table_space = [0u32; 32800];
     let mut note_space = [0u16; 8400];
@@ -48,12 +51,13 @@ fn main() {
     let bytes: &mut [u8] = &mut byte_space;
     let mut state = blank();
     for _ in 0..MOST_CALLS {
-        state = read_next(file, table, note, bytes, state);
+        state = read_next(&rt, file, table, note, bytes, state)?;
         if state.kind == 0 {
-            return;
+            return Ok(());
         }
-        play_call(file, table, note, bytes, state);
+        play_call(&rt, file, table, note, bytes, state)?;
     }
+    Ok(())
 }
 
 // No call, and no memory in use.
@@ -72,58 +76,71 @@ fn blank() -> State
 // Reads the next call of the stream, up to its share. `bytes` holds a pack's output or a page slice, and
 // before that the bytes of a table and of a note while they are read.
 fn read_next(
+    rt: &impl Input,
     file: &mut [u8],
     table: &mut [u32],
     note: &mut [u16],
     bytes: &mut [u8],
     before: State,
-) -> State
+) -> io::Result<State>
     requires within { Within (length file.old) (length table.old) (length note.old) (length bytes.old) before }
     requires table_in_bounds { (4 * length table.old ≤ length bytes.old) × (2 * length note.old ≤ length bytes.old) }
-    ensures { Within (length file.old) (length table.old) (length note.old) (length bytes.old) result }
+    ensures { IfOk result (λ state. Within (length file.old) (length table.old) (length note.old) (length bytes.old) state) }
 {
-    let kind = input::byte();
+    let kind = input::byte(rt)?;
     if kind == 0 || 8 < kind {
-        return blank();
+        return Ok(blank());
     }
-    let of_file = input::read_bytes(file, before.file);
-    let of_table = read_table(kind, table, bytes, before.table);
-    let of_note = read_note(kind, note, bytes, before.note);
-    let of_output = read_output(kind, bytes);
-    state_of(kind, of_file, of_table, of_note, of_output)
+    let of_file = input::read_bytes(rt, file, before.file)?;
+    let of_table = read_table(rt, kind, table, bytes, before.table)?;
+    let of_note = read_note(rt, kind, note, bytes, before.note)?;
+    let of_output = read_output(rt, kind, bytes)?;
+    Ok(state_of(kind, of_file, of_table, of_note, of_output))
 }
 
 // The table of a call that is lent one.
-fn read_table(kind: u8, table: &mut [u32], bytes: &mut [u8], kept: usize) -> Read
+fn read_table(
+    rt: &impl Input,
+    kind: u8,
+    table: &mut [u32],
+    bytes: &mut [u8],
+    kept: usize,
+) -> io::Result<Read>
     requires { (kept ≤ length table.old) × (4 * length table.old ≤ length bytes.old) }
-    ensures { result.count ≤ length table.old }
+    ensures { IfOk result (λ read. read.count ≤ length table.old) }
 {
     if kind < 3 {
-        return input::as_left(kept);
+        return Ok(input::as_left(kept));
     }
-    input::read_numbers(table, bytes, kept)
+    input::read_numbers(rt, table, bytes, kept)
 }
 
 // The note of a pass or a taking back.
-fn read_note(kind: u8, note: &mut [u16], bytes: &mut [u8], kept: usize) -> Read
+fn read_note(
+    rt: &impl Input,
+    kind: u8,
+    note: &mut [u16],
+    bytes: &mut [u8],
+    kept: usize,
+) -> io::Result<Read>
     requires { (kept ≤ length note.old) × (2 * length note.old ≤ length bytes.old) }
-    ensures { result.count ≤ length note.old }
+    ensures { IfOk result (λ read. read.count ≤ length note.old) }
 {
     if kind == 4 || kind == 8 {
-        return input::read_halves(note, bytes, kept);
+        return input::read_halves(rt, note, bytes, kept);
     }
-    input::as_left(kept)
+    Ok(input::as_left(kept))
 }
 
 // The output of a pack, which a check has at length 0, or the page slice of a page. Any other call has
 // none.
-fn read_output(kind: u8, bytes: &mut [u8]) -> Read
-    ensures { result.count ≤ length bytes.old }
+fn read_output(rt: &impl Input, kind: u8, bytes: &mut [u8]) -> io::Result<Read>
+    ensures { IfOk result (λ read. read.count ≤ length bytes.old) }
 {
     if kind < 3 || kind == 7 {
-        return input::read_bytes(bytes, 0);
+        return input::read_bytes(rt, bytes, 0);
     }
-    input::as_left(0)
+    Ok(input::as_left(0))
 }
 
 // A call of this kind with what was read for it, or the end where some of that is not whole.
@@ -141,27 +158,35 @@ fn state_of(kind: u8, file: Read, table: Read, note: Read, output: Read) -> Stat
 }
 
 // Reads the rest of a call, and makes it.
-fn play_call(file: &[u8], table: &mut [u32], note: &mut [u16], bytes: &mut [u8], state: State)
+fn play_call(
+    rt: &(impl Input + Print),
+    file: &[u8],
+    table: &mut [u32],
+    note: &mut [u16],
+    bytes: &mut [u8],
+    state: State,
+) -> io::Result<()>
     requires { Within (length file.now) (length table.old) (length note.old) (length bytes.old) state }
 {
-    let call = read_call(state.kind);
+    let call = read_call(rt, state.kind)?;
     play::play(
+        rt,
         &file[..state.file],
         &mut bytes[..state.output],
         &mut table[..state.table],
         &mut note[..state.note],
         call,
-    );
+    )
 }
 
-fn read_call(kind: u8) -> Call {
-    let share = input::word();
-    let budget = input::word();
-    let excess = input::half();
-    Call {
+fn read_call(rt: &impl Input, kind: u8) -> io::Result<Call> {
+    let share = input::word(rt)?;
+    let budget = input::word(rt)?;
+    let excess = input::half(rt)?;
+    Ok(Call {
         kind,
         share,
         budget,
         excess,
-    }
+    })
 }

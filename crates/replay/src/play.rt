@@ -1,5 +1,6 @@
 // One recorded call: made, and its answer printed.
 use crate::{digest, lines};
+use std::io;
 
 // A call's kind, and what it is handed besides the file and what it is lent; 0 where it takes none.
 #[derive(Drop)]
@@ -12,65 +13,97 @@ pub struct Call {
 
 // The call of its kind: 1 check, 2 pack, 3 start, 4 pass, 5 run, 6 audit, 7 page, 8 take back.
 // `output` is a pack's output or a page slice.
-pub fn play(file: &[u8], output: &mut [u8], table: &mut [u32], note: &mut [u16], call: Call) {
+pub fn play(
+    rt: &impl Print,
+    file: &[u8],
+    output: &mut [u8],
+    table: &mut [u32],
+    note: &mut [u16],
+    call: Call,
+) -> io::Result<()> {
     let kind = call.kind;
     match kind {
-        1 => check(file),
-        2 => pack(file, output),
-        3 => start(file, table),
-        4 => pass(file, table, call.share, note),
-        5 => run(file, table, call.budget, call.excess),
-        6 => audit(file, table, call.share),
-        7 => page(file, table, call.share, output),
-        _ => take_back(file, table, call.share, note),
+        1 => check(rt, file),
+        2 => pack(rt, file, output),
+        3 => start(rt, file, table),
+        4 => pass(rt, file, table, call.share, note),
+        5 => run(rt, file, table, call.budget, call.excess),
+        6 => audit(rt, file, table, call.share),
+        7 => page(rt, file, table, call.share, output),
+        _ => take_back(rt, file, table, call.share, note),
     }
 }
 
-fn check(file: &[u8]) {
+fn check(rt: &impl Print, file: &[u8]) -> io::Result<()> {
     let refusal = interface::ilstrovan_check(file);
-    lines::print(b"check", refusal, &[0u64; 0], digest::of_nothing());
+    lines::print(rt, b"check", refusal, &[0u64; 0], digest::of_nothing())
 }
 
-fn pack(file: &[u8], output: &mut [u8]) {
+fn pack(rt: &impl Print, file: &[u8], output: &mut [u8]) -> io::Result<()> {
     let refusal = interface::ilstrovan_pack(file, output);
-    lines::print(b"pack", refusal, &[0u64; 0], digest::of_bytes(output));
+    lines::print(rt, b"pack", refusal, &[0u64; 0], digest::of_bytes(output))
 }
 
-fn start(file: &[u8], table: &mut [u32]) {
+fn start(rt: &impl Print, file: &[u8], table: &mut [u32]) -> io::Result<()> {
     let refusal = interface::ilstrovan_start(file, table);
-    lines::print(b"start", refusal, &[0u64; 0], digest::of_numbers(table));
+    lines::print(rt, b"start", refusal, &[0u64; 0], digest::of_numbers(table))
 }
 
-fn pass(file: &[u8], table: &mut [u32], share: u32, note: &mut [u16]) {
+fn pass(
+    rt: &impl Print,
+    file: &[u8],
+    table: &mut [u32],
+    share: u32,
+    note: &mut [u16],
+) -> io::Result<()> {
     let mut answer = [0u64; 5];
     let refusal = interface::ilstrovan_pass(file, table, share, note, &mut answer);
-    lines::print(b"pass", refusal, &answer, digest::of_noted(table, note));
+    lines::print(rt, b"pass", refusal, &answer, digest::of_noted(table, note))
 }
 
-fn run(file: &[u8], table: &mut [u32], budget: u32, excess: u16) {
+fn run(
+    rt: &impl Print,
+    file: &[u8],
+    table: &mut [u32],
+    budget: u32,
+    excess: u16,
+) -> io::Result<()> {
     let mut answer = [0u64; 6];
     let refusal = interface::ilstrovan_run(file, table, budget, excess, &mut answer);
-    lines::print(b"run", refusal, &answer, digest::of_numbers(table));
+    lines::print(rt, b"run", refusal, &answer, digest::of_numbers(table))
 }
 
-fn audit(file: &[u8], table: &[u32], share: u32) {
+fn audit(rt: &impl Print, file: &[u8], table: &[u32], share: u32) -> io::Result<()> {
     let mut answer = [0u64; 3];
     let refusal = interface::ilstrovan_audit(file, table, share, &mut answer);
-    lines::print(b"audit", refusal, &answer, digest::of_numbers(table));
+    lines::print(rt, b"audit", refusal, &answer, digest::of_numbers(table))
 }
 
-fn page(file: &[u8], table: &[u32], share: u32, page: &mut [u8]) {
+fn page(
+    rt: &impl Print,
+    file: &[u8],
+    table: &[u32],
+    share: u32,
+    page: &mut [u8],
+) -> io::Result<()> {
     let refusal = interface::ilstrovan_page(file, table, share, page);
-    lines::print(b"page", refusal, &[0u64; 0], digest::of_bytes(page));
+    lines::print(rt, b"page", refusal, &[0u64; 0], digest::of_bytes(page))
 }
 
-fn take_back(file: &[u8], table: &mut [u32], share: u32, note: &[u16]) {
+fn take_back(
+    rt: &impl Print,
+    file: &[u8],
+    table: &mut [u32],
+    share: u32,
+    note: &[u16],
+) -> io::Result<()> {
     let mut answer = [0u64; 1];
     let refusal = interface::ilstrovan_take_back(file, table, share, note, &mut answer);
     lines::print(
+        rt,
         b"take_back",
         refusal,
         &answer,
         digest::of_noted(table, note),
-    );
+    )
 }

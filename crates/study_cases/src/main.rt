@@ -7,11 +7,14 @@
 //     study STUDY LABEL                    prints what is answered of a study, and its fields
 //
 // Lines that write past byte 32 come after those that rely on the marks there.
-ghost use Rattle.std.specs.Prelude.{◌≤◌, length};
+#![tactic(auto)]
+
+ghost use Rattle.std.specs.Prelude.{◌≤◌, length, IfOk};
 
 use case_lines::{read_header, read_numbers, read_study, word};
 use fields::all;
 use report::answers;
+use std::io;
 
 mod fields;
 mod report;
@@ -19,11 +22,11 @@ mod report;
 // There are fewer lines than this.
 const MOST_LINES: usize = 1000;
 
-fn main() {
+fn main(rt: HostRuntime) -> io::Result<()> {
     let mut space = [0u8; 65537];
     let file: &mut [u8] = &mut space;
     mark(file);
-    run(file);
+    run(&rt, file)
 }
 
 // Past the header each byte is its own place modulo 251, so that a part's bytes tell where it starts
@@ -36,37 +39,39 @@ fn mark(file: &mut [u8]) {
     }
 }
 
-fn run(file: &mut [u8]) {
+fn run(rt: &(impl Input + Print), file: &mut [u8]) -> io::Result<()> {
     for _ in 0..MOST_LINES {
-        let word = word();
+        let word = word(rt)?;
         if word == 0 {
-            return;
+            return Ok(());
         }
-        run_line(word, file);
+        run_line(rt, word, file)?;
     }
+    Ok(())
 }
 
-fn run_line(word: u8, file: &mut [u8]) {
-    let size = read(word, file);
+fn run_line(rt: &(impl Input + Print), word: u8, file: &mut [u8]) -> io::Result<()> {
+    let size = read(rt, word, file)?;
     let study = &file[..size];
-    answers(study);
+    answers(rt, study)?;
     if word != b'f' {
-        all(study);
+        all(rt, study)?;
     }
+    Ok(())
 }
 
 // Reads a file up to its label, and answers its length.
-fn read(word: u8, file: &mut [u8]) -> usize
-    ensures { result ≤ length file.old }
+fn read(rt: &impl Input, word: u8, file: &mut [u8]) -> io::Result<usize>
+    ensures { IfOk result (λ size. size ≤ length file.old) }
 {
     if word == b's' {
-        return read_study(file);
+        return read_study(rt, file);
     }
-    let size = read_header(file);
+    let size = read_header(rt, file)?;
     match word {
-        b'c' => read_numbers(file, 32, 40, 4),
-        b'l' => read_numbers(file, 32, 56, 4),
+        b'c' => read_numbers(rt, file, 32, 40, 4)?,
+        b'l' => read_numbers(rt, file, 32, 56, 4)?,
         _ => {}
     }
-    size
+    Ok(size)
 }

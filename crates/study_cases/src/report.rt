@@ -1,47 +1,49 @@
 // What the file layer answers of a file, in one line.
 use case_lines::{label, print, text};
+use std::io;
 
 // Reads the label of the line.
-pub fn answers(file: &[u8]) {
-    label();
-    verdict(study::refusal(file));
-    counts(file);
-    sections(file);
-    text(b"\n");
+pub fn answers(rt: &(impl Input + Print), file: &[u8]) -> io::Result<()> {
+    label(rt)?;
+    verdict(rt, study::refusal(file))?;
+    counts(rt, file)?;
+    sections(rt, file)?;
+    text(rt, b"\n")
 }
 
-fn verdict(refusal: u8) {
+fn verdict(rt: &impl Print, refusal: u8) -> io::Result<()> {
     if refusal == 0 {
-        text(b": accepted");
+        text(rt, b": accepted")
     } else {
-        print(b": refused #", &[refusal as u64]);
+        print(rt, b": refused #", &[refusal as u64])
     }
 }
 
-fn counts(file: &[u8]) {
+fn counts(rt: &impl Print, file: &[u8]) -> io::Result<()> {
     let n = study::node_count(file) as u64;
     let m = study::link_count(file) as u64;
     let p = study::destination_count(file) as u64;
-    print(b", n #, m #, p #", &[n, m, p]);
+    print(rt, b", n #, m #, p #", &[n, m, p])
 }
 
-fn sections(file: &[u8]) {
-    section(b", links # bytes", study::links(file));
-    section(b", destinations # bytes", study::destinations(file));
-    section(b", trips # bytes", study::trips(file));
-    section(b", closed # bytes", study::closed(file));
-    section(b", lorry trips # bytes", study::lorry_trips(file));
-    section(b", barred # bytes", study::barred(file));
+fn sections(rt: &impl Print, file: &[u8]) -> io::Result<()> {
+    section(rt, b", links # bytes", study::links(file))?;
+    section(rt, b", destinations # bytes", study::destinations(file))?;
+    section(rt, b", trips # bytes", study::trips(file))?;
+    section(rt, b", closed # bytes", study::closed(file))?;
+    section(rt, b", lorry trips # bytes", study::lorry_trips(file))?;
+    section(rt, b", barred # bytes", study::barred(file))
 }
 
 // A section's length, and its first and last byte if it has any.
-fn section(words: &[u8], bytes: &[u8]) {
-    print(words, &[bytes.len() as u64]);
+fn section(rt: &impl Print, words: &[u8], bytes: &[u8]) -> io::Result<()> {
+    print(rt, words, &[bytes.len() as u64])?;
     if 0 < bytes.len() {
-        ends(bytes[0], bytes[bytes.len() - 1]);
+        ends(rt, bytes[0], bytes[bytes.len() - 1])?;
     }
+    Ok(())
 }
 
-fn ends(first: u8, last: u8) {
-    print(b" (first #, last #)", &[first as u64, last as u64]);
+fn ends(rt: &impl Print, first: u8, last: u8) -> io::Result<()> {
+    print(rt, b" (first #, last #)", &[first as u64, last as u64])
 }
