@@ -3,4 +3,4 @@ use Rattle.std.proofs.Common.{rules}
 use Rattle.assignment.proofs.running.ended.Goals as goal
 
 pub returns : goal.returns
-returns c = rw c.Ending-of.ensures
+returns c = rw c.ending_of-ending.ensures

@@ -64,18 +64,6 @@ put_note-requires c = (
   c.put_class_chains.ensures,
 )
 
-pub shape_of-curves : goal.shape_of-curves
-shape_of-curves c = c.put_reciprocals.auto.curves ∙ c.put_powers.auto.curves
-
-pub shape_of-chains : goal.shape_of-chains
-shape_of-chains c = c.put_class_chains.auto.chains
-
-pub shape_of-next : goal.shape_of-next
-shape_of-next c = search rules
-
-pub shape_of-volumes : goal.shape_of-volumes
-shape_of-volumes c = omega arith
-
 pub cost-costs-requires : goal.cost-costs-requires
 cost-costs-requires c = let given = c.requires.judgeable in
     let totals = totals-are given c.judge.ensures (totals-were (goal.at.cost-costs-requires c).Start) in
