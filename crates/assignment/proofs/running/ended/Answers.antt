@@ -1,5 +1,4 @@
 -- `assignment::ended` meets its contract.
-use Rattle.std.proofs.Common.{rules}
 use Rattle.assignment.proofs.running.ended.Goals as goal
 
 pub returns : goal.returns

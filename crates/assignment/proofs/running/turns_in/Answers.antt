@@ -1,18 +1,14 @@
 -- `assignment::turns_in` meets its contract: the run begins with the start's table, and each turn but the last moves the table.
-use Rattle.std.proofs.Common.{◌≡◌, ℕ, ◌-◌, ◌*◌, true, List, length, sym, refl, ap, ◌∙◌, ⊎_elim, true≢false, mul-le-mul, arith, rules}
-use Rattle.judging.specs.declared.Step.TheVariants as step
-use Rattle.theory.specs.Network.{total_trips}
+use Rattle.std.proofs.Common.{sym, refl, ap, ◌∙◌, true≢false, mul-le-mul, arith}
 use Rattle.theory.specs.Moves.{started}
-use Rattle.calls.specs.Study.{network_of}
 use Rattle.calls.specs.Calls.{overwritten}
 use Rattle.calls.specs.Laws.Questions.{run-both}
 use Rattle.travel.specs.Laws.Powers.{link-powers}
-use Rattle.judging.specs.Study.{Study, study_of, Judgeable}
-use Rattle.judging.specs.Judged.{Known, Lent, TotalsOf}
+use Rattle.judging.specs.Study.{study_of, Judgeable}
 use Rattle.judging.specs.Laws.Study.{links-fit}
 use Rattle.judging.specs.Laws.Classes.{few-commodities}
 use Rattle.judging.specs.Laws.Judged.{zeros-lent, totals-set, totals-lent, share-fits, holds, totals-within, cost-is, over-is}
-use Rattle.assignment.specs.Runs.{Running, Begun}
+use Rattle.assignment.specs.Runs.{Running}
 use Rattle.refusals.specs.Laws.Parts.{network-is, parts-sized}
 use Rattle.refusals.specs.Laws.Places.{curve-room, parts-room, run-passed}
 use Rattle.refusals.specs.Laws.Ready.{start-holds}
@@ -53,12 +49,12 @@ start_table-requires c =
 begins : (c : After-start_table) → Running c.args.file.now c.args.table.now c.args.budget c.args.excess 0 c.start_table.new.table 1
 begins c =
     begun-running _ _ _ _ (
-      record {
-        accepted = c.requires.parts_of.1;
-        started =
-            c.start_table.ensures.table_after
-            ∙ ap (λ g. overwritten (started g).table c.args.table.now) (network-is c.requires.parts_of.0);
-      }
+    record {
+      accepted = c.requires.parts_of.1;
+      started =
+          c.start_table.ensures.table_after
+          ∙ ap (λ g. overwritten (started g).table c.args.table.now) (network-is c.requires.parts_of.0);
+    }
     )
 
 pub write_totals-requires : goal.write_totals-requires
@@ -139,12 +135,12 @@ returns-in_default c =
     let judged = still (goal.at.returns-in_default c).In_default in
     let left = c.turn_table-turn.ensures.left in
     let (value, table_after) =
-        turn-ends parts _ _ c.args.excess accepted _ _ _ _ limit c.loop-flows.invariant.under-way refl refl refl
-        c.turn_table-turn.ensures.turned
-        c.in_default.not-Moved
-        (c.cost-costs.ensures.cost_value ∙ cost-is judged left.totals-are)
-        (c.cost-costs.ensures.over_value ∙ over-is judged left.totals-are)
-        c.ended.ensures
+    turn-ends parts _ _ c.args.excess accepted _ _ _ _ limit c.loop-flows.invariant.under-way refl refl refl
+    c.turn_table-turn.ensures.turned
+    c.in_default.not-Moved
+    (c.cost-costs.ensures.cost_value ∙ cost-is judged left.totals-are)
+    (c.cost-costs.ensures.over_value ∙ over-is judged left.totals-are)
+    c.ended.ensures
     in
     record { value = value; table_after = table_after }
 

@@ -3,7 +3,6 @@ use native.Mathlib.Omega.{arith}
 use mathlib.Core.Path.{refl, ◌∙◌, ap}
 use mathlib.Core.List.{[]}
 use lib.ListN.{length, get_or}
-use borrow.Author.Rules.{rules}
 use Rattle.theory.specs.Laws.Cases.{true-false}
 use Rattle.travel.specs.Laws.Powers.{link-powers}
 use Rattle.calls.specs.Calls.{share_after, table_after}
