@@ -1,5 +1,5 @@
 -- `assignment::audit_in` meets its contract: it judges a table that its questions accept.
-use Rattle.std.proofs.Common.{◌≡◌, sym, refl, ◌∙◌, arith, rules}
+use Rattle.std.proofs.Common.{◌≡◌, sym, refl, ◌∙◌, arith}
 use Rattle.calls.specs.Calls.{table_number}
 use Rattle.network.specs.Laws.Decoding.{trips-few, links-counted, commodities-counted, trips-counted}
 use Rattle.refusals.specs.Laws.Parts.{parts-decoded}

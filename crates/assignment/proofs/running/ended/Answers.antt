@@ -1,6 +1,5 @@
 -- `assignment::ended` meets its contract.
-use Rattle.std.proofs.Common.{rules}
 use Rattle.assignment.proofs.running.ended.Goals as goal
 
 pub returns : goal.returns
-returns c = rw c.Ending-of.ensures
+returns c = rw c.ending_of-ending.ensures

@@ -1,5 +1,5 @@
 -- `assignment::run_in` meets its contract: it runs a study that its questions accept, and leaves the table of any other.
-use Rattle.std.proofs.Common.{◌≡◌, sym, ◌∙◌, arith, rules}
+use Rattle.std.proofs.Common.{◌≡◌, sym, ◌∙◌, arith}
 use Rattle.calls.specs.Calls.{run_number}
 use Rattle.calls.specs.Laws.Calls.{run-kept}
 use Rattle.network.specs.Laws.Decoding.{trips-few, links-counted, commodities-counted, trips-counted}

@@ -1,5 +1,5 @@
 -- `assignment::turns` meets its contract: the rows that it lends hold all that is judged.
-use Rattle.std.proofs.Common.{◌≤◌, arith, rules}
+use Rattle.std.proofs.Common.{◌≤◌, arith}
 use Rattle.judging.specs.Study.{Study, study_of, commodity_count, Ready}
 use Rattle.judging.specs.Classes.{cars_in}
 use Rattle.judging.specs.Laws.Classes.{few-commodities}

@@ -1,5 +1,5 @@
 -- `assignment::load_start` meets its contract: the places that it lends hold all that is loaded.
-use Rattle.std.proofs.Common.{◌≤◌, arith, rules}
+use Rattle.std.proofs.Common.{◌≤◌, arith}
 use Rattle.judging.specs.Study.{Study, study_of, commodity_count}
 use Rattle.judging.specs.Classes.{cars_in}
 use Rattle.judging.specs.Laws.Classes.{few-commodities}

@@ -1,5 +1,5 @@
 -- `assignment::load_start_in` meets its contract: the table is filled by what is computed of empty roads.
-use Rattle.std.proofs.Common.{refl, rules}
+use Rattle.std.proofs.Common.{refl}
 use Rattle.travel.specs.Laws.Powers.{link-powers}
 use Rattle.judging.specs.Study.{Study, study_of}
 use Rattle.judging.specs.Laws.Judged.{zeros-lent}

@@ -1,5 +1,5 @@
 -- `assignment::start` meets its contract: there is room for the file in the places that it lends.
-use Rattle.std.proofs.Common.{sym, refl, ◌∙◌, rules}
+use Rattle.std.proofs.Common.{sym, refl, ◌∙◌}
 use Rattle.network.specs.Laws.Decoding.{room_most, room-cars, room-short}
 use Rattle.refusals.specs.Laws.Places.{small-length, small-curves, curves-most, curves-counted}
 use Rattle.assignment.proofs.starting.start.Goals as goal

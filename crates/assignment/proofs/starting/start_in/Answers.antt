@@ -1,5 +1,5 @@
 -- `assignment::start_in` meets its contract: it fills a table that its questions accept, and leaves any other.
-use Rattle.std.proofs.Common.{◌≡◌, sym, ◌∙◌, arith, rules}
+use Rattle.std.proofs.Common.{◌≡◌, sym, ◌∙◌, arith}
 use Rattle.calls.specs.Calls.{start_number}
 use Rattle.calls.specs.Laws.Calls.{start-kept}
 use Rattle.network.specs.Laws.Decoding.{trips-few, links-counted, commodities-counted, trips-counted}

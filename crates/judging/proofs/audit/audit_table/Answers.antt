@@ -1,9 +1,8 @@
 -- `audit_table` meets its contract: the gap is that of the least times at the table's times, and the cost that of its totals.
-use Prim.Native.Nat.{ℕ, ◌*◌, ◌-◌, ◌≤◌}
+use Prim.Native.Nat.{◌*◌, ◌-◌, ◌≤◌}
 use native.Mathlib.Omega.{arith}
 use mathlib.Core.Path.{◌∙◌, ap, ap₂}
 use lib.ListN.{length}
-use borrow.Author.Rules.{rules}
 use Rattle.travel.specs.Laws.Powers.{link-powers}
 use Rattle.travel.specs.Laws.Padded.{zeros-clear}
 use Rattle.judging.specs.Laws.Study.{links-fit}

@@ -5,12 +5,11 @@ use mathlib.Core.Path.{◌≡◌, sym, ◌∙◌}
 use mathlib.Core.List.{◌++◌}
 use lib.ListN.{length, drop}
 use lib.Seq.{length-take-le}
-use borrow.Author.Rules.{rules}
 use Rattle.theory.specs.Laws.Parts.{length-behind}
 use Rattle.judging.specs.Study.{study_of}
 use Rattle.judging.specs.Classes.{HasLorries}
 use Rattle.judging.specs.Laws.Chains.{two-rows}
-use Rattle.judging.specs.Laws.Counted.{count-within, middle-within, middle-small, cars-asked, cars-linked, cars-trips, lorries-asked, lorries-linked, lorries-trips, cars-found, front_long, lorries-found, full-cars, full-both}
+use Rattle.judging.specs.Laws.Counted.{middle-within, middle-small, cars-asked, cars-linked, cars-trips, lorries-asked, lorries-linked, lorries-trips, cars-found, lorries-found, full-cars, full-both}
 use Rattle.judging.proofs.classes.complete_next_links.Goals as goal
 use Rattle.judging.proofs.classes.complete_next_links.Goals.{After-car_count-cars, After-complete_table, Then-cars-commodities}
 

@@ -2,9 +2,7 @@
 use Prim.Native.Nat.{◌+◌, ◌*◌}
 use native.Mathlib.Omega.{arith}
 use mathlib.Core.Path.{◌≡◌, sym}
-use lib.ListN.{length}
 use lib.Seq.{length-take-le}
-use borrow.Author.Rules.{rules}
 use Rattle.search.specs.Groups.{least_over}
 use Rattle.judging.specs.Study.{study_of}
 use Rattle.judging.specs.Classes.{HasLorries}

@@ -2,14 +2,12 @@
 use Prim.Native.Nat.{◌*◌}
 use native.Mathlib.Omega.{arith}
 use mathlib.Core.Path.{sym, ◌∙◌}
-use lib.ListN.{length}
 use lib.Seq.{length-take-le}
-use borrow.Author.Rules.{rules}
 use Rattle.theory.specs.Laws.Parts.{length-behind, length-behind-replaced}
 use Rattle.judging.specs.Study.{study_of}
 use Rattle.judging.specs.Classes.{HasLorries}
 use Rattle.judging.specs.Laws.Chains.{two-rows}
-use Rattle.judging.specs.Laws.Counted.{count-within, middle-within, middle-small, cars-asked, cars-linked, cars-trips, lorries-asked, lorries-linked, lorries-trips, counted-cars, counted-both}
+use Rattle.judging.specs.Laws.Counted.{middle-within, middle-small, cars-asked, cars-linked, cars-trips, lorries-asked, lorries-linked, lorries-trips, counted-cars, counted-both}
 use Rattle.judging.proofs.classes.put_next_links.Goals as goal
 use Rattle.judging.proofs.classes.put_next_links.Goals.{Then-cars-commodities}
 

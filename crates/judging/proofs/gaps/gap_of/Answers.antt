@@ -1,7 +1,6 @@
 -- `gap_of` meets its contract.
 use Prim.Native.Nat.{◌*◌, ◌≤◌}
 use native.Mathlib.Omega.{arith}
-use borrow.Author.Rules.{rules}
 use Rattle.judging.proofs.gaps.gap_of.Goals as goal
 use Rattle.judging.proofs.gaps.gap_of.Goals.{After-product-least}
 

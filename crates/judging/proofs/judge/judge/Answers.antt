@@ -1,6 +1,5 @@
 -- `judge` meets its contract: the arrays are known, or each is computed from the ones before.
 use native.Mathlib.Omega.{arith}
-use borrow.Author.Rules.{rules}
 use mathlib.Core.Path.{refl, sym, ◌∙◌, ap}
 use lib.ListN.{length}
 use Rattle.travel.specs.Links.{padded, list_time}

@@ -1,8 +1,6 @@
 -- `put_note` meets its contract: what is written is the note, by j and the share.
 use native.Mathlib.Nat.{mul-le-mul}
 use native.Mathlib.Omega.{arith}
-use mathlib.Core.Path.{◌≡◌, refl, sym, ◌∙◌, ap}
-use borrow.Author.Rules.{rules}
 use Rattle.judging.specs.Study.{study_of}
 use Rattle.judging.specs.Laws.Classes.{few-commodities}
 use Rattle.judging.specs.Laws.Noted.{writable, note-adds, note-doubles, note-rests}

@@ -3,7 +3,6 @@ use native.Mathlib.Omega.{arith}
 use mathlib.Core.Path.{refl, ◌∙◌, ap}
 use mathlib.Core.List.{[]}
 use lib.ListN.{length, get_or}
-use borrow.Author.Rules.{rules}
 use Rattle.theory.specs.Laws.Cases.{true-false}
 use Rattle.travel.specs.Laws.Powers.{link-powers}
 use Rattle.calls.specs.Calls.{share_after, table_after}
@@ -63,18 +62,6 @@ put_note-requires c = (
   notable c.requires.judgeable c.judge.ensures (totals-were (goal.at.put_note-requires c).Start) c.chosen-j.ensures c.args.note.now c.requires.curve_room.1,
   c.put_class_chains.ensures,
 )
-
-pub shape_of-curves : goal.shape_of-curves
-shape_of-curves c = c.put_reciprocals.auto.curves ∙ c.put_powers.auto.curves
-
-pub shape_of-chains : goal.shape_of-chains
-shape_of-chains c = c.put_class_chains.auto.chains
-
-pub shape_of-next : goal.shape_of-next
-shape_of-next c = search rules
-
-pub shape_of-volumes : goal.shape_of-volumes
-shape_of-volumes c = omega arith
 
 pub cost-costs-requires : goal.cost-costs-requires
 cost-costs-requires c = let given = c.requires.judgeable in

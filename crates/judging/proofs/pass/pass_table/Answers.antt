@@ -1,7 +1,6 @@
 -- `pass_table` meets its contract: the places that it lends hold all that is judged.
 use Prim.Native.Nat.{◌≤◌}
 use native.Mathlib.Omega.{arith}
-use borrow.Author.Rules.{rules}
 use Rattle.judging.specs.Study.{Study, study_of, commodity_count}
 use Rattle.judging.specs.Classes.{cars_in}
 use Rattle.judging.specs.Laws.Classes.{few-commodities}

@@ -4,7 +4,6 @@ use mathlib.Core.Path.{◌≡◌, refl, sym, ◌∙◌, ap}
 use mathlib.Core.Bool.{true}
 use native.Mathlib.Nat.{mul-le-mul}
 use native.Mathlib.Omega.{arith}
-use borrow.Author.Rules.{rules}
 use borrow.Author.Tests.{eqb-true}
 use Rattle.study.proofs.Flags.{was-yes, was-no}
 use Rattle.theory.specs.Cost.{gap}
@@ -57,10 +56,10 @@ overflow_mul-standing c =
 pub returns-then-gap-standing : goal.returns-then-gap-standing
 returns-then-gap-standing c = let gap-was = gap_of (goal.at.returns-then-gap-standing c).After-gap_of-gap in
     rw c.turned.ensures (
-      record {
-        turned = record { step_is = reached _ _ _ _ _ gap-was c.if-gap-standing.true; gap_is = gap-was; share-is = refl; table_is = refl };
-        left = left-still c.requires.judgeable.0 c.judge.ensures c.requires.stands.totals-are;
-      }
+    record {
+      turned = record { step_is = reached _ _ _ _ _ gap-was c.if-gap-standing.true; gap_is = gap-was; share-is = refl; table_is = refl };
+      left = left-still c.requires.judgeable.0 c.judge.ensures c.requires.stands.totals-are;
+    }
     )
 
 pub chosen-j-requires : goal.chosen-j-requires
@@ -74,10 +73,10 @@ returns-then-not-can_move c = let at = goal.at.returns-then-not-can_move c in
     let gap-was = gap_of at.After-gap_of-gap in
     let none = can-move-is at.After-chosen-j ∙ was-no c.can_move.ensures c.if-not-can_move.true in
     rw c.turned-then-not-can_move.ensures (
-      record {
-        turned = record { step_is = finest _ _ _ _ _ gap-was c.if-gap-standing.false none; gap_is = gap-was; share-is = refl; table_is = refl };
-        left = left-still c.requires.judgeable.0 c.judge.ensures c.requires.stands.totals-are;
-      }
+    record {
+      turned = record { step_is = finest _ _ _ _ _ gap-was c.if-gap-standing.false none; gap_is = gap-was; share-is = refl; table_is = refl };
+      left = left-still c.requires.judgeable.0 c.judge.ensures c.requires.stands.totals-are;
+    }
     )
 
 pub returns-then-standing : goal.returns-then-standing
@@ -85,16 +84,16 @@ returns-then-standing c = let at = goal.at.returns-then-standing c in
     let gap-was = gap_of at.After-gap_of-gap in
     let some = can-move-is at.After-chosen-j ∙ can-move-yes at.Else-not-can_move in
     rw c.turned-then-standing.ensures (
-      record {
-        turned =
-            record {
-              step_is = spent _ _ _ _ _ gap-was c.if-gap-standing.false some c.if-standing.true;
-              gap_is = gap-was;
-              share-is = refl;
-              table_is = refl;
-            };
-        left = left-still c.requires.judgeable.0 c.judge.ensures c.requires.stands.totals-are;
-      }
+    record {
+      turned =
+          record {
+            step_is = spent _ _ _ _ _ gap-was c.if-gap-standing.false some c.if-standing.true;
+            gap_is = gap-was;
+            share-is = refl;
+            table_is = refl;
+          };
+      left = left-still c.requires.judgeable.0 c.judge.ensures c.requires.stands.totals-are;
+    }
     )
 
 pub move_totals-requires : goal.move_totals-requires
@@ -112,23 +111,23 @@ returns c = let at = goal.at.returns c in
     let can = can-move-yes at.Else-not-can_move in
     let next = move-is judgeable known totals-were c.chosen-j.ensures in
     rw c.turned-2.ensures (
-      record {
-        turned =
-            record {
-              step_is = moved _ _ _ _ _ gap-was c.if-gap-standing.false (can-move-is at.After-chosen-j ∙ can) c.if-standing.false;
-              gap_is = gap-was;
-              share-is = c.move_table-after.ensures.value ∙ ap (share_after c.args.standing.share) next;
-              table_is = c.move_table-after.ensures.table_after ∙ ap (table_after c.args.table.now) next;
-            };
-        left =
-            record {
-              lent = totals-lent _ (known-lent judgeable.ready known.known) c.move_totals.ensures;
-              totals-are =
-                  totals-moved judgeable known totals-were c.chosen-j.ensures can c.move_totals.ensures
-                  c.move_table-after.ensures.table_after;
-              known = λ e.
-                  known-moved judgeable.ready known.known c.args.table.now can (eqb-true _ _ e) c.move_table-after.ensures.value
-                  c.move_totals.ensures;
-            };
-      }
+    record {
+      turned =
+          record {
+            step_is = moved _ _ _ _ _ gap-was c.if-gap-standing.false (can-move-is at.After-chosen-j ∙ can) c.if-standing.false;
+            gap_is = gap-was;
+            share-is = c.move_table-after.ensures.value ∙ ap (share_after c.args.standing.share) next;
+            table_is = c.move_table-after.ensures.table_after ∙ ap (table_after c.args.table.now) next;
+          };
+      left =
+          record {
+            lent = totals-lent _ (known-lent judgeable.ready known.known) c.move_totals.ensures;
+            totals-are =
+                totals-moved judgeable known totals-were c.chosen-j.ensures can c.move_totals.ensures
+                c.move_table-after.ensures.table_after;
+            known = λ e.
+                known-moved judgeable.ready known.known c.args.table.now can (eqb-true _ _ e) c.move_table-after.ensures.value
+                c.move_totals.ensures;
+          };
+    }
     )

@@ -1,5 +1,4 @@
 -- `passes::pass` meets its contract: there is room for the file in the places that it lends.
-use borrow.Author.Rules.{rules}
 use mathlib.Core.Path.{refl, sym, ◌∙◌}
 use Rattle.network.specs.Laws.Decoding.{room_most, room-cars, room-short}
 use Rattle.refusals.specs.Laws.Places.{small-length, small-curves, curves-most, curves-counted}

@@ -3,7 +3,6 @@ use native.Mathlib.Omega.{arith}
 use mathlib.Core.Path.{◌≡◌, refl, sym, ◌∙◌, ap}
 use mathlib.Core.List.{[], ◌∷◌}
 use lib.ListN.{replicate}
-use borrow.Author.Rules.{rules}
 use Rattle.calls.specs.Calls.{pass_number}
 use Rattle.calls.specs.Laws.Calls.{pass_kept, note-kept}
 use Rattle.network.specs.Laws.Decoding.{trips-few, links-counted, commodities-counted, trips-counted}

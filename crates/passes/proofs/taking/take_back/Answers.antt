@@ -1,5 +1,4 @@
 -- `passes::take_back` meets its contract: there is room for the file in the places that it lends.
-use borrow.Author.Rules.{rules}
 use mathlib.Core.Path.{refl, sym, ◌∙◌}
 use Rattle.network.specs.Laws.Decoding.{room_most, room-cars, room-short}
 use Rattle.passes.proofs.taking.take_back.Goals as goal

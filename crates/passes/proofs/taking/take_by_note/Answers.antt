@@ -1,5 +1,4 @@
 -- `passes::take_by_note` meets its contract: the rows that it lends hold all that is taken back.
-use borrow.Author.Rules.{rules}
 use Prim.Native.Nat.{◌≤◌}
 use native.Mathlib.Omega.{arith}
 use lib.ListN.{length}
