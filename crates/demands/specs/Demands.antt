@@ -103,7 +103,7 @@ certified file table share e =
     let study = check-passed file (start-both file table parts.0).0 in
     record {
       accepted = rw (audit-accepted file table share e);
-      bounds = rw (audit-accepted file table share e) (λ v rival some_Share. table-bound file study table share (share-range share parts.1.share-fits).0 v rival);
+      bounds = rw (audit-accepted file table share e) (λ v rival some-share. table-bound file study table share (share-range share parts.1.share-fits).0 v rival);
     }
 
 -- Demand 3, whole: for every list of passes and audits from a fresh start, of any length, refused ones included, whatever share each is

@@ -42,9 +42,9 @@ height-row file l r h = rw (get_d_tabulate (links file) (link_row (link_part fil
 -- In a sound network a link's time does not fall as its flow grows: its step does not, and its curve does not fall with the step.
 rises-with-flow : (g : Network) → Sound g → (l : ℕ) → l < g.links → (share : ℕ) (flow more : ℕ → ℕ) → 1 ≤ share → flow l ≤ more l
     → time_at g share flow l ≤ time_at g share more l
-rises-with-flow g is-sound l h share flow more some_Share grows =
+rises-with-flow g is-sound l h share flow more some-share grows =
     rising_le (g.height l) (λ r. is-sound.rising l r h) (step (g.capacity l) share (flow l)) (step (g.capacity l) share (more l))
-    (step-mono (g.capacity l) share (flow l) share (more l) (is-sound.some-capacity l h) some_Share some_Share (mul-le-mul_right share grows))
+    (step-mono (g.capacity l) share (flow l) share (more l) (is-sound.some-capacity l h) some-share some-share (mul-le-mul_right share grows))
 
 module _ (file : List ℕ) (e : check_number file ≡ 0) (l : ℕ) (h : l < links file) where
   row_below : l < (network_of file).links

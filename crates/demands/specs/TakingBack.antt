@@ -96,10 +96,10 @@ number_free number [] = true
 number_free number (question ∷ rest) = not (eqb question.number number) && number_free number rest
 
 first-other : (number : ℕ) (questions : List Question) → 0 < number → number_free number questions ≡ true → first_no questions ≡ number → ⊥
-first-other number [] Some-number free e = omega arith
-first-other number (question ∷ rest) Some-number free e =
+first-other number [] some-number free e = omega arith
+first-other number (question ∷ rest) some-number free e =
     on_test question.yes
-    (λ f. first-other number rest Some-number (and_right (not (eqb question.number number)) _ free) (rw f at e))
+    (λ f. first-other number rest some-number (and_right (not (eqb question.number number)) _ free) (rw f at e))
     (λ f. eqb-false question.number number (not-true (eqb question.number number) (and_left (not (eqb question.number number)) _ free)) (rw f at e))
 
 -- No question of a pass, which are put before question 21, has that number.

@@ -28,8 +28,8 @@ unreachable-exactly file h = (refused, none-carries)
     ones = replicate g.links 1
 
     refused : check_number file ≡ 11 → (share : ℕ) (table : List ℕ) → 1 ≤ share → Carries g share table → ⊥
-    refused e share table some_Share carries =
-        let reach = served-reach g (carried-served g (sound file h) ones (unit-timed g) share some_Share table carries) in
+    refused e share table some-share carries =
+        let reach = served-reach g (carried-served g (sound file h) ones (unit-timed g) share some-share table carries) in
         let zero-eleven : ◌≡◌ {A = ℕ} 0 11 = sym (rw reach at (described-check file h)) ∙ e in
         omega arith
 

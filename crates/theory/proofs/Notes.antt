@@ -50,7 +50,7 @@ note-entry g x some-j k j p h =
     ∙ get_or-map link_mark (next_links q) j none
 
 -- Numbers after the first ones of table and note do not matter.
-module _ (g : Network) (sound : Sound g) (few : g.links ≤ no_link) (x : Shared) (some_Share : 1 ≤ x.share) (table note : List ℕ)
+module _ (g : Network) (sound : Sound g) (few : g.links ≤ no_link) (x : Shared) (some-share : 1 ≤ x.share) (table note : List ℕ)
     (timed : Timed g (times g x.share x.table)) (served : AllServed g (times g x.share x.table))
     (same-note : (i : ℕ) → i < note_size g → get_or note i 0 ≡ get_or (note_of g x) i 0) where
   abbrev t : List ℕ

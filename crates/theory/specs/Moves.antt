@@ -26,7 +26,7 @@ started g = record { table = loading g (tabulate g.links (λ l. g.height l 0)); 
 unfoldable pub moved_times : Network → ℕ → (ℕ → ℕ) → (ℕ → ℕ) → ℕ → (ℕ → ℕ) → ℕ
 moved_times g share s y j amount = sum g.links (λ l. amount l * time_at g (share + j) (λ i. s i + j * y i) l)
 
--- With d = W-as-Y − S per link, the sum of d × (time at flow S + j·Y, share W + j) is at most 0. It is written as two sums of natural
+-- With d = W·Y − S per link, the sum of d × (time at flow S + j·Y, share W + j) is at most 0. It is written as two sums of natural
 -- numbers compared: W × the sum with Y is at most the sum with S.
 unfoldable pub qualifies : Network → ℕ → (ℕ → ℕ) → (ℕ → ℕ) → ℕ → Bool
 qualifies g share s y j = leb (share * moved_times g share s y j y) (moved_times g share s y j s)

@@ -108,5 +108,5 @@ module _ (file : List ℕ) (h : Passed file) where
   -- The bound of any table at a share of at least 1.
   pub table-bound : (table : List ℕ) (share : ℕ) → 1 ≤ share → (other : ℕ) (rival : List ℕ) → Carries g other rival
       → other * cost g share table ≤ share * cost g other rival + 64 * other * gap g share table
-  table-bound table share some_Share =
-      bound g is-sound share table (routing-consistent g is-sound (times g share table) (times-timed g is-sound share table)) some_Share
+  table-bound table share some-share =
+      bound g is-sound share table (routing-consistent g is-sound (times g share table) (times-timed g is-sound share table)) some-share

@@ -94,9 +94,9 @@ pub rows_more : (at : ℕ) (row : ℕ → List ℕ) (old : List ℕ) (count plac
     place ≡ at + length (rows count row) → place + length (row count) ≤ length old → new ≡ row count →
     before ≡ written at (rows count row) old → after ≡ written place new before → after ≡ written at (rows (count + 1) row) old
 unfolding rows
-rows_more at row old count place {new} {before} place_is room New-is b a =
+rows_more at row old count place {new} {before} place_is room new-is b a =
     a
-    ∙ rw (New-is, b) (written-more at place (rows count row) (row count) old place_is room)
+    ∙ rw (new-is, b) (written-more at place (rows count row) (row count) old place_is room)
     ∙ ap (λ list. written at list old) whole
   where
     whole : rows count row ++ row count ≡ rows (count + 1) row

@@ -27,8 +27,8 @@ module _ (g : Network) (sound : Sound g) (share : ℕ) (table : List ℕ)
   -- V × the cost of a table at share W is at most W × the cost of any table that carries at a share V + 64·V × the gap.
   pub bound : 1 ≤ share → (other : ℕ) (rival : List ℕ) → Carries g other rival →
       other * cost g share table ≤ share * cost g other rival + 64 * other * gap g share table
-  bound some_Share v z carries =
-      let tangents = cost-tangent g sound share v some_Share table z in
+  bound some-share v z carries =
+      let tangents = cost-tangent g sound share v some-share table z in
       let least = mul-le-mul_left share (least-times-spent g sound v z carries (times g share table) consistent) in
       let spent = mul-le-mul_left v spent-le in
       omega arith

@@ -11,7 +11,7 @@ use Rattle.theory.specs.Laws.Finite.{order, largest-le, largest-holds, largest-m
 use Rattle.theory.specs.Laws.Inequalities.{rearrangement, rising_le, sums-le}
 use Rattle.theory.specs.Laws.Times.{step-mono}
 
-module _ (g : Network) (sound : Sound g) (share : ℕ) (some_Share : 1 ≤ share) (s y : ℕ → ℕ) where
+module _ (g : Network) (sound : Sound g) (share : ℕ) (some-share : 1 ≤ share) (s y : ℕ → ℕ) where
   -- a link's time at flow S + j·Y, share W + j
   abbrev time : ℕ → ℕ → ℕ
   time j l = time_at g (share + j) (λ i. s i + j * y i) l
@@ -20,7 +20,7 @@ module _ (g : Network) (sound : Sound g) (share : ℕ) (some_Share : 1 ≤ share
   abbrev spent : (ℕ → ℕ) → ℕ → ℕ
   spent amount j = sum g.links (λ l. amount l * time j l)
 
-  -- Link by link (W-as-Y − S) × (the time at j + 1 − the time at j) is at least 0.
+  -- Link by link (W·Y − S) × (the time at j + 1 − the time at j) is at least 0.
   towards : (j l : ℕ) → l < g.links →
       share * (y l * time j l) + 1 * (s l * time (j + 1) l) ≤ share * (y l * time (j + 1) l) + 1 * (s l * time j l)
   towards j l p =
@@ -105,5 +105,5 @@ pub chosen_is : (g : Network) → Sound g → (share : ℕ) → 1 ≤ share → 
     ((low ≡ 0) ⊎ (qualifies g share s y low ≡ true)) →
     ((low ≡ min 64 (1024 - share)) ⊎ (qualifies g share s y (low + 1) ≡ false)) → chosen g share s y ≡ low
 unfolding chosen
-chosen_is g sound share some_Share s y low =
-    largest-prefix (min 64 (1024 - share)) (qualifies g share s y) (λ j p q. qualifies-down g sound share some_Share s y j) low
+chosen_is g sound share some-share s y low =
+    largest-prefix (min 64 (1024 - share)) (qualifies g share s y) (λ j p q. qualifies-down g sound share some-share s y j) low

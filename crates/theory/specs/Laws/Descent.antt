@@ -39,7 +39,7 @@ module _ (g : Network) (share : ℕ) (table : List ℕ) (j : ℕ) (y : List ℕ)
   pub descent : Sound g → 1 ≤ share → qualifies g share (total g table) (total g y) j ≡ true →
       share * cost g (share + j) (added g table j y) ≤ (share + j) * cost g share table
   unfolding qualifies
-  descent sound some_Share q =
+  descent sound some-share q =
       let t = times g (share + j) (added g table j y) in
       let tangents = cost-tangent g sound (share + j) share (omega arith) (added g table j y) table in
       let spent = ap (λ n. share * n) (spent-added t) in
@@ -77,8 +77,8 @@ cost-doubled g share table =
 -- A move does not raise cost ÷ share.
 pub move-descent : (g : Network) → Sound g → (x x' : Shared) → 1 ≤ x.share → move g x ≡ some x' →
     x.share * cost g x'.share x'.table ≤ x'.share * cost g x.share x.table
-move-descent g sound x x' some_Share e = go x' (moved g x x' e)
+move-descent g sound x x' some-share e = go x' (moved g x x' e)
   where
     go : (x' : Shared) → Pass g x (some x') → x.share * cost g x'.share x'.table ≤ x'.share * cost g x.share x.table
-    go x' (adds some-j fits q) = descent g x.share x.table (chosen_of g x) (loading_of g x) sound some_Share q
+    go x' (adds some-j fits q) = descent g x.share x.table (chosen_of g x) (loading_of g x) sound some-share q
     go x' (doubles none-chosen fits) = rw (cost-doubled g x.share x.table) (omega arith)

@@ -140,9 +140,9 @@ module _ (n : ℕ) (test : ℕ → Bool) where
 
   pub found-lowest : (j : ℕ) → j ≡ lowest n test → (j ≡ n → ⊥) → Lowest n test j
   unfolding lowest
-  found-lowest j e Some-number =
+  found-lowest j e some-number =
       on-option (first n test)
-      (λ f. absurd (Some-number (e ∙ rw f)))
+      (λ f. absurd (some-number (e ∙ rw f)))
       (λ i f. let same : j ≡ i = e ∙ rw f in rw same (first_some n test i f))
 
   pub found_none : (j : ℕ) → j ≡ lowest n test → j ≡ n → (i : ℕ) → i < n → test i ≡ false

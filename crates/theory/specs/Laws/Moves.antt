@@ -57,7 +57,7 @@ moved g x x' e = subst (Pass g x) e (pass g x)
 
 -- A move raises the share, to 1,024 at most.
 pub move-share : (g : Network) (x x' : Shared) → 1 ≤ x.share → move g x ≡ some x' → (x.share < x'.share) × (x'.share ≤ 1024)
-move-share g x x' some_Share e = go x' (moved g x x' e)
+move-share g x x' some-share e = go x' (moved g x x' e)
   where
     go : (x' : Shared) → Pass g x (some x') → (x.share < x'.share) × (x'.share ≤ 1024)
     go x' (adds some-j fits q) = (omega arith, fits)

@@ -91,11 +91,11 @@ pub tangent :
     other * link_cost h capacity share flow + 64 * (share * (h (step capacity share flow) * rival))
     ≤ share * link_cost h capacity other rival + 64 * (other * (h (step capacity share flow) * flow))
 unfolding link_cost step
-tangent h rising c w v s r some-capacity some_Share =
+tangent h rising c w v s r some-capacity some-share =
     omega (
       arith,
       staircase-tangent 256 h rising (c * w) (c * v) v w (omega arith) (64 * s) (64 * r) (min 256 (64 * s / (c * w)))
-          (stands 256 (c * w) (64 * s) (one-le-mul some-capacity some_Share)),
+          (stands 256 (c * w) (64 * s) (one-le-mul some-capacity some-share)),
     )
 
 -- All links: V × the cost of a table at share W + 64·W × what any other table spends at the times of the first is at most W × the other
@@ -105,7 +105,7 @@ pub cost-tangent :
     other * cost g share table + 64 * (share * spent_times g (times g share table) rival)
     ≤ share * cost g other rival + 64 * (other * spent_times g (times g share table) table)
 unfolding cost spent_times
-cost-tangent g sound w v some_Share x z =
+cost-tangent g sound w v some-share x z =
     let spent : List ℕ → ℕ → ℕ = λ table l. get_or (times g w x) l 0 * total g table l in
     let area : ℕ → List ℕ → ℕ → ℕ = λ share table l. link_cost (g.height l) (g.capacity l) share (total g table l) in
     let linkwise =
@@ -114,7 +114,7 @@ cost-tangent g sound w v some_Share x z =
     (omega (
       arith,
       tangent (g.height l) (λ r. sound.rising l r p) (g.capacity l) w v (total g x l) (total g z l) (sound.some-capacity l p)
-          some_Share,
+          some-share,
     )))
     in
     omega (arith, linkwise)

@@ -22,10 +22,10 @@ times-at g share table l p = get_d_tabulate g.links _ 0 l p
 pub step-mono : (capacity share flow share' flow' : ℕ) → 1 ≤ capacity → 1 ≤ share → 1 ≤ share' → flow * share' ≤ flow' * share →
     step capacity share flow ≤ step capacity share' flow'
 unfolding step
-step-mono c w s w' s' some-capacity some_Share some-share' more =
+step-mono c w s w' s' some-capacity some-share some-share' more =
     le-min (min-le_left 256 (64 * s / (c * w)))
     (le_trans (min-le_right 256 (64 * s / (c * w)))
-    ((le-div_iff_mul-le (one-le-mul some-capacity some-share')).1 (le_of_mul-le-mul_right {k = w} scaled some_Share)))
+    ((le-div_iff_mul-le (one-le-mul some-capacity some-share')).1 (le_of_mul-le-mul_right {k = w} scaled some-share)))
   where
     scaled : 64 * s / (c * w) * (c * w') * w ≤ 64 * s' * w
     scaled =

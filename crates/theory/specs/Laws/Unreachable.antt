@@ -35,7 +35,7 @@ pathless-over-link q w l b u = on-option (distance q (q.head l)) without within
     within : (x : ℕ) → distance q (q.head l) ≡ some x → pathless q (q.tail l) ≤ pathless q (q.head l)
     within x e = let (y, f, m) = distance-over-link q w l x b u e in rw f (omega arith)
 
-module _ (g : Network) (sound : Sound g) (t : List ℕ) (timed : Timed g t) (share : ℕ) (some_Share : 1 ≤ share) (table : List ℕ)
+module _ (g : Network) (sound : Sound g) (t : List ℕ) (timed : Timed g t) (share : ℕ) (some-share : 1 ≤ share) (table : List ℕ)
     (carries : Carries g share table) where
   -- With potential 1 at the nodes without a path and 0 elsewhere, their trips come to 0.
   no-pathless-trips : (k : ℕ) → k < g.commodities → share * sum g.nodes (λ j. g.trips k j * pathless (routing g t k) j) ≡ 0
@@ -80,7 +80,7 @@ module _ (g : Network) (sound : Sound g) (t : List ℕ) (timed : Timed g t) (sha
           let here : g.trips k j * pathless (routing g t k) j ≡ g.trips k j = rw e (omega arith) in
           let term = sum-term g.nodes (λ j. g.trips k j * pathless (routing g t k) j) j b in
           let some-trips : 1 ≤ sum g.nodes (λ j. g.trips k j * pathless (routing g t k) j) = omega arith in
-          omega (arith, one-le-mul some_Share some-trips, no-pathless-trips k h)
+          omega (arith, one-le-mul some-share some-trips, no-pathless-trips k h)
 
   -- So no table carries them where some node with trips has none.
   pub unreachable :
