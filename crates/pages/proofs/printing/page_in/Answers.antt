@@ -1,40 +1,16 @@
 -- `pages::page_in` meets its contract: it prints a table that its questions accept.
 use native.Mathlib.Omega.{arith}
-use mathlib.Core.Path.{◌≡◌, refl, sym, ◌∙◌}
+use mathlib.Core.Path.{◌≡◌, sym, ◌∙◌}
 use Rattle.calls.specs.Calls.{page_number}
 use Rattle.calls.specs.Laws.Calls.{page-kept}
 use Rattle.calls.specs.Laws.Questions.{Passed}
-use Rattle.network.specs.Laws.Decoding.{decoded-counts, trips-few, links-counted, commodities-counted, trips-counted}
+use Rattle.network.specs.Laws.Decoding.{decoded-counts, links-counted}
 use Rattle.travel.specs.Laws.Powers.{link-powers}
 use Rattle.refusals.specs.Laws.Parts.{parts-decoded}
 use Rattle.refusals.specs.Laws.Places.{curve-room, parts-room, table-passed}
 use Rattle.pages.specs.Laws.{page-audited, page-numbered, page-room, page-printable, page-leaves}
 use Rattle.pages.proofs.printing.page_in.Goals as goal
 use Rattle.pages.proofs.printing.page_in.Goals.{After-page_refusal-refusal}
-
-pub slice_bounds-links-end : goal.slice_bounds-links-end
-slice_bounds-links-end c = c.decode-opening.ensures.links-within
-
-pub slice_bounds-links-end-2 : goal.slice_bounds-links-end-2
-slice_bounds-links-end-2 c = links-counted c.decode-opening.ensures
-
-pub slice_bounds-places-end : goal.slice_bounds-places-end
-slice_bounds-places-end c = c.decode-opening.ensures.commodities-within
-
-pub slice_bounds-commodities-end : goal.slice_bounds-commodities-end
-slice_bounds-commodities-end c = commodities-counted c.decode-opening.ensures
-
-pub overflow_mul-trips : goal.overflow_mul-trips
-overflow_mul-trips c = omega (arith, trips-few c.decode-opening.ensures)
-
-pub slice_bounds-trips-end : goal.slice_bounds-trips-end
-slice_bounds-trips-end c = c.decode-opening.ensures.trips-within
-
-pub slice_bounds-trips-end-2 : goal.slice_bounds-trips-end-2
-slice_bounds-trips-end-2 c = trips-counted c.decode-opening.ensures
-
-pub totals_refusal-audited-requires : goal.totals_refusal-audited-requires
-totals_refusal-audited-requires c = (parts-decoded c.decode-opening.ensures, refl)
 
 pub overflow_mul-links : goal.overflow_mul-links
 overflow_mul-links c =

@@ -1,6 +1,6 @@
 -- `add_at` meets its contract. The invariant: both sums are those of the links passed. The measure is what is left of the links.
 -- Assumes nothing.
-use Rattle.std.proofs.Common.{◌≡◌, ℕ, ◌*◌, ◌<◌, ◌≤◌, length, get_or, arith, w32, Fits, rules}
+use Rattle.std.proofs.Common.{ℕ, ◌*◌, ◌<◌, ◌≤◌, get_or, arith, w32, Fits, rules}
 use Rattle.theory.specs.Study.{column}
 use Rattle.theory.specs.Flows.{sum_at}
 use Rattle.travel.specs.Laws.Sums.{sums-more, sums-most}
@@ -25,45 +25,15 @@ sum-most c end node =
     let x = c.args in
     omega (arith, c.requires.ends_fit.0.few-links, sums-most x.links.now end x.row.now c.loop-l.l 4294967295 node (flow-most c))
 
-pub loop-l-init : goal.loop-l-init
-loop-l-init c = (search rules, c.requires.sums_at.0, c.requires.sums_at.1)
-
-pub overflow_cast-flow : goal.overflow_cast-flow
-overflow_cast-flow c = omega (arith, flow-most (goal.at.overflow_cast-flow c).In-loop-l c.loop-l.l)
-
-pub overflow_cast-tail : goal.overflow_cast-tail
-overflow_cast-tail c = omega (arith, tail-fits (goal.at.overflow_cast-tail c).In-loop-l)
-
-pub offset_bounds-out-tail : goal.offset_bounds-out-tail
-offset_bounds-out-tail c = omega (arith, tail-fits (goal.at.offset_bounds-out-tail c).In-loop-l)
-
-pub bounds-out-tail : goal.bounds-out-tail
-bounds-out-tail c = tail-fits (goal.at.bounds-out-tail c).In-loop-l
-
 pub overflow_add-out : goal.overflow_add-out
 overflow_add-out c =
     let node = column 0 c.args.links.now c.loop-l.l in
     omega (arith, c.loop-l.invariant.1.at node (tail-fits (goal.at.overflow_add-out c).In-loop-l), sum-most (goal.at.overflow_add-out c).In-loop-l 0 node, flow-most (goal.at.overflow_add-out c).In-loop-l c.loop-l.l)
 
-pub bounds-out-tail-in-loop-l : goal.bounds-out-tail-in-loop-l
-bounds-out-tail-in-loop-l c = tail-fits (goal.at.bounds-out-tail-in-loop-l c).In-loop-l
-
-pub overflow_cast-head : goal.overflow_cast-head
-overflow_cast-head c = omega (arith, head-fits (goal.at.overflow_cast-head c).In-loop-l)
-
-pub offset_bounds-into-head : goal.offset_bounds-into-head
-offset_bounds-into-head c = omega (arith, head-fits (goal.at.offset_bounds-into-head c).In-loop-l)
-
-pub bounds-into-head : goal.bounds-into-head
-bounds-into-head c = head-fits (goal.at.bounds-into-head c).In-loop-l
-
 pub overflow_add-into : goal.overflow_add-into
 overflow_add-into c =
     let node = column 1 c.args.links.now c.loop-l.l in
     omega (arith, c.loop-l.invariant.2.at node (head-fits (goal.at.overflow_add-into c).In-loop-l), sum-most (goal.at.overflow_add-into c).In-loop-l 1 node, flow-most (goal.at.overflow_add-into c).In-loop-l c.loop-l.l)
-
-pub bounds-into-head-in-loop-l : goal.bounds-into-head-in-loop-l
-bounds-into-head-in-loop-l c = head-fits (goal.at.bounds-into-head-in-loop-l c).In-loop-l
 
 pub loop-l-preserved : goal.loop-l-preserved
 loop-l-preserved c =
@@ -72,8 +42,3 @@ loop-l-preserved c =
       sums-more x.links.now 0 x.row.now c.loop-l.l c.loop-l.out (tail-fits (goal.at.loop-l-preserved c).In-loop-l) c.loop-l.invariant.1,
       sums-more x.links.now 1 x.row.now c.loop-l.l c.loop-l.into (head-fits (goal.at.loop-l-preserved c).In-loop-l) c.loop-l.invariant.2,
     )
-
-pub returns : goal.returns
-returns c =
-    let end : c.loop-l.l ≡ length c.args.links.now = omega arith in
-    record { sums_at_2 = rw end at c.loop-l.invariant.1; sums_at_3 = rw end at c.loop-l.invariant.2 }

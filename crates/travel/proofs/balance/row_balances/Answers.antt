@@ -41,12 +41,6 @@ still-clear c outs ins =
     let fit = c.requires.row_fits.0 in
     (sums-past _ _ _ _ _ _ fit.tail-node outs, sums-past _ _ _ _ _ _ fit.head-node ins)
 
-pub clear-requires : goal.clear-requires
-clear-requires c = (c.requires.row_fits.0.few-nodes, c.requires.clear_past.0)
-
-pub clear-requires-2 : goal.clear-requires-2
-clear-requires-2 c = (c.requires.row_fits.0.few-nodes, c.requires.clear_past.1)
-
 pub add_at-requires : goal.add_at-requires
 add_at-requires c =
     let fit = c.requires.row_fits.0 in record {
@@ -63,12 +57,6 @@ add_at-requires c =
 
 pub loop-j-init : goal.loop-j-init
 loop-j-init c = (search rules, balances-none _ _ _ _ _)
-
-pub overflow_cast-sent-then-j-destination : goal.overflow_cast-sent-then-j-destination
-overflow_cast-sent-then-j-destination c = omega (arith, trips-most (goal.at.overflow_cast-sent-then-j-destination c).Then-j-destination)
-
-pub overflow_mul-sent : goal.overflow_mul-sent
-overflow_mul-sent c = omega (arith, sent-most (goal.at.overflow_mul-sent c).Then-j-destination, trips-most (goal.at.overflow_mul-sent c).Then-j-destination)
 
 pub overflow_add-into : goal.overflow_add-into
 overflow_add-into c = omega (arith, sent-most (goal.at.overflow_add-into c).Then-j-destination, trips-most (goal.at.overflow_add-into c).Then-j-destination, into-most (goal.at.overflow_add-into c).At-loop-j c.add_at.ensures.sums_at_3 (node (goal.at.overflow_add-into c).In-loop-j))

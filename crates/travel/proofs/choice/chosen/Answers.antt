@@ -2,29 +2,13 @@
 -- between them. Assumes nothing.
 use Rattle.std.proofs.Common.{◌≡◌, sym, arith, rules}
 use Rattle.travel.specs.Laws.Choice.{roads-chosen, qualifies-yes, qualifies-no}
-use Rattle.travel.specs.Laws.Bisection.{between-all, between-up, between-down}
+use Rattle.travel.specs.Laws.Bisection.{between-up, between-down}
 use Rattle.travel.proofs.choice.chosen.Goals as goal
-
-pub loop-low-init : goal.loop-low-init
-loop-low-init c = rw c.last-high.ensures (between-all _ _)
-
-pub next_try-j-requires : goal.next_try-j-requires
-next_try-j-requires c = (search rules, omega (arith, c.loop-low.invariant.within))
-
-pub sums_at-sums-requires : goal.sums_at-sums-requires
-sums_at-sums-requires c =
-    (c.requires.0, omega (arith, c.loop-low.invariant.within), c.requires.1)
-
-pub loop-low-smaller-then-sums : goal.loop-low-smaller-then-sums
-loop-low-smaller-then-sums c = omega arith
 
 pub loop-low-preserved-then-sums : goal.loop-low-preserved-then-sums
 loop-low-preserved-then-sums c =
     let is = c.sums_at-sums.ensures in
     between-up _ _ c.loop-low.invariant _ (omega arith) (qualifies-yes _ _ _ _ _ is.loaded_value is.spent_value c.if-sums.true)
-
-pub loop-low-smaller : goal.loop-low-smaller
-loop-low-smaller c = omega arith
 
 pub loop-low-preserved : goal.loop-low-preserved
 loop-low-preserved c =

@@ -5,7 +5,6 @@ use Rattle.theory.specs.Study.{capacity}
 use Rattle.travel.specs.Links.{row_time, total_of, load_of, share_parts, reciprocal}
 use Rattle.travel.specs.Ranges.{MoveFits, Curves, most_flow, most_time}
 use Rattle.travel.specs.Laws.Choice.{moved_at, moved-flow, moved_none, moved_more, moved_all, moved-most}
-use Rattle.travel.specs.Laws.Powers.{list_at}
 use Rattle.travel.specs.Laws.Reciprocals.{Divisible, share-product, capacity-product, step_by_lem}
 use Rattle.travel.proofs.choice.sums_at.Goals as goal
 use Rattle.travel.proofs.choice.sums_at.Goals.{After-time_at-link}
@@ -79,39 +78,13 @@ loop-l-init c =
     let none : (amount : ℕ → ℕ) → 0 ≡ moved x.links.now x.flows.now x.share x.j amount 0 = λ amount. sym (moved_none x.links.now x.share (total_of x.flows.now) (load_of x.flows.now) x.j amount) in
     (search rules, none (load_of x.flows.now), none (total_of x.flows.now))
 
-pub bounds-curves-l : goal.bounds-curves-l
-bounds-curves-l c = omega (arith, c.requires.0.links-fit.few, c.requires.2.powers.powers.size)
-
-pub overflow_mul-j : goal.overflow_mul-j
-overflow_mul-j c = omega (arith, (divisible c.requires.0 c.args.j c.requires.1 c.requires.2 c.share_reciprocal-by_share.ensures c.loop-l.l (omega arith)).flow-most, (divisible c.requires.0 c.args.j c.requires.1 c.requires.2 c.share_reciprocal-by_share.ensures c.loop-l.l (omega arith)).share-most)
-
-pub overflow_add-s : goal.overflow_add-s
-overflow_add-s c = omega (arith, (divisible c.requires.0 c.args.j c.requires.1 c.requires.2 c.share_reciprocal-by_share.ensures c.loop-l.l (omega arith)).flow-most, (divisible c.requires.0 c.args.j c.requires.1 c.requires.2 c.share_reciprocal-by_share.ensures c.loop-l.l (omega arith)).share-most)
-
 pub step_by-step-requires : goal.step_by-step-requires
 step_by-step-requires c =
     let d = divisible c.requires.0 c.args.j c.requires.1 c.requires.2 c.share_reciprocal-by_share.ensures c.loop-l.l (omega arith) in
     record { flow_le_most_flow = (omega (arith, d.flow-most, d.share-most), share-product _ _ _ d); by_capacity_bound = capacity-product _ _ _ d }
 
-pub list_start-list-requires : goal.list_start-list-requires
-list_start-list-requires c =
-    let l = c.loop-l.l in
-    let pre = c.requires in
-    ((pre.0.links-fit.link l (omega arith)).power-fits, pre.2.powers.has-list l (omega arith))
-
-pub time_at-link-requires : goal.time_at-link-requires
-time_at-link-requires c =
-    let pre = c.requires in
-    (list_at pre.0.links-fit pre.2.powers (omega arith) c.list_start-list.ensures, c.step_by-step.ensures.1)
-
-pub overflow_mul-loaded : goal.overflow_mul-loaded
-overflow_mul-loaded c = omega (arith, loaded-within (goal.at.overflow_mul-loaded c).After-time_at-link)
-
 pub overflow_add-loaded : goal.overflow_add-loaded
 overflow_add-loaded c = omega (arith, loaded-within (goal.at.overflow_add-loaded c).After-time_at-link)
-
-pub overflow_mul-spent : goal.overflow_mul-spent
-overflow_mul-spent c = omega (arith, spent-within (goal.at.overflow_mul-spent c).After-time_at-link)
 
 pub overflow_add-spent : goal.overflow_add-spent
 overflow_add-spent c = omega (arith, spent-within (goal.at.overflow_add-spent c).After-time_at-link)

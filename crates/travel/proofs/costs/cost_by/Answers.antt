@@ -4,7 +4,6 @@ use Rattle.std.proofs.Common.{◌≡◌, ℕ, ◌+◌, ◌≤◌, Bool, true, fa
 use mir.Val.{bool_byte}
 use Rattle.theory.specs.Laws.Finite.{count_most}
 use Rattle.travel.specs.Laws.Costs.{cost_to, over_at, over_to, cost-none, cost-more, cost-all, cost-most, over_none, over-more, over-all}
-use Rattle.travel.specs.Laws.Powers.{list_at}
 use Rattle.travel.proofs.costs.cost_by.Goals as goal
 use Rattle.travel.proofs.costs.cost_by.Goals.{After-link_cost-link}
 
@@ -44,16 +43,6 @@ pub loop-l-init : goal.loop-l-init
 loop-l-init c =
     let x = c.args in
     (search rules, sym (cost-none x.links.now x.share x.flows.now), sym (over_none x.links.now x.share x.flows.now))
-
-pub list_start-list-requires : goal.list_start-list-requires
-list_start-list-requires c =
-    let l = c.loop-l.l in
-    ((c.requires.links_fit.0.link l (omega arith)).power-fits, c.requires.link_powers.1 l (omega arith))
-
-pub link_cost-link-requires : goal.link_cost-link-requires
-link_cost-link-requires c =
-    let l = c.loop-l.l in
-    (list_at c.requires.links_fit.0 c.requires.link_powers.0 (omega arith) c.list_start-list.ensures, search rules, c.requires.links_fit.2 l (omega arith))
 
 pub overflow_add-cost : goal.overflow_add-cost
 overflow_add-cost c =

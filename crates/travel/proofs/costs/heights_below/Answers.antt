@@ -5,7 +5,7 @@ use Rattle.theory.specs.Finite.{sum}
 use Rattle.theory.specs.Laws.Finite.{sum-suc}
 use Rattle.travel.specs.Links.{row_power, row_time}
 use Rattle.travel.specs.Laws.Costs.{heights-most}
-use Rattle.travel.specs.Laws.Powers.{risen_at, list-within, power_below, rise-most, rise-at, heights-risen}
+use Rattle.travel.specs.Laws.Powers.{risen_at, power_below, rise-most, rise-at, heights-risen}
 use Rattle.travel.proofs.costs.heights_below.Goals as goal
 use Rattle.travel.proofs.costs.heights_below.Goals.{After-loop-r, In-loop-r}
 use Rattle.travel.proofs.costs.heights_below.Invariants.{risen-of}
@@ -14,6 +14,7 @@ use Rattle.travel.proofs.costs.heights_below.Invariants.{risen-of}
 whole : (link : List ℕ) (r : ℕ) → get_or link 2 0 * r + risen-of link r ≡ sum r (row_time link)
 whole link r = heights-risen (get_or link 2 0) (get_or link 3 0) (row_power link) r
 
+-- The power of a tread below the step has 32 bits.
 low : (c : In-loop-r) → get_or c.args.curves.now (c.args.list + c.loop-r.r) 0 < 4294967296
 low c = power_below _ _ _ c.requires.0 c.loop-r.r (omega arith)
 
@@ -37,14 +38,8 @@ pub loop-r-init : goal.loop-r-init
 unfolding sum
 loop-r-init c = (search rules, refl)
 
-pub bounds-curves-list : goal.bounds-curves-list
-bounds-curves-list c = omega (arith, list-within _ _ _ c.requires.0)
-
 pub overflow_cast-risen : goal.overflow_cast-risen
 overflow_cast-risen c = omega (arith, low (goal.at.overflow_cast-risen c).In-loop-r)
-
-pub overflow_cast-risen-in-loop-r : goal.overflow_cast-risen-in-loop-r
-overflow_cast-risen-in-loop-r c = omega (arith, low (goal.at.overflow_cast-risen-in-loop-r c).In-loop-r)
 
 pub overflow_mul-risen : goal.overflow_mul-risen
 overflow_mul-risen c =
@@ -57,9 +52,6 @@ overflow_add-risen-in-loop-r c =
 
 pub loop-r-preserved : goal.loop-r-preserved
 loop-r-preserved c = (search rules, turn (goal.at.loop-r-preserved c).In-loop-r)
-
-pub overflow_mul-result : goal.overflow_mul-result
-overflow_mul-result c = omega (arith, same (goal.at.overflow_mul-result c).After-loop-r, heights-most c.args.link c.args.step c.requires.0.fit (search rules))
 
 pub overflow_add-result : goal.overflow_add-result
 overflow_add-result c = omega (arith, same (goal.at.overflow_add-result c).After-loop-r, heights-most c.args.link c.args.step c.requires.0.fit (search rules))

@@ -1,11 +1,10 @@
 -- `link_cost` meets its contract: what it adds up is the staircase (`treads-cost`). Assumes nothing.
-use Rattle.std.proofs.Common.{◌≡◌, ◌+◌, ◌-◌, ◌*◌, ◌≤◌, get_or, ap, ◌∙◌, arith, w16, Fits, rules}
+use Rattle.std.proofs.Common.{◌≡◌, ◌+◌, ◌-◌, ◌*◌, ◌≤◌, get_or, ap, ◌∙◌, rules}
 use Rattle.theory.specs.Flows.{is_over}
 use Rattle.theory.specs.Cost.{link_cost}
 use Rattle.travel.specs.Links.{row_time}
 use Rattle.travel.specs.Ranges.{most_time}
-use Rattle.travel.specs.Laws.Times.{width-most}
-use Rattle.travel.specs.Laws.Costs.{treads-within, whole-most, rest-most, treads-cost, cost-of-most}
+use Rattle.travel.specs.Laws.Costs.{treads-within, treads-cost, cost-of-most}
 use Rattle.travel.proofs.costs.link_cost.Goals as goal
 use Rattle.travel.proofs.costs.link_cost.Goals.{After-time_at-here}
 
@@ -27,34 +26,8 @@ most : (c : After-time_at-here) →
     link_cost (row_time x.link) (get_or x.link 4 0) x.share x.flow ≤ 64 * x.flow * most_time
 most c = cost-of-most c.args.link c.args.share c.args.flow c.requires.0.fit (search rules)
 
-pub overflow_mul-width : goal.overflow_mul-width
-overflow_mul-width c =
-    omega (arith, width-most (get_or c.args.link 4 0) c.args.share (let fits : Fits w16 (get_or c.args.link 4 0) = search rules in omega arith) (search rules))
-
-pub overflow_mul-whole : goal.overflow_mul-whole
-overflow_mul-whole c =
-    let x = c.args in
-    omega (
-      arith,
-      whole-most (get_or c.args.link 4 0) x.share x.flow _ c.step_of-step.ensures.0 c.heights_below.result (search rules),
-    )
-
-pub overflow_mul-area-2 : goal.overflow_mul-area-2
-overflow_mul-area-2 c = omega (arith, within (goal.at.overflow_mul-area-2 c).After-time_at-here)
-
 pub overflow_sub-area : goal.overflow_sub-area
 overflow_sub-area c = within (goal.at.overflow_sub-area c).After-time_at-here
-
-pub overflow_mul-area-3 : goal.overflow_mul-area-3
-overflow_mul-area-3 c =
-    let x = c.args in
-    omega (
-      arith,
-      rest-most (get_or c.args.link 4 0) x.share x.flow _ c.step_of-step.ensures.0 c.time_at-here.result.time (search rules),
-    )
-
-pub overflow_add-area : goal.overflow_add-area
-overflow_add-area c = omega (arith, same (goal.at.overflow_add-area c).After-time_at-here, most (goal.at.overflow_add-area c).After-time_at-here)
 
 pub returns : goal.returns
 returns c =

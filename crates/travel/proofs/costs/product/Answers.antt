@@ -1,6 +1,6 @@
 -- `product` meets its contract. The invariant: the products of the links passed are added. The measure is what is left of the links.
 -- Assumes nothing.
-use Rattle.std.proofs.Common.{◌≡◌, ◌*◌, ◌≤◌, get_or, sym, mul-le-mul, arith, rules}
+use Rattle.std.proofs.Common.{◌*◌, ◌≤◌, get_or, sym, mul-le-mul, arith, rules}
 use Rattle.travel.specs.Ranges.{most_time, most_flow}
 use Rattle.travel.specs.Laws.Costs.{product-none, product-more, product-most}
 use Rattle.travel.proofs.costs.product.Goals as goal
@@ -14,12 +14,6 @@ turn-most c =
 
 pub loop-l-init : goal.loop-l-init
 loop-l-init c = (search rules, sym (product-none c.args.times.now c.args.flows.now))
-
-pub overflow_cast-spent : goal.overflow_cast-spent
-overflow_cast-spent c = omega (arith, c.requires.1 c.loop-l.l (omega arith))
-
-pub overflow_mul-spent : goal.overflow_mul-spent
-overflow_mul-spent c = omega (arith, turn-most (goal.at.overflow_mul-spent c).In-loop-l)
 
 pub overflow_add-spent : goal.overflow_add-spent
 overflow_add-spent c =
@@ -35,8 +29,3 @@ loop-l-preserved c = (
   search rules,
   omega (arith, product-more c.args.times.now c.args.flows.now c.loop-l.l),
 )
-
-pub returns : goal.returns
-returns c =
-    let end : c.loop-l.l ≡ c.args.m = omega arith in
-    rw end at c.loop-l.invariant.1

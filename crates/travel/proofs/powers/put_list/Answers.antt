@@ -48,21 +48,9 @@ room : (c : After-scaled_power-in-loop-k) →
     512 + 257 * i + 2 * k < length (set c.loop-k.curves (512 + 257 * i + (2 * k - 1)) c.scaled_power-in-loop-k.result)
 room c = rw (length-set c.loop-k.curves) (omega (arith, same_size c.before.before))
 
-pub loop-k-init : goal.loop-k-init
-loop-k-init c = (search rules, search rules, λ before put. put)
-
-pub bounds-curves-list-in-loop-k : goal.bounds-curves-list-in-loop-k
-bounds-curves-list-in-loop-k c = omega (arith, same_size (goal.at.bounds-curves-list-in-loop-k c).At-loop-k)
-
-pub bounds-curves-list-in-loop-k-2 : goal.bounds-curves-list-in-loop-k-2
-bounds-curves-list-in-loop-k-2 c = omega (arith, room (goal.at.bounds-curves-list-in-loop-k-2 c).After-scaled_power-in-loop-k)
-
 pub overflow_mul-curves : goal.overflow_mul-curves
 overflow_mul-curves c =
     rw (even (goal.at.overflow_mul-curves c).After-scaled_power-in-loop-k) (omega (arith, scaled-most c.args.i (2 * c.loop-k.k) (omega arith) (omega arith)))
-
-pub bounds-curves-list-in-loop-k-3 : goal.bounds-curves-list-in-loop-k-3
-bounds-curves-list-in-loop-k-3 c = room (goal.at.bounds-curves-list-in-loop-k-3 c).After-scaled_power-in-loop-k
 
 pub loop-k-preserved : goal.loop-k-preserved
 loop-k-preserved c =
@@ -73,9 +61,6 @@ loop-k-preserved c =
       λ before put.
           rw next at (put-more _ before (2 * k) _ _ (even (goal.at.loop-k-preserved c).After-scaled_power-in-loop-k) (room (goal.at.loop-k-preserved c).After-scaled_power-in-loop-k) (odd-put (goal.at.loop-k-preserved c).After-scaled_power-in-loop-k before (c.loop-k.invariant.2 before put))),
     )
-
-pub shape_of-curves : goal.shape_of-curves
-shape_of-curves c = same_size (goal.at.shape_of-curves c).At-loop-k
 
 pub returns : goal.returns
 returns c =

@@ -2,7 +2,7 @@
 -- Assumes nothing.
 use Rattle.std.proofs.Common.{◌≡◌, ◌+◌, ◌*◌, ◌≤◌, sym, ◌∙◌, ap₂, le_trans, arith, rules}
 use native.Mathlib.Nat.{pow-le-pow_right}
-use Rattle.travel.specs.Laws.Powers.{factors, factors-none, factors-first, factors-later, factors-all, factors-most}
+use Rattle.travel.specs.Laws.Powers.{factors, factors-first, factors-later, factors-most}
 use Rattle.travel.proofs.powers.scaled_power.Goals as goal
 use Rattle.travel.proofs.powers.scaled_power.Goals.{Joined-k-i, then-k-i, else-k-i}
 
@@ -23,17 +23,8 @@ most c =
     rw (turn c)
     (le_trans (factors-most x.i x.r (c.loop-k.k + 1) (search rules)) (pow-le-pow_right {n = 256} (omega arith) {j = 4} (omega arith)))
 
-pub loop-k-init : goal.loop-k-init
-loop-k-init c = (search rules, sym (factors-none c.args.i c.args.r))
-
 pub overflow_mul-product : goal.overflow_mul-product
 overflow_mul-product c = omega (arith, most (goal.at.overflow_mul-product c).Joined-k-i)
 
 pub loop-k-preserved : goal.loop-k-preserved
 loop-k-preserved c = (search rules, turn (goal.at.loop-k-preserved c).Joined-k-i)
-
-pub returns : goal.returns
-returns c =
-    let x = c.args in
-    let end : c.loop-k.k ≡ 4 = omega arith in
-    rw end at c.loop-k.invariant.1 ∙ factors-all x.i x.r (omega arith)

@@ -2,17 +2,11 @@
 use Rattle.std.proofs.Common.{◌≡◌, ◌+◌, ◌*◌, ◌/◌, get_or, arith, rules}
 use Rattle.travel.specs.Links.{row_time}
 use Rattle.travel.specs.Laws.Times.{row_time-most}
-use Rattle.travel.specs.Laws.Powers.{list-within, rise-most, time-at}
+use Rattle.travel.specs.Laws.Powers.{rise-most, time-at}
 use Rattle.travel.proofs.steps.time_at.Goals as goal
-
-pub bounds-curves-list : goal.bounds-curves-list
-bounds-curves-list c = omega (arith, list-within _ _ _ c.requires.0)
 
 pub overflow_mul-time : goal.overflow_mul-time
 overflow_mul-time c = omega (arith, rise-most _ _ _ c.requires.0 c.args.step (search rules))
-
-pub overflow_add-time : goal.overflow_add-time
-overflow_add-time c = omega (arith, rise-most _ _ _ c.requires.0 c.args.step (search rules))
 
 pub returns : goal.returns
 returns c =

@@ -2,23 +2,9 @@
 -- is what is left of the links. Assumes nothing.
 use Rattle.std.proofs.Common.{◌≡◌, length, ap, arith, rules}
 use Rattle.travel.specs.Links.{padded, list_time}
-use Rattle.travel.specs.Laws.Padded.{get_d-padded, filled_none, filled_more, filled-all}
-use Rattle.travel.specs.Laws.Powers.{list_at}
+use Rattle.travel.specs.Laws.Padded.{get_d-padded, filled_more, filled-all}
 use Rattle.travel.specs.Laws.Times.{list_time-least, list_time-most}
 use Rattle.travel.proofs.steps.times.Goals as goal
-
-pub loop-l-init : goal.loop-l-init
-loop-l-init c = (search rules, filled_none (length c.args.links.now) _ c.args.times.now c.requires.link_powers.1)
-
-pub list_start-list-requires : goal.list_start-list-requires
-list_start-list-requires c =
-    let l = c.loop-l.l in
-    ((c.requires.links_fit.0.link l (omega arith)).power-fits, c.requires.link_powers.0.has-list l (omega arith))
-
-pub link_time-link-requires : goal.link_time-link-requires
-link_time-link-requires c =
-    let l = c.loop-l.l in
-    (list_at c.requires.links_fit.0 c.requires.link_powers.0 (omega arith) c.list_start-list.ensures, search rules, c.requires.links_fit.2 l (omega arith))
 
 pub loop-l-preserved : goal.loop-l-preserved
 unfolding list_time

