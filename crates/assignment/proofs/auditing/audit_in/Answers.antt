@@ -9,23 +9,14 @@ use Rattle.assignment.specs.Laws.Answers.{audit-refusal, audit-answers}
 use Rattle.assignment.proofs.auditing.audit_in.Goals as goal
 use Rattle.assignment.proofs.auditing.audit_in.Goals.{Else-refusal-ne0}
 
-pub slice_bounds-links-end : goal.slice_bounds-links-end
-slice_bounds-links-end c = c.decode-opening.ensures.links-within
-
 pub slice_bounds-links-end-2 : goal.slice_bounds-links-end-2
 slice_bounds-links-end-2 c = links-counted c.decode-opening.ensures
-
-pub slice_bounds-places-end : goal.slice_bounds-places-end
-slice_bounds-places-end c = c.decode-opening.ensures.commodities-within
 
 pub slice_bounds-commodities-end : goal.slice_bounds-commodities-end
 slice_bounds-commodities-end c = commodities-counted c.decode-opening.ensures
 
 pub overflow_mul-trips : goal.overflow_mul-trips
 overflow_mul-trips c = omega (arith, trips-few c.decode-opening.ensures)
-
-pub slice_bounds-trips-end : goal.slice_bounds-trips-end
-slice_bounds-trips-end c = c.decode-opening.ensures.trips-within
 
 pub slice_bounds-trips-end-2 : goal.slice_bounds-trips-end-2
 slice_bounds-trips-end-2 c = trips-counted c.decode-opening.ensures
@@ -41,7 +32,13 @@ accepted c = sym c.totals_refusal-refusal.ensures.value ∙ c.if-refusal-ne0.fal
 
 pub audit_table-sums-requires : goal.audit_table-sums-requires
 audit_table-sums-requires c =
-    let parts = parts-decoded c.decode-opening.ensures in record { judgeable = table-ready _ _ parts _ (accepted (goal.at.audit_table-sums-requires c).Else-refusal-ne0); totals_value = c.totals_refusal-refusal.ensures.totals_after c.if-refusal-ne0.false; curve_room = parts-room parts (table-passed _ _ _ (accepted (goal.at.audit_table-sums-requires c).Else-refusal-ne0)) c.requires.1 }
+    let parts = parts-decoded c.decode-opening.ensures in
+    let good = accepted (goal.at.audit_table-sums-requires c).Else-refusal-ne0 in
+    record {
+      judgeable = table-ready _ _ parts _ good;
+      totals_value = c.totals_refusal-refusal.ensures.totals_after c.if-refusal-ne0.false;
+      curve_room = parts-room parts (table-passed _ _ _ good) c.requires.1;
+    }
 
 pub returns : goal.returns
 returns c =

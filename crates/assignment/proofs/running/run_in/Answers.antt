@@ -8,23 +8,14 @@ use Rattle.assignment.specs.Laws.Answers.{run-refusal, run-opened}
 use Rattle.assignment.proofs.running.run_in.Goals as goal
 use Rattle.assignment.proofs.running.run_in.Goals.{Else-refusal-ne0}
 
-pub slice_bounds-links-end : goal.slice_bounds-links-end
-slice_bounds-links-end c = c.decode-opening.ensures.links-within
-
 pub slice_bounds-links-end-2 : goal.slice_bounds-links-end-2
 slice_bounds-links-end-2 c = links-counted c.decode-opening.ensures
-
-pub slice_bounds-places-end : goal.slice_bounds-places-end
-slice_bounds-places-end c = c.decode-opening.ensures.commodities-within
 
 pub slice_bounds-commodities-end : goal.slice_bounds-commodities-end
 slice_bounds-commodities-end c = commodities-counted c.decode-opening.ensures
 
 pub overflow_mul-trips : goal.overflow_mul-trips
 overflow_mul-trips c = omega (arith, trips-few c.decode-opening.ensures)
-
-pub slice_bounds-trips-end : goal.slice_bounds-trips-end
-slice_bounds-trips-end c = c.decode-opening.ensures.trips-within
 
 pub slice_bounds-trips-end-2 : goal.slice_bounds-trips-end-2
 slice_bounds-trips-end-2 c = trips-counted c.decode-opening.ensures
@@ -34,11 +25,19 @@ run_refusal-refusal-requires c = parts-decoded c.decode-opening.ensures
 
 pub returns-then-refusal-ne0 : goal.returns-then-refusal-ne0
 returns-then-refusal-ne0 c =
-    let number = c.run_refusal-refusal.ensures in record { value = c.refused_run.ensures ∙ run-refusal _ _ _ _ _ number c.if-refusal-ne0.true; table_after = sym (run-kept _ _ _ _ (λ e. c.if-refusal-ne0.true (number ∙ e))) }
+    let number = c.run_refusal-refusal.ensures in
+    record {
+      value = c.refused_run.ensures ∙ run-refusal _ _ _ _ _ number c.if-refusal-ne0.true;
+      table_after = sym (run-kept _ _ _ _ (λ e. c.if-refusal-ne0.true (number ∙ e)));
+    }
 
 accepted : (c : Else-refusal-ne0) → run_number c.args.file.now c.args.table.now c.args.budget ≡ 0
 accepted c = sym c.run_refusal-refusal.ensures ∙ c.if-refusal-ne0.false
 
 pub turns-requires : goal.turns-requires
 turns-requires c =
-    record { parts_of = (parts-opened (parts-decoded c.decode-opening.ensures) (run-opened _ _ _ (accepted (goal.at.turns-requires c).Else-refusal-ne0)), accepted (goal.at.turns-requires c).Else-refusal-ne0); curves_len = c.requires.1 }
+    let good = accepted (goal.at.turns-requires c).Else-refusal-ne0 in
+    record {
+      parts_of = (parts-opened (parts-decoded c.decode-opening.ensures) (run-opened _ _ _ good), good);
+      curves_len = c.requires.1;
+    }

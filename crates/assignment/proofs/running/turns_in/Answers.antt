@@ -88,9 +88,6 @@ judgeable c =
     let limit = limit_is parts c.args.table.now c.args.budget c.args.excess accepted c.total_trips.ensures in
     turn-judgeable parts _ _ c.args.excess accepted _ _ _ _ limit c.loop-flows.invariant.under-way
 
-pub overflow_add-judged : goal.overflow_add-judged
-overflow_add-judged c = omega (arith, c.loop-flows.invariant.under-way.within, c.ranges.budget)
-
 pub turn_table-turn-requires : goal.turn_table-turn-requires
 turn_table-turn-requires c =
     let was = c.loop-flows.invariant in
@@ -143,9 +140,6 @@ returns-in_default c =
     c.ended.ensures
     in
     record { value = value; table_after = table_after }
-
-pub loop-flows-smaller : goal.loop-flows-smaller
-loop-flows-smaller c = omega (arith, c.loop-flows.invariant.under-way.within)
 
 pub loop-flows-preserved : goal.loop-flows-preserved
 loop-flows-preserved c =

@@ -12,12 +12,21 @@ study c = let x = c.args in study_of x.nodes x.links.now x.commodities.now x.tri
 
 pub load_start_in-requires : goal.load_start_in-requires
 load_start_in-requires c =
-    let (ready, curves) = c.requires.ready in let holds = c.requires.links_in_bounds in
-    record { ready = (ready, curves); links_in_bounds = holds; chain_room = (room-both (study (goal.at.load_start_in-requires c).Start), (few-commodities ready, few-commodities ready)) }
+    let (ready, curves) = c.requires.ready in
+    record {
+      ready = (ready, curves);
+      links_in_bounds = c.requires.links_in_bounds;
+      chain_room = (room-both _, (few-commodities ready, few-commodities ready));
+    }
 
 pub load_start_in-requires-2 : goal.load_start_in-requires-2
 load_start_in-requires-2 c =
-    let (ready, curves) = c.requires.ready in let holds = c.requires.links_in_bounds in
-    let no-lorries : commodity_count (study (goal.at.load_start_in-requires-2 c).Start) ≤ cars_in (study (goal.at.load_start_in-requires-2 c).Start) = omega (arith, c.if-car_count-commodities.false, c.car_count.ensures.0) in
-    let few : commodity_count (study (goal.at.load_start_in-requires-2 c).Start) ≤ 32 = omega (arith, no-lorries, ready.few-cars) in
-    record { ready = (ready, curves); links_in_bounds = holds; chain_room = (room-cars (study (goal.at.load_start_in-requires-2 c).Start) no-lorries, (few, few)) }
+    let (ready, curves) = c.requires.ready in
+    let d = study (goal.at.load_start_in-requires-2 c).Start in
+    let no-lorries : commodity_count d ≤ cars_in d = omega (arith, c.if-car_count-commodities.false, c.car_count.ensures.0) in
+    let few : commodity_count d ≤ 32 = omega (arith, no-lorries, ready.few-cars) in
+    record {
+      ready = (ready, curves);
+      links_in_bounds = c.requires.links_in_bounds;
+      chain_room = (room-cars d no-lorries, (few, few));
+    }

@@ -9,9 +9,6 @@ start_in-requires c =
     let small = sym c.is_small.ensures ∙ c.if-is_small.true in
     (room-short _ (small-length _ small) refl refl, small-curves _ small)
 
-pub returns-then-is_small : goal.returns-then-is_small
-returns-then-is_small c = c.start_in.ensures
-
 pub slice_bounds-curves-end : goal.slice_bounds-curves-end
 slice_bounds-curves-end c = rw c.curve_places.ensures (curves-most _)
 
@@ -23,13 +20,7 @@ start_in-requires-then-has_lorries c =
     let are = c.curve_places.ensures in
     (room_most _ refl refl, sym (curves-counted _ _ refl are) ∙ are)
 
-pub returns-then-has_lorries : goal.returns-then-has_lorries
-returns-then-has_lorries c = c.start_in-then-has_lorries.ensures
-
 pub start_in-requires-2 : goal.start_in-requires-2
 start_in-requires-2 c =
     let are = c.curve_places.ensures in
     (room-cars _ (sym c.has_lorries.ensures ∙ c.if-has_lorries.false) refl refl, sym (curves-counted _ _ refl are) ∙ are)
-
-pub returns : goal.returns
-returns c = c.start_in-2.ensures

@@ -10,29 +10,14 @@ use Rattle.assignment.specs.Laws.Answers.{start-leaves}
 use Rattle.assignment.proofs.starting.start_in.Goals as goal
 use Rattle.assignment.proofs.starting.start_in.Goals.{Else-refusal-ne0}
 
-pub slice_bounds-links-end : goal.slice_bounds-links-end
-slice_bounds-links-end c = c.decode-opening.ensures.links-within
-
-pub slice_bounds-links-end-2 : goal.slice_bounds-links-end-2
-slice_bounds-links-end-2 c = links-counted c.decode-opening.ensures
-
-pub slice_bounds-places-end : goal.slice_bounds-places-end
-slice_bounds-places-end c = c.decode-opening.ensures.commodities-within
-
 pub slice_bounds-commodities-end : goal.slice_bounds-commodities-end
 slice_bounds-commodities-end c = commodities-counted c.decode-opening.ensures
 
 pub overflow_mul-trips : goal.overflow_mul-trips
 overflow_mul-trips c = omega (arith, trips-few c.decode-opening.ensures)
 
-pub slice_bounds-trips-end : goal.slice_bounds-trips-end
-slice_bounds-trips-end c = c.decode-opening.ensures.trips-within
-
 pub slice_bounds-trips-end-2 : goal.slice_bounds-trips-end-2
 slice_bounds-trips-end-2 c = trips-counted c.decode-opening.ensures
-
-pub start_refusal-refusal-requires : goal.start_refusal-refusal-requires
-start_refusal-refusal-requires c = parts-decoded c.decode-opening.ensures
 
 pub returns-then-refusal-ne0 : goal.returns-then-refusal-ne0
 returns-then-refusal-ne0 c =
@@ -44,8 +29,14 @@ accepted c = sym c.start_refusal-refusal.ensures ∙ c.if-refusal-ne0.false
 
 pub load_start-requires : goal.load_start-requires
 load_start-requires c =
-    let parts = parts-decoded c.decode-opening.ensures in record { ready = (start-ready _ _ parts (accepted (goal.at.load_start-requires c).Else-refusal-ne0), parts-room parts (start-passed _ _ (accepted (goal.at.load_start-requires c).Else-refusal-ne0)) c.requires.1); links_in_bounds = start-holds _ _ parts (accepted (goal.at.load_start-requires c).Else-refusal-ne0) }
+    let parts = parts-decoded c.decode-opening.ensures in
+    let good = accepted (goal.at.load_start-requires c).Else-refusal-ne0 in
+    record {
+      ready = (start-ready _ _ parts good, parts-room parts (start-passed _ _ good) c.requires.1);
+      links_in_bounds = start-holds _ _ parts good;
+    }
 
 pub returns : goal.returns
 returns c =
-    record { value = sym (accepted (goal.at.returns c).Else-refusal-ne0); table_after = start-leaves _ _ (parts-decoded c.decode-opening.ensures) _ (accepted (goal.at.returns c).Else-refusal-ne0) c.load_start.ensures }
+    let good = accepted (goal.at.returns c).Else-refusal-ne0 in
+    record { value = sym good; table_after = start-leaves _ _ (parts-decoded c.decode-opening.ensures) _ good c.load_start.ensures }

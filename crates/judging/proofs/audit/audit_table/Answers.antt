@@ -17,9 +17,6 @@ times-requires c = let given = c.requires.judgeable in
       link_powers = (link-powers c.requires.curve_room c.put_powers.ensures, zeros-clear (length c.args.links.now));
     }
 
-pub least_times-least-requires : goal.least_times-least-requires
-least_times-least-requires c = (c.requires.judgeable.ready, c.times.ensures.times_fit)
-
 pub product-requires : goal.product-requires
 product-requires c = let given = c.requires.judgeable in
     (given.ready.few-links, c.times.ensures.times_fit.times-fit, totals-within given c.requires.totals_value)

@@ -30,21 +30,9 @@ rows_long c =
 pub overflow_mul-middle : goal.overflow_mul-middle
 overflow_mul-middle c = omega (arith, middle-small c.requires.ready.0 c.car_count-cars.ensures.0)
 
-pub slice_bounds-complete_table-end : goal.slice_bounds-complete_table-end
-slice_bounds-complete_table-end c =
-    sym (length-take-le c.car_count-cars.result c.args.commodities.now c.car_count-cars.ensures.1)
-
-pub slice_bounds-complete_table-end-2 : goal.slice_bounds-complete_table-end-2
-slice_bounds-complete_table-end-2 c =
-    sym (length-take-le (c.car_count-cars.result * c.args.nodes) c.args.trips.now (middle-within c.requires.ready.0 c.car_count-cars.ensures.0))
-
 pub slice_bounds-complete_table-end-3 : goal.slice_bounds-complete_table-end-3
 slice_bounds-complete_table-end-3 c =
     sym (length-take-le 2 c.args.chains.now (two-rows c.requires.class_chains.0))
-
-pub slice_bounds-complete_table-end-5 : goal.slice_bounds-complete_table-end-5
-slice_bounds-complete_table-end-5 c =
-    sym (length-take-le c.car_count-cars.result c.args.next.now (rows-within (goal.at.slice_bounds-complete_table-end-5 c).After-car_count-cars))
 
 pub complete_table-requires : goal.complete_table-requires
 complete_table-requires c =
@@ -55,9 +43,6 @@ complete_table-requires c =
 pub offset_bounds-trips-middle : goal.offset_bounds-trips-middle
 offset_bounds-trips-middle c =
     omega (arith, middle-small c.requires.ready.0 c.car_count-cars.ensures.0)
-
-pub slice_bounds-complete_table-count-then-cars-commodities : goal.slice_bounds-complete_table-count-then-cars-commodities
-slice_bounds-complete_table-count-then-cars-commodities c = middle-within c.requires.ready.0 c.car_count-cars.ensures.0
 
 pub slice_bounds-complete_table-start-then-cars-commodities : goal.slice_bounds-complete_table-start-then-cars-commodities
 slice_bounds-complete_table-start-then-cars-commodities c = middle-within c.requires.ready.0 c.car_count-cars.ensures.0

@@ -22,14 +22,6 @@ overflow_mul-middle c = omega (arith, middle-small c.requires.0 c.car_count-cars
 pub into_chain-into-requires : goal.into_chain-into-requires
 into_chain-into-requires c = chainable c.requires.0
 
-pub slice_bounds-least_times-end : goal.slice_bounds-least_times-end
-slice_bounds-least_times-end c =
-    sym (length-take-le c.car_count-cars.result c.args.commodities.now c.car_count-cars.ensures.1)
-
-pub slice_bounds-least_times-end-2 : goal.slice_bounds-least_times-end-2
-slice_bounds-least_times-end-2 c =
-    sym (length-take-le (c.car_count-cars.result * c.args.nodes) c.args.trips.now (middle-within c.requires.0 c.car_count-cars.ensures.0))
-
 pub least_times-least-requires : goal.least_times-least-requires
 least_times-least-requires c =
     let (ready, fit) = c.requires in
@@ -46,9 +38,6 @@ into_chain-into-requires-2 c = chainable c.requires.0
 pub offset_bounds-trips-middle : goal.offset_bounds-trips-middle
 offset_bounds-trips-middle c =
     omega (arith, middle-small c.requires.0 c.car_count-cars.ensures.0)
-
-pub slice_bounds-least_times-count-2 : goal.slice_bounds-least_times-count-2
-slice_bounds-least_times-count-2 c = middle-within c.requires.0 c.car_count-cars.ensures.0
 
 pub slice_bounds-least_times-start-2 : goal.slice_bounds-least_times-start-2
 slice_bounds-least_times-start-2 c = middle-within c.requires.0 c.car_count-cars.ensures.0

@@ -11,12 +11,6 @@ use Rattle.judging.specs.Laws.Chains.{length_front, first-empty, rest-empty, cha
 use Rattle.judging.proofs.classes.put_class_chains.Goals as goal
 use Rattle.judging.proofs.classes.put_class_chains.Goals.{After-put_chains, Then-car_count-commodities}
 
-pub slice_bounds-put_chains-end : goal.slice_bounds-put_chains-end
-slice_bounds-put_chains-end c = c.requires.1.for-cars
-
-pub slice_bounds-put_chains-end-2 : goal.slice_bounds-put_chains-end-2
-slice_bounds-put_chains-end-2 c = sym (length-take-le 2 c.args.chains.now c.requires.1.for-cars)
-
 pub put_chains-requires : goal.put_chains-requires
 put_chains-requires c = (chainable c.requires.0, first-empty c.requires.1)
 
@@ -30,15 +24,6 @@ rows_long c = length_front c.args.chains.now 2 c.requires.1.for-cars c.put_chain
 some-lorries :
     (c : Then-car_count-commodities) → let x = c.args in HasLorries (study_of x.nodes x.links.now x.commodities.now x.trips.now)
 some-lorries c = omega (arith, c.if-car_count-commodities.true, c.car_count.ensures.0)
-
-pub slice_bounds-put_chains-count : goal.slice_bounds-put_chains-count
-slice_bounds-put_chains-count c = omega (arith, rows_long (goal.at.slice_bounds-put_chains-count c).After-put_chains, c.requires.1.for-cars)
-
-pub slice_bounds-put_chains-start : goal.slice_bounds-put_chains-start
-slice_bounds-put_chains-start c = omega (arith, rows_long (goal.at.slice_bounds-put_chains-start c).After-put_chains, c.requires.1.for-cars)
-
-pub slice_bounds-put_chains-end-then-car_count-commodities : goal.slice_bounds-put_chains-end-then-car_count-commodities
-slice_bounds-put_chains-end-then-car_count-commodities c = omega arith
 
 pub put_chains-requires-then-car_count-commodities : goal.put_chains-requires-then-car_count-commodities
 put_chains-requires-then-car_count-commodities c =

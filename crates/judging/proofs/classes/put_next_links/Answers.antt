@@ -18,14 +18,6 @@ some-lorries c = omega (arith, c.if-cars-commodities.true, c.car_count-cars.ensu
 pub overflow_mul-middle : goal.overflow_mul-middle
 overflow_mul-middle c = omega (arith, middle-small c.requires.ready.0 c.car_count-cars.ensures.0)
 
-pub slice_bounds-next_table-end : goal.slice_bounds-next_table-end
-slice_bounds-next_table-end c =
-    sym (length-take-le c.car_count-cars.result c.args.commodities.now c.car_count-cars.ensures.1)
-
-pub slice_bounds-next_table-end-2 : goal.slice_bounds-next_table-end-2
-slice_bounds-next_table-end-2 c =
-    sym (length-take-le (c.car_count-cars.result * c.args.nodes) c.args.trips.now (middle-within c.requires.ready.0 c.car_count-cars.ensures.0))
-
 pub slice_bounds-next_table-end-3 : goal.slice_bounds-next_table-end-3
 slice_bounds-next_table-end-3 c =
     sym (length-take-le 2 c.args.chains.now (two-rows c.requires.class_chains.0))
@@ -44,9 +36,6 @@ next_table-requires c =
 pub offset_bounds-trips-middle : goal.offset_bounds-trips-middle
 offset_bounds-trips-middle c =
     omega (arith, middle-small c.requires.ready.0 c.car_count-cars.ensures.0)
-
-pub slice_bounds-next_table-count-then-cars-commodities : goal.slice_bounds-next_table-count-then-cars-commodities
-slice_bounds-next_table-count-then-cars-commodities c = middle-within c.requires.ready.0 c.car_count-cars.ensures.0
 
 pub slice_bounds-next_table-start-then-cars-commodities : goal.slice_bounds-next_table-start-then-cars-commodities
 slice_bounds-next_table-start-then-cars-commodities c = middle-within c.requires.ready.0 c.car_count-cars.ensures.0

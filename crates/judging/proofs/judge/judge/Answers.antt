@@ -8,9 +8,6 @@ use Rattle.judging.specs.Laws.Judged.{loads-set}
 use Rattle.judging.specs.Laws.Routes.{times-own, followable-all}
 use Rattle.judging.proofs.judge.judge.Goals as goal
 
-pub returns-then-known : goal.returns-then-known
-returns-then-known c = record { known = c.requires.known c.if-known.true; totals-kept = refl }
-
 pub times-requires : goal.times-requires
 times-requires c = let (ready, shared, prepared) = c.requires.ready in let known = c.requires.known in let (lent, fit) = c.requires.lent in
     record { links_fit = (links-fit ready, shared, fit); link_powers = (prepared.powers-are, lent.times-clear) }

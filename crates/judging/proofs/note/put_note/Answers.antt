@@ -6,14 +6,6 @@ use Rattle.judging.specs.Laws.Classes.{few-commodities}
 use Rattle.judging.specs.Laws.Noted.{writable, note-adds, note-doubles, note-rests}
 use Rattle.judging.proofs.note.put_note.Goals as goal
 
-pub complete_next_links-requires : goal.complete_next_links-requires
-complete_next_links-requires c =
-    let (noted, linked) = c.requires in
-    record { ready = (noted.ready, noted.times-fit); class_chains = (linked, noted.nexts-are) }
-
-pub overflow_cast-j : goal.overflow_cast-j
-overflow_cast-j c = omega (arith, c.requires.0.small-step)
-
 pub put_links-requires : goal.put_links-requires
 put_links-requires c =
     let noted = c.requires.0 in
@@ -28,9 +20,6 @@ pub overflow_mul-commodities : goal.overflow_mul-commodities
 overflow_mul-commodities c =
     let ready = c.requires.0.ready in
     omega (arith, mul-le-mul (few-commodities ready) ready.few-nodes)
-
-pub put_no_links-requires : goal.put_no_links-requires
-put_no_links-requires c = c.requires.0.holds
 
 pub returns-then-doubled-le1024 : goal.returns-then-doubled-le1024
 returns-then-doubled-le1024 c =

@@ -21,9 +21,6 @@ study c = let x = c.args in study_of x.nodes x.links.now x.commodities.now x.tri
 totals-were : (c : Start) → TotalsOf (study c) c.args.table.now c.args.flows.now
 totals-were c = ap (λ rows. get_or rows 0 []) c.requires.flows_value
 
-pub put_class_chains-requires : goal.put_class_chains-requires
-put_class_chains-requires c = (c.requires.judgeable.ready, c.requires.chain_room.0)
-
 pub put_reciprocals-requires : goal.put_reciprocals-requires
 put_reciprocals-requires c =
     (links-fit c.requires.judgeable.ready, link-powers c.requires.curve_room.0 c.put_powers.ensures)
@@ -48,14 +45,8 @@ gap_of-gap-requires c = gap-fits c.requires.judgeable c.judge.ensures (totals-we
 pub chosen-j-requires : goal.chosen-j-requires
 chosen-j-requires c = (move-fits c.requires.judgeable c.judge.ensures (totals-were (goal.at.chosen-j-requires c).Start), c.put_reciprocals.ensures.0)
 
-pub can_move-moved-requires : goal.can_move-moved-requires
-can_move-moved-requires c = c.requires.judgeable.share-most
-
 pub move_table-after-requires : goal.move_table-after-requires
 move_table-after-requires c = movable c.requires.judgeable c.judge.ensures (totals-were (goal.at.move_table-after-requires c).Start) c.chosen-j.ensures
-
-pub overflow_mul-share : goal.overflow_mul-share
-overflow_mul-share c = omega (arith, c.requires.judgeable.share-most)
 
 pub put_note-requires : goal.put_note-requires
 put_note-requires c = (

@@ -17,9 +17,6 @@ pub overflow_mul-commodities : goal.overflow_mul-commodities
 overflow_mul-commodities c = let ready = c.requires.ready.0 in
     omega (arith, mul-le-mul {n₂ = 64} {m₂ = 512} (few-commodities ready) ready.few-links)
 
-pub empty_flows-requires : goal.empty_flows-requires
-empty_flows-requires c = c.requires.links_in_bounds
-
 pub add_classes-requires : goal.add_classes-requires
 add_classes-requires c = let judged = c.judge.ensures in
     let (ready, prepared) = c.requires.ready in let holds = c.requires.links_in_bounds in let (lent, none) = c.requires.lent in

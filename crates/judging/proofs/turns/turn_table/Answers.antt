@@ -46,9 +46,6 @@ judge-requires c =
 pub gap_of-gap-requires : goal.gap_of-gap-requires
 gap_of-gap-requires c = gap-fits c.requires.judgeable.0 c.judge.ensures c.requires.stands.totals-are
 
-pub overflow_cast-share : goal.overflow_cast-share
-overflow_cast-share c = omega (arith, c.requires.judgeable.0.share-most)
-
 pub overflow_mul-standing : goal.overflow_mul-standing
 overflow_mul-standing c =
     omega (arith, mul-le-mul {n₂ = 65535 * 65535} {m₂ = 1024} c.requires.stands.limit-fits c.requires.judgeable.0.share-most)
@@ -64,9 +61,6 @@ returns-then-gap-standing c = let gap-was = gap_of (goal.at.returns-then-gap-sta
 
 pub chosen-j-requires : goal.chosen-j-requires
 chosen-j-requires c = (move-fits c.requires.judgeable.0 c.judge.ensures c.requires.stands.totals-are, c.requires.judgeable.2)
-
-pub can_move-requires : goal.can_move-requires
-can_move-requires c = c.requires.judgeable.0.share-most
 
 pub returns-then-not-can_move : goal.returns-then-not-can_move
 returns-then-not-can_move c = let at = goal.at.returns-then-not-can_move c in

@@ -12,23 +12,14 @@ use Rattle.passes.specs.Laws.{pass-refusal, table-accepted, pass-ready, note-roo
 use Rattle.passes.proofs.passing.pass_in.Goals as goal
 use Rattle.passes.proofs.passing.pass_in.Goals.{Else-refusal-ne0}
 
-pub slice_bounds-links-end : goal.slice_bounds-links-end
-slice_bounds-links-end c = c.decode-opening.ensures.links-within
-
 pub slice_bounds-links-end-2 : goal.slice_bounds-links-end-2
 slice_bounds-links-end-2 c = links-counted c.decode-opening.ensures
-
-pub slice_bounds-places-end : goal.slice_bounds-places-end
-slice_bounds-places-end c = c.decode-opening.ensures.commodities-within
 
 pub slice_bounds-commodities-end : goal.slice_bounds-commodities-end
 slice_bounds-commodities-end c = commodities-counted c.decode-opening.ensures
 
 pub overflow_mul-trips : goal.overflow_mul-trips
 overflow_mul-trips c = omega (arith, trips-few c.decode-opening.ensures)
-
-pub slice_bounds-trips-end : goal.slice_bounds-trips-end
-slice_bounds-trips-end c = c.decode-opening.ensures.trips-within
 
 pub slice_bounds-trips-end-2 : goal.slice_bounds-trips-end-2
 slice_bounds-trips-end-2 c = trips-counted c.decode-opening.ensures
@@ -38,16 +29,33 @@ note_refusal-refusal-requires c = (parts-decoded c.decode-opening.ensures, refl)
 
 pub returns-then-refusal-ne0 : goal.returns-then-refusal-ne0
 returns-then-refusal-ne0 c =
-    let number = c.note_refusal-refusal.ensures.value in record { value = c.refused_pass.ensures ∙ pass-refusal _ _ _ _ _ number c.if-refusal-ne0.true; table_after = sym (pass_kept _ _ _ _ (λ e. c.if-refusal-ne0.true (number ∙ e))); note_after = sym (note-kept _ _ _ _ (λ e. c.if-refusal-ne0.true (number ∙ e))) }
+    let number = c.note_refusal-refusal.ensures.value in
+    record {
+      value = c.refused_pass.ensures ∙ pass-refusal _ _ _ _ _ number c.if-refusal-ne0.true;
+      table_after = sym (pass_kept _ _ _ _ (λ e. c.if-refusal-ne0.true (number ∙ e)));
+      note_after = sym (note-kept _ _ _ _ (λ e. c.if-refusal-ne0.true (number ∙ e)));
+    }
 
 accepted : (c : Else-refusal-ne0) → let x = c.args in pass_number x.file.now x.table.now x.share x.note.now ≡ 0
 accepted c = sym c.note_refusal-refusal.ensures.value ∙ c.if-refusal-ne0.false
 
 pub pass_table-passed-requires : goal.pass_table-passed-requires
 pass_table-passed-requires c =
-    let parts = parts-decoded c.decode-opening.ensures in record { judgeable = pass-ready _ _ _ _ parts (accepted (goal.at.pass_table-passed-requires c).Else-refusal-ne0); flows_value = ap (λ totals. totals ∷ replicate 512 0 ∷ []) (c.note_refusal-refusal.ensures.totals_after c.if-refusal-ne0.false); curve_room = (parts-room parts (table-passed _ _ _ (table-accepted _ _ _ _ parts (accepted (goal.at.pass_table-passed-requires c).Else-refusal-ne0))) c.requires.1, note-room _ _ _ _ parts (accepted (goal.at.pass_table-passed-requires c).Else-refusal-ne0)) }
+    let parts = parts-decoded c.decode-opening.ensures in
+    let good = accepted (goal.at.pass_table-passed-requires c).Else-refusal-ne0 in
+    record {
+      judgeable = pass-ready _ _ _ _ parts good;
+      flows_value = ap (λ totals. totals ∷ replicate 512 0 ∷ []) (c.note_refusal-refusal.ensures.totals_after c.if-refusal-ne0.false);
+      curve_room = (parts-room parts (table-passed _ _ _ (table-accepted _ _ _ _ parts good)) c.requires.1, note-room _ _ _ _ parts good);
+    }
 
 pub returns : goal.returns
 returns c =
-    let passed = c.pass_table-passed in
-    let parts = parts-decoded c.decode-opening.ensures in record { value = rw c.outcome_of-outcome.ensures (pass-answers _ _ _ _ parts (accepted (goal.at.returns c).Else-refusal-ne0) _ _ _ passed.ensures); table_after = pass-leaves _ _ _ _ parts (accepted (goal.at.returns c).Else-refusal-ne0) _ _ _ passed.ensures; note_after = pass-notes _ _ _ _ parts (accepted (goal.at.returns c).Else-refusal-ne0) _ _ _ passed.ensures }
+    let passed = c.pass_table-passed.ensures in
+    let parts = parts-decoded c.decode-opening.ensures in
+    let good = accepted (goal.at.returns c).Else-refusal-ne0 in
+    record {
+      value = rw c.outcome_of-outcome.ensures (pass-answers _ _ _ _ parts good _ _ _ passed);
+      table_after = pass-leaves _ _ _ _ parts good _ _ _ passed;
+      note_after = pass-notes _ _ _ _ parts good _ _ _ passed;
+    }
