@@ -1,9 +1,8 @@
 -- `put_class_chains` meets its contract: the rows for cars are filled, and behind them those for lorries.
 use native.Mathlib.Omega.{arith}
-use mathlib.Core.Path.{◌≡◌, sym}
+use mathlib.Core.Path.{◌≡◌}
 use mathlib.Core.List.{◌++◌}
 use lib.ListN.{length, drop}
-use lib.Seq.{length-take-le}
 use Rattle.judging.specs.Study.{study_of}
 use Rattle.judging.specs.Classes.{HasLorries}
 use Rattle.judging.specs.Laws.Study.{chainable}
