@@ -1,7 +1,6 @@
 -- `assignment::load_start_in` meets its contract: the table is filled by what is computed of empty roads.
 use Rattle.std.proofs.Common.{refl}
 use Rattle.travel.specs.Laws.Powers.{link-powers}
-use Rattle.judging.specs.Study.{Study, study_of}
 use Rattle.judging.specs.Laws.Judged.{zeros-lent}
 use Rattle.assignment.proofs.starting.load_start_in.Goals as goal
 use Rattle.assignment.proofs.starting.load_start_in.Goals.{Start}

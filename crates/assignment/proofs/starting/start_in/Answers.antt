@@ -2,7 +2,7 @@
 use Rattle.std.proofs.Common.{◌≡◌, sym, ◌∙◌, arith}
 use Rattle.calls.specs.Calls.{start_number}
 use Rattle.calls.specs.Laws.Calls.{start-kept}
-use Rattle.network.specs.Laws.Decoding.{trips-few, links-counted, commodities-counted, trips-counted}
+use Rattle.network.specs.Laws.Decoding.{trips-few, commodities-counted, trips-counted}
 use Rattle.refusals.specs.Laws.Places.{parts-room, start-passed}
 use Rattle.refusals.specs.Laws.Parts.{parts-decoded}
 use Rattle.refusals.specs.Laws.Ready.{start-ready, start-holds}

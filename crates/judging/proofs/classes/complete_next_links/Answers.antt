@@ -1,5 +1,4 @@
 -- `complete_next_links` meets its contract: the cars' rows are completed, and then the lorries'.
-use Prim.Native.Nat.{◌*◌, ◌≤◌}
 use native.Mathlib.Omega.{arith}
 use mathlib.Core.Path.{◌≡◌, sym, ◌∙◌}
 use mathlib.Core.List.{◌++◌}
@@ -17,11 +16,7 @@ some-lorries :
     (c : Then-cars-commodities) → let x = c.args in HasLorries (study_of x.nodes x.links.now x.commodities.now x.trips.now)
 some-lorries c = omega (arith, c.if-cars-commodities.true, c.car_count-cars.ensures.0)
 
--- There is a row for each commodity of cars,
-rows-within : (c : After-car_count-cars) → c.car_count-cars.result ≤ length c.args.next.now
-rows-within c = omega (arith, c.car_count-cars.ensures.1, c.requires.class_chains.1.size)
-
--- and as many are completed.
+-- As many rows are completed as there are commodities of cars.
 rows_long : (c : After-complete_table) → length c.complete_table.new.table ≡ c.car_count-cars.result
 rows_long c =
     c.complete_table.ensures.table_len_unchanged

@@ -1,8 +1,7 @@
 -- `least_times` meets its contract: the sum is that of the cars and that of the lorries.
-use Prim.Native.Nat.{◌+◌, ◌*◌}
+use Prim.Native.Nat.{◌+◌}
 use native.Mathlib.Omega.{arith}
-use mathlib.Core.Path.{◌≡◌, sym}
-use lib.Seq.{length-take-le}
+use mathlib.Core.Path.{◌≡◌}
 use Rattle.search.specs.Groups.{least_over}
 use Rattle.judging.specs.Study.{study_of}
 use Rattle.judging.specs.Classes.{HasLorries}

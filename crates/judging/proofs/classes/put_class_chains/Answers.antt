@@ -1,24 +1,14 @@
 -- `put_class_chains` meets its contract: the rows for cars are filled, and behind them those for lorries.
 use native.Mathlib.Omega.{arith}
-use mathlib.Core.Path.{◌≡◌, sym}
-use mathlib.Core.List.{◌++◌}
-use lib.ListN.{length, drop}
-use lib.Seq.{length-take-le}
 use Rattle.judging.specs.Study.{study_of}
 use Rattle.judging.specs.Classes.{HasLorries}
 use Rattle.judging.specs.Laws.Study.{chainable}
-use Rattle.judging.specs.Laws.Chains.{length_front, first-empty, rest-empty, chains-cars, chains-both}
+use Rattle.judging.specs.Laws.Chains.{first-empty, rest-empty, chains-cars, chains-both}
 use Rattle.judging.proofs.classes.put_class_chains.Goals as goal
 use Rattle.judging.proofs.classes.put_class_chains.Goals.{After-put_chains, Then-car_count-commodities}
 
 pub put_chains-requires : goal.put_chains-requires
 put_chains-requires c = (chainable c.requires.0, first-empty c.requires.1)
-
--- The rows are as many as they were.
-rows_long :
-    (c : After-put_chains) →
-    length (c.put_chains.new.chains ++ drop 2 c.args.chains.now) ≡ length c.args.chains.now
-rows_long c = length_front c.args.chains.now 2 c.requires.1.for-cars c.put_chains.new.chains c.put_chains.ensures.1
 
 -- There are lorries.
 some-lorries :

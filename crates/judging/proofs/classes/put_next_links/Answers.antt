@@ -1,5 +1,4 @@
 -- `put_next_links` meets its contract: the cars' next links are put into the first rows, and the lorries' into those behind.
-use Prim.Native.Nat.{◌*◌}
 use native.Mathlib.Omega.{arith}
 use mathlib.Core.Path.{sym, ◌∙◌}
 use lib.Seq.{length-take-le}
@@ -68,13 +67,27 @@ next_table-requires-then-cars-commodities c =
 
 pub returns-then-cars-commodities : goal.returns-then-cars-commodities
 returns-then-cars-commodities c =
-    let (ready, fit) = c.requires.ready in let (chains, long) = c.requires.class_chains in
-    let e = c.car_count-cars.ensures.0 in
+    let long = c.requires.class_chains.1 in
+    let n = c.car_count-cars.result in
     let first = c.next_table in
+    let same = first.ensures.table_len_unchanged in
     let nexts = first.new.table in
-    let rows = c.next_table-then-cars-commodities.new.table in
-    let rows_long = c.next_table-then-cars-commodities.ensures.table_len_unchanged ∙ length-behind nexts c.car_count-cars.result in record { class_nexts = counted-both ready e (omega (arith, long, first.ensures.table_len_unchanged)) first.ensures.nexts rows rows_long c.next_table-then-cars-commodities.ensures.nexts; next_len_unchanged = length-behind-replaced nexts c.car_count-cars.result (omega (arith, long, first.ensures.table_len_unchanged, c.car_count-cars.ensures.1)) rows rows_long ∙ first.ensures.table_len_unchanged }
+    let other = c.next_table-then-cars-commodities in
+    let rows = other.new.table in
+    let rows_long = other.ensures.table_len_unchanged ∙ length-behind nexts n in
+    record {
+      class_nexts =
+          counted-both c.requires.ready.0 c.car_count-cars.ensures.0 (omega (arith, long, same)) first.ensures.nexts rows rows_long other.ensures.nexts;
+      next_len_unchanged =
+          length-behind-replaced nexts n (omega (arith, long, same, c.car_count-cars.ensures.1)) rows rows_long ∙ same;
+    }
 
 pub returns-else-cars-commodities : goal.returns-else-cars-commodities
 returns-else-cars-commodities c =
-    let (ready, fit) = c.requires.ready in let (chains, long) = c.requires.class_chains in record { class_nexts = counted-cars ready c.car_count-cars.ensures.0 (omega (arith, long, c.next_table.ensures.table_len_unchanged)) c.next_table.ensures.nexts (omega (arith, c.if-cars-commodities.false)); next_len_unchanged = c.next_table.ensures.table_len_unchanged }
+    let same = c.next_table.ensures.table_len_unchanged in
+    record {
+      class_nexts =
+          counted-cars c.requires.ready.0 c.car_count-cars.ensures.0 (omega (arith, c.requires.class_chains.1, same)) c.next_table.ensures.nexts
+          (omega (arith, c.if-cars-commodities.false));
+      next_len_unchanged = same;
+    }

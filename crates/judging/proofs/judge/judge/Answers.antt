@@ -9,20 +9,27 @@ use Rattle.judging.specs.Laws.Routes.{times-own, followable-all}
 use Rattle.judging.proofs.judge.judge.Goals as goal
 
 pub times-requires : goal.times-requires
-times-requires c = let (ready, shared, prepared) = c.requires.ready in let known = c.requires.known in let (lent, fit) = c.requires.lent in
+times-requires c = let (ready, shared, prepared) = c.requires.ready in
+    let (lent, fit) = c.requires.lent in
     record { links_fit = (links-fit ready, shared, fit); link_powers = (prepared.powers-are, lent.times-clear) }
 
 pub put_next_links-requires : goal.put_next_links-requires
-put_next_links-requires c = let (ready, shared, prepared) = c.requires.ready in let known = c.requires.known in let (lent, fit) = c.requires.lent in
-    record { ready = (ready, c.times.ensures.times_fit); class_chains = (prepared.chains-are, lent.nexts-long) }
+put_next_links-requires c = let (ready, shared, prepared) = c.requires.ready in
+    record { ready = (ready, c.times.ensures.times_fit); class_chains = (prepared.chains-are, c.requires.lent.0.nexts-long) }
 
 pub load-requires : goal.load-requires
-load-requires c = let (ready, shared, prepared) = c.requires.ready in let known = c.requires.known in let (lent, fit) = c.requires.lent in
-    record { all_followable = (followable-all ready (times-own c.times.ensures.times_fit) c.put_next_links.ensures.class_nexts, lent.volumes-long); clear = lent.loads-clear }
+load-requires c = let lent = c.requires.lent.0 in
+    record {
+      all_followable = (
+        followable-all c.requires.ready.0 (times-own c.times.ensures.times_fit) c.put_next_links.ensures.class_nexts,
+        lent.volumes-long,
+      );
+      clear = lent.loads-clear;
+    }
 
 pub returns : goal.returns
 returns c =
-    let given = c.requires.ready in let known = c.requires.known in let (lent, fit) = c.requires.lent in
+    let lent = c.requires.lent.0 in
     let links = c.args.links.now in
     let rows = loads-set c.args.flows.now _ lent.flows_long refl in
     record {

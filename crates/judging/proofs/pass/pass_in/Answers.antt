@@ -1,5 +1,4 @@
 -- `pass_in` meets its contract: the table is judged by what is computed of it, and moved by the chosen j.
-use native.Mathlib.Omega.{arith}
 use mathlib.Core.Path.{refl, ◌∙◌, ap}
 use mathlib.Core.List.{[]}
 use lib.ListN.{length, get_or}
@@ -26,18 +25,21 @@ put_reciprocals-requires c =
     (links-fit c.requires.judgeable.ready, link-powers c.requires.curve_room.0 c.put_powers.ensures)
 
 pub judge-requires : goal.judge-requires
-judge-requires c = let given = c.requires.judgeable in let lent = c.requires.flows_value in let curves = c.requires.curve_room in let room = c.requires.chain_room in record {
-  ready = (
-    given.ready,
-    share-fits given,
-    record { chains-are = c.put_class_chains.ensures; powers-are = c.put_reciprocals.ensures.0.powers },
-  );
-  known = λ e. true-false e refl;
-  lent = (
-    zeros-lent (study (goal.at.judge-requires c).Start) room.1.0 room.1.1 (ap length lent) (ap (λ rows. get_or rows 1 []) lent),
-    totals-within given (totals-were (goal.at.judge-requires c).Start),
-  );
-}
+judge-requires c = let given = c.requires.judgeable in
+    let flows = c.requires.flows_value in
+    let room = c.requires.chain_room.1 in
+    record {
+      ready = (
+        given.ready,
+        share-fits given,
+        record { chains-are = c.put_class_chains.ensures; powers-are = c.put_reciprocals.ensures.0.powers },
+      );
+      known = λ e. true-false e refl;
+      lent = (
+        zeros-lent _ room.0 room.1 (ap length flows) (ap (λ rows. get_or rows 1 []) flows),
+        totals-within given (totals-were (goal.at.judge-requires c).Start),
+      );
+    }
 
 pub gap_of-gap-requires : goal.gap_of-gap-requires
 gap_of-gap-requires c = gap-fits c.requires.judgeable c.judge.ensures (totals-were (goal.at.gap_of-gap-requires c).Start)

@@ -13,12 +13,22 @@ study c = let x = c.args in study_of x.nodes x.links.now x.commodities.now x.tri
 
 pub pass_in-requires : goal.pass_in-requires
 pass_in-requires c =
-    let judgeable = c.requires.judgeable in let flows = c.requires.flows_value in let rest = c.requires.curve_room in
-    record { judgeable = judgeable; flows_value = flows; curve_room = rest; chain_room = (room-both (study (goal.at.pass_in-requires c).Start), (few-commodities judgeable.ready, few-commodities judgeable.ready)) }
+    let few = few-commodities c.requires.judgeable.ready in
+    record {
+      judgeable = c.requires.judgeable;
+      flows_value = c.requires.flows_value;
+      curve_room = c.requires.curve_room;
+      chain_room = (room-both _, (few, few));
+    }
 
 pub pass_in-requires-2 : goal.pass_in-requires-2
 pass_in-requires-2 c =
-    let judgeable = c.requires.judgeable in let flows = c.requires.flows_value in let rest = c.requires.curve_room in
-    let no-lorries : commodity_count (study (goal.at.pass_in-requires-2 c).Start) ≤ cars_in (study (goal.at.pass_in-requires-2 c).Start) = omega (arith, c.if-car_count-commodities.false, c.car_count.ensures.0) in
-    let few : commodity_count (study (goal.at.pass_in-requires-2 c).Start) ≤ 32 = omega (arith, no-lorries, judgeable.ready.few-cars) in
-    record { judgeable = judgeable; flows_value = flows; curve_room = rest; chain_room = (room-cars (study (goal.at.pass_in-requires-2 c).Start) no-lorries, (few, few)) }
+    let d = study (goal.at.pass_in-requires-2 c).Start in
+    let no-lorries : commodity_count d ≤ cars_in d = omega (arith, c.if-car_count-commodities.false, c.car_count.ensures.0) in
+    let few : commodity_count d ≤ 32 = omega (arith, no-lorries, c.requires.judgeable.ready.few-cars) in
+    record {
+      judgeable = c.requires.judgeable;
+      flows_value = c.requires.flows_value;
+      curve_room = c.requires.curve_room;
+      chain_room = (room-cars d no-lorries, (few, few));
+    }

@@ -11,7 +11,13 @@ use Rattle.judging.proofs.start.start_table.Goals as goal
 
 pub judge-requires : goal.judge-requires
 judge-requires c =
-    let (ready, prepared) = c.requires.ready in let holds = c.requires.links_in_bounds in let (lent, none) = c.requires.lent in record { ready = (ready, record { some_share = search rules; share-fits = search rules }, prepared); known = λ e. true-false e refl; lent = (lent, no-flows-within none) }
+    let (ready, prepared) = c.requires.ready in
+    let (lent, none) = c.requires.lent in
+    record {
+      ready = (ready, record { some_share = search rules; share-fits = search rules }, prepared);
+      known = λ e. true-false e refl;
+      lent = (lent, no-flows-within none);
+    }
 
 pub overflow_mul-commodities : goal.overflow_mul-commodities
 overflow_mul-commodities c = let ready = c.requires.ready.0 in
@@ -19,13 +25,15 @@ overflow_mul-commodities c = let ready = c.requires.ready.0 in
 
 pub add_classes-requires : goal.add_classes-requires
 add_classes-requires c = let judged = c.judge.ensures in
-    let (ready, prepared) = c.requires.ready in let holds = c.requires.links_in_bounds in let (lent, none) = c.requires.lent in
-    start-addable ready judged.known (judged.totals-kept ∙ none) c.args.table.now holds c.empty_flows.ensures
+    start-addable c.requires.ready.0 judged.known (judged.totals-kept ∙ c.requires.lent.1) c.args.table.now c.requires.links_in_bounds c.empty_flows.ensures
 
 pub returns : goal.returns
 returns c = let judged = c.judge.ensures in
-    let (ready, prepared) = c.requires.ready in let holds = c.requires.links_in_bounds in let (lent, none) = c.requires.lent in record {
-      table_after = start_is ready judged.known (judged.totals-kept ∙ none) c.args.table.now holds c.empty_flows.ensures
+    let ready = c.requires.ready.0 in
+    let none = judged.totals-kept ∙ c.requires.lent.1 in
+    record {
+      table_after =
+          start_is ready judged.known none c.args.table.now c.requires.links_in_bounds c.empty_flows.ensures
           c.add_classes.ensures;
-      lent_2 = (known-lent ready judged.known, judged.totals-kept ∙ none);
+      lent_2 = (known-lent ready judged.known, none);
     }
