@@ -7,7 +7,7 @@
 //     page SIZE LABEL              the same of `page`
 #![tactic(auto)]
 
-ghost use Rattle.std.specs.Prelude.{◌≤◌, length, IfOk};
+ghost use Rattle.std.specs.Prelude.{◌≡◌, ◌≤◌, length, IfOk, OnErr};
 
 use case_lines::{read_numbers, read_study, read_table, word};
 use show::show;
@@ -28,6 +28,7 @@ fn main(rt: HostRuntime) -> io::Result<()> {
 
 fn run(rt: &(impl Input + Print), input: &mut [u8], table: &mut [u32]) -> io::Result<()>
     requires { 4 ≤ length input.old }
+    ensures { OnErr result ((length input.new ≡ length input.old) × (length table.new ≡ length table.old)) }
 {
     let mut count = 0;
     for _ in 0..MOST_LINES {
@@ -49,7 +50,8 @@ fn run_line(
     count: usize,
 ) -> io::Result<usize>
     requires { (4 ≤ length input.old) × (count ≤ length table.old) }
-    ensures { IfOk result (λ after. after ≤ length table.old) }
+    ensures ok { IfOk result (λ after. after ≤ length table.old) }
+    ensures err { OnErr result ((length input.new ≡ length input.old) × (length table.new ≡ length table.old)) }
 {
     match word {
         b'i' => {
@@ -66,6 +68,7 @@ fn run_line(
 
 fn read_input(rt: &impl Input, input: &mut [u8]) -> io::Result<()>
     requires { 4 ≤ length input.old }
+    ensures { OnErr result (length input.new ≡ length input.old) }
 {
     read_numbers(rt, input, 0, 4, 2)?;
     read_study(rt, &mut input[4..])?;

@@ -1,5 +1,5 @@
 // A heading and the response to an input.
-ghost use Rattle.std.specs.Prelude.{◌≤◌, length};
+ghost use Rattle.std.specs.Prelude.{◌≡◌, ◌≤◌, length, OnErr};
 
 use case_lines::{label, number_within, text};
 use std::io;
@@ -10,14 +10,18 @@ pub fn show(
     paged: bool,
     input: &[u8],
     table: &mut [u32],
-) -> io::Result<()> {
+) -> io::Result<()>
+    ensures { OnErr result (length table.new ≡ length table.old) }
+{
     let size = number_within(rt, input.len())?;
     label(rt)?;
     text(rt, b"\n")?;
     respond(rt, paged, &input[..size], table)
 }
 
-fn respond(rt: &impl Print, paged: bool, input: &[u8], table: &mut [u32]) -> io::Result<()> {
+fn respond(rt: &impl Print, paged: bool, input: &[u8], table: &mut [u32]) -> io::Result<()>
+    ensures { OnErr result (length table.new ≡ length table.old) }
+{
     let mut printed = [0u8; 32768];
     let size = response(paged, input, table, &mut printed);
     text(rt, &printed[..size])

@@ -1,10 +1,14 @@
 // The calls, each with its numbers and its label from standard input.
+ghost use Rattle.std.specs.Prelude.{◌≡◌, length, OnErr};
+
 use crate::report;
 use case_lines::{label, number};
 use std::io;
 
 // The numbers of a note.
-pub fn read_note(rt: &impl Input, note: &mut [u16]) -> io::Result<()> {
+pub fn read_note(rt: &impl Input, note: &mut [u16]) -> io::Result<()>
+    ensures { OnErr result (length note.new ≡ length note.old) }
+{
     for i in 0..note.len() {
         note[i] = (number(rt)? % 65536) as u16;
     }
@@ -17,7 +21,9 @@ pub fn call(
     file: &[u8],
     table: &mut [u32],
     note: &mut [u16],
-) -> io::Result<()> {
+) -> io::Result<()>
+    ensures { OnErr result ((length table.new ≡ length table.old) × (length note.new ≡ length note.old)) }
+{
     match word {
         b's' => start(rt, file, table),
         b'a' => audit(rt, file, table),
@@ -27,7 +33,9 @@ pub fn call(
     }
 }
 
-fn start(rt: &(impl Input + Print), file: &[u8], table: &mut [u32]) -> io::Result<()> {
+fn start(rt: &(impl Input + Print), file: &[u8], table: &mut [u32]) -> io::Result<()>
+    ensures { OnErr result (length table.new ≡ length table.old) }
+{
     label(rt)?;
     report::start(rt, assignment::start(file, table))?;
     report::left(rt, table)
@@ -45,7 +53,9 @@ fn pass(
     file: &[u8],
     table: &mut [u32],
     note: &mut [u16],
-) -> io::Result<()> {
+) -> io::Result<()>
+    ensures { OnErr result ((length table.new ≡ length table.old) × (length note.new ≡ length note.old)) }
+{
     let share = number(rt)? as u32;
     label(rt)?;
     report::pass(rt, share, passes::pass(file, table, share, note))?;
@@ -58,7 +68,9 @@ fn take_back(
     file: &[u8],
     table: &mut [u32],
     note: &[u16],
-) -> io::Result<()> {
+) -> io::Result<()>
+    ensures { OnErr result (length table.new ≡ length table.old) }
+{
     let share = number(rt)? as u32;
     label(rt)?;
     report::take_back(rt, share, passes::take_back(file, table, share, note))?;
@@ -66,7 +78,9 @@ fn take_back(
     report::left(rt, table)
 }
 
-fn run(rt: &(impl Input + Print), file: &[u8], table: &mut [u32]) -> io::Result<()> {
+fn run(rt: &(impl Input + Print), file: &[u8], table: &mut [u32]) -> io::Result<()>
+    ensures { OnErr result (length table.new ≡ length table.old) }
+{
     let budget = number(rt)? as u32;
     let excess = (number(rt)? % 65536) as u16;
     label(rt)?;

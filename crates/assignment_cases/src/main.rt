@@ -13,7 +13,7 @@
 // Most tables and notes have more numbers than their study asks for, which no call may change.
 #![tactic(auto)]
 
-ghost use Rattle.std.specs.Prelude.{◌≤◌, length, IfOk};
+ghost use Rattle.std.specs.Prelude.{◌≡◌, ◌≤◌, length, IfOk, OnErr};
 
 use case_lines::{read_study, read_table, word};
 use std::io;
@@ -46,7 +46,9 @@ fn run(
     file: &mut [u8],
     table: &mut [u32],
     note: &mut [u16],
-) -> io::Result<()> {
+) -> io::Result<()>
+    ensures { OnErr result ((length file.new ≡ length file.old) × (length table.new ≡ length table.old) × (length note.new ≡ length note.old)) }
+{
     let mut sizes = Sizes { file: 0, table: 0 };
     for _ in 0..MOST_LINES {
         let word = word(rt)?;
@@ -67,7 +69,8 @@ fn run_line(
     sizes: Sizes,
 ) -> io::Result<Sizes>
     requires { (sizes.file ≤ length file.old) × (sizes.table ≤ length table.old) }
-    ensures { IfOk result (λ after. (after.file ≤ length file.old) × (after.table ≤ length table.old)) }
+    ensures ok { IfOk result (λ after. (after.file ≤ length file.old) × (after.table ≤ length table.old)) }
+    ensures err { OnErr result ((length file.new ≡ length file.old) × (length table.new ≡ length table.old) × (length note.new ≡ length note.old)) }
 {
     let size = sizes.file;
     let count = sizes.table;

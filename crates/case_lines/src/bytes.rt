@@ -1,13 +1,14 @@
 // Memory filled from the numbers of a line. In bytes the lowest byte of a number stands first, and
 // what lies past the end is left out.
-ghost use Rattle.std.specs.Prelude.{◌≤◌, ◌<◌, ◌^◌, length, IfOk};
+ghost use Rattle.std.specs.Prelude.{◌≡◌, ◌≤◌, ◌<◌, ◌^◌, length, IfOk, OnErr};
 
 use crate::input::{number, number_within};
 use std::io;
 
 // Reads a study, and answers its length.
 pub fn read_study(rt: &impl Input, file: &mut [u8]) -> io::Result<usize>
-    ensures { IfOk result (λ size. size ≤ length file.old) }
+    ensures ok { IfOk result (λ size. size ≤ length file.old) }
+    ensures err { OnErr result (length file.new ≡ length file.old) }
 {
     let size = read_header(rt, file)?;
     read_numbers(rt, file, 32, size, 2)?;
@@ -16,7 +17,8 @@ pub fn read_study(rt: &impl Input, file: &mut [u8]) -> io::Result<usize>
 
 // Reads a header, and answers the length of the file.
 pub fn read_header(rt: &impl Input, file: &mut [u8]) -> io::Result<usize>
-    ensures { IfOk result (λ size. (size ≤ length file.old) × (size < 2 ^ 32)) }
+    ensures ok { IfOk result (λ size. (size ≤ length file.old) × (size < 2 ^ 32)) }
+    ensures err { OnErr result (length file.new ≡ length file.old) }
 {
     let size = number_within(rt, file.len())?;
     read_numbers(rt, file, 0, 8, 2)?;
@@ -33,6 +35,7 @@ pub fn read_numbers(
     width: usize,
 ) -> io::Result<()>
     requires { (1 ≤ width) × (width ≤ 4) × (end ≤ 2 ^ 63) }
+    ensures { OnErr result (length bytes.new ≡ length bytes.old) }
 {
     let mut at = start;
     while at < end {
@@ -61,7 +64,8 @@ fn put_byte(bytes: &mut [u8], at: usize, value: u64) {
 
 // Reads a table, and answers how many numbers it has.
 pub fn read_table(rt: &impl Input, table: &mut [u32]) -> io::Result<usize>
-    ensures { IfOk result (λ count. count ≤ length table.old) }
+    ensures ok { IfOk result (λ count. count ≤ length table.old) }
+    ensures err { OnErr result (length table.new ≡ length table.old) }
 {
     let count = number_within(rt, table.len())?;
     for i in 0..count {

@@ -10,7 +10,7 @@
 //     again                 takes the output as the file
 #![tactic(auto)]
 
-ghost use Rattle.std.specs.Prelude.{◌≤◌, length, IfOk};
+ghost use Rattle.std.specs.Prelude.{◌≡◌, ◌≤◌, length, IfOk, OnErr};
 
 use case_lines::{read_study, word};
 use std::io;
@@ -36,7 +36,9 @@ fn main(rt: HostRuntime) -> io::Result<()> {
     run(&rt, file, output)
 }
 
-fn run(rt: &(impl Input + Print), file: &mut [u8], output: &mut [u8]) -> io::Result<()> {
+fn run(rt: &(impl Input + Print), file: &mut [u8], output: &mut [u8]) -> io::Result<()>
+    ensures { OnErr result ((length file.new ≡ length file.old) × (length output.new ≡ length output.old)) }
+{
     let mut sizes = Sizes { file: 0, output: 0 };
     for _ in 0..MOST_LINES {
         let word = word(rt)?;
@@ -56,7 +58,8 @@ fn run_line(
     sizes: Sizes,
 ) -> io::Result<Sizes>
     requires { (sizes.file ≤ length file.old) × (sizes.output ≤ length output.old) }
-    ensures { IfOk result (λ after. (after.file ≤ length file.old) × (after.output ≤ length output.old)) }
+    ensures ok { IfOk result (λ after. (after.file ≤ length file.old) × (after.output ≤ length output.old)) }
+    ensures err { OnErr result ((length file.new ≡ length file.old) × (length output.new ≡ length output.old)) }
 {
     let size = sizes.file;
     let room = sizes.output;
@@ -91,7 +94,8 @@ fn change(
     output: &[u8],
 ) -> io::Result<usize>
     requires { size ≤ length file.old }
-    ensures { IfOk result (λ after. after ≤ length file.old) }
+    ensures ok { IfOk result (λ after. after ≤ length file.old) }
+    ensures err { OnErr result (length file.new ≡ length file.old) }
 {
     match word {
         b'f' => read_study(rt, file),

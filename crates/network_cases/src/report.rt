@@ -1,12 +1,13 @@
 // Lines of output.
-ghost use Rattle.std.specs.Prelude.{◌≤◌, ◌<◌, length, IfOk};
+ghost use Rattle.std.specs.Prelude.{◌≡◌, ◌≤◌, ◌<◌, length, IfOk, OnErr};
 
 use case_lines::{label, number_within, print, text};
 use std::io;
 
 // Reads the size of the output, which is answered, and the label.
 pub fn pack(rt: &(impl Input + Print), file: &[u8], output: &mut [u8]) -> io::Result<usize>
-    ensures { IfOk result (λ room. room ≤ length output.old) }
+    ensures ok { IfOk result (λ room. room ≤ length output.old) }
+    ensures err { OnErr result (length output.new ≡ length output.old) }
 {
     let room = number_within(rt, output.len())?;
     label(rt)?;
@@ -15,7 +16,9 @@ pub fn pack(rt: &(impl Input + Print), file: &[u8], output: &mut [u8]) -> io::Re
 }
 
 // What check and pack answer of a file, and a digest of the output that pack was lent.
-fn answers(rt: &impl Print, file: &[u8], output: &mut [u8]) -> io::Result<()> {
+fn answers(rt: &impl Print, file: &[u8], output: &mut [u8]) -> io::Result<()>
+    ensures { OnErr result (length output.new ≡ length output.old) }
+{
     fill(output);
     let check = network::check(file) as u64;
     let pack = network::pack(file, output) as u64;

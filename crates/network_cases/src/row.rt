@@ -1,13 +1,14 @@
 // The largest study: 128 nodes in a row, each link from a node to the next, 32 destinations. In this
 // order of the links one sweep of a reach search marks few nodes.
-ghost use Rattle.std.specs.Prelude.{◌≤◌, ◌<◌, length, IfOk};
+ghost use Rattle.std.specs.Prelude.{◌≡◌, ◌≤◌, ◌<◌, length, IfOk, OnErr};
 
 use case_lines::{number, put, read_header, read_numbers};
 use std::io;
 
 // Reads the header. Answers the file's size.
 pub fn read(rt: &impl Input, file: &mut [u8]) -> io::Result<usize>
-    ensures { IfOk result (λ size. size ≤ length file.old) }
+    ensures ok { IfOk result (λ size. size ≤ length file.old) }
+    ensures err { OnErr result (length file.new ≡ length file.old) }
 {
     let size = read_header(rt, file)?;
     put_links(file);
@@ -16,13 +17,17 @@ pub fn read(rt: &impl Input, file: &mut [u8]) -> io::Result<usize>
 }
 
 // Reads a link, its tail and its head.
-pub fn read_link(rt: &impl Input, file: &mut [u8]) -> io::Result<()> {
+pub fn read_link(rt: &impl Input, file: &mut [u8]) -> io::Result<()>
+    ensures { OnErr result (length file.new ≡ length file.old) }
+{
     let start = 32 + 10 * (number(rt)? as usize);
     read_numbers(rt, file, start, start + 4, 2)
 }
 
 // Reads a destination, a node, and the trips from it.
-pub fn read_trips(rt: &impl Input, file: &mut [u8]) -> io::Result<()> {
+pub fn read_trips(rt: &impl Input, file: &mut [u8]) -> io::Result<()>
+    ensures { OnErr result (length file.new ≡ length file.old) }
+{
     let row = 5216 + 256 * (number(rt)? as usize);
     let start = row + 2 * (number(rt)? as usize);
     read_numbers(rt, file, start, start + 2, 2)

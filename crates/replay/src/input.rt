@@ -1,6 +1,6 @@
 // What a stream holds: little-endian numbers, and lengths with the bytes or numbers after them. At
 // the end of the input a number is 0.
-ghost use Rattle.std.specs.Prelude.{◌+◌, ◌*◌, ◌≤◌, ◌<◌, length, ◌≡◌, IfOk};
+ghost use Rattle.std.specs.Prelude.{◌+◌, ◌*◌, ◌≤◌, ◌<◌, length, ◌≡◌, IfOk, OnErr};
 
 use std::io;
 use streams::read_full;
@@ -37,7 +37,8 @@ pub fn word(rt: &impl Input) -> io::Result<u32> {
 // A length and its bytes, put at the start of `bytes`, of which `kept` were left.
 pub fn read_bytes(rt: &impl Input, bytes: &mut [u8], kept: usize) -> io::Result<Read>
     requires { kept ≤ length bytes.old }
-    ensures { IfOk result (λ read. read.count ≤ length bytes.old) }
+    ensures ok { IfOk result (λ read. read.count ≤ length bytes.old) }
+    ensures err { OnErr result (length bytes.new ≡ length bytes.old) }
 {
     let n = word(rt)?;
     if n == SAME {
@@ -59,7 +60,8 @@ pub fn read_numbers(
     kept: usize,
 ) -> io::Result<Read>
     requires { (kept ≤ length table.old) × (4 * length table.old ≤ length bytes.old) }
-    ensures { IfOk result (λ read. read.count ≤ length table.old) }
+    ensures ok { IfOk result (λ read. read.count ≤ length table.old) }
+    ensures err { OnErr result ((table.new ≡ table.old) × (length bytes.new ≡ length bytes.old)) }
 {
     let n = word(rt)?;
     if n == SAME {
@@ -82,7 +84,8 @@ pub fn read_halves(
     kept: usize,
 ) -> io::Result<Read>
     requires { (kept ≤ length note.old) × (2 * length note.old ≤ length bytes.old) }
-    ensures { IfOk result (λ read. read.count ≤ length note.old) }
+    ensures ok { IfOk result (λ read. read.count ≤ length note.old) }
+    ensures err { OnErr result ((note.new ≡ note.old) × (length bytes.new ≡ length bytes.old)) }
 {
     let n = word(rt)?;
     if n == SAME {
@@ -116,6 +119,7 @@ fn missing() -> Read
 // Reads into the first `size` bytes. Answers whether the stream has as many.
 fn fill(rt: &impl Input, bytes: &mut [u8], size: usize) -> io::Result<bool>
     requires { size ≤ length bytes.old }
+    ensures { OnErr result (length bytes.new ≡ length bytes.old) }
 {
     let got = read_full(rt, &mut bytes[..size])?;
     Ok(got == size)

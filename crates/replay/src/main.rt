@@ -14,7 +14,7 @@
 // before left it, or the note as the last call that was lent one left it (empty before any).
 #![tactic(auto)]
 
-ghost use Rattle.std.specs.Prelude.{◌≡◌, ◌*◌, ◌≤◌, length, IfOk};
+ghost use Rattle.std.specs.Prelude.{◌≡◌, ◌*◌, ◌≤◌, length, IfOk, OnErr};
 ghost use Rattle.replay.specs.State.{Within};
 
 use crate::input::Read;
@@ -85,7 +85,8 @@ fn read_next(
 ) -> io::Result<State>
     requires within { Within (length file.old) (length table.old) (length note.old) (length bytes.old) before }
     requires table_in_bounds { (4 * length table.old ≤ length bytes.old) × (2 * length note.old ≤ length bytes.old) }
-    ensures { IfOk result (λ state. Within (length file.old) (length table.old) (length note.old) (length bytes.old) state) }
+    ensures ok { IfOk result (λ state. Within (length file.old) (length table.old) (length note.old) (length bytes.old) state) }
+    ensures err { OnErr result ((length file.new ≡ length file.old) × (length table.new ≡ length table.old) × (length note.new ≡ length note.old) × (length bytes.new ≡ length bytes.old)) }
 {
     let kind = input::byte(rt)?;
     if kind == 0 || 8 < kind {
@@ -107,7 +108,8 @@ fn read_table(
     kept: usize,
 ) -> io::Result<Read>
     requires { (kept ≤ length table.old) × (4 * length table.old ≤ length bytes.old) }
-    ensures { IfOk result (λ read. read.count ≤ length table.old) }
+    ensures ok { IfOk result (λ read. read.count ≤ length table.old) }
+    ensures err { OnErr result ((table.new ≡ table.old) × (length bytes.new ≡ length bytes.old)) }
 {
     if kind < 3 {
         return Ok(input::as_left(kept));
@@ -124,7 +126,8 @@ fn read_note(
     kept: usize,
 ) -> io::Result<Read>
     requires { (kept ≤ length note.old) × (2 * length note.old ≤ length bytes.old) }
-    ensures { IfOk result (λ read. read.count ≤ length note.old) }
+    ensures ok { IfOk result (λ read. read.count ≤ length note.old) }
+    ensures err { OnErr result ((note.new ≡ note.old) × (length bytes.new ≡ length bytes.old)) }
 {
     if kind == 4 || kind == 8 {
         return input::read_halves(rt, note, bytes, kept);
@@ -135,7 +138,8 @@ fn read_note(
 // The output of a pack, which a check has at length 0, or the page slice of a page. Any other call has
 // none.
 fn read_output(rt: &impl Input, kind: u8, bytes: &mut [u8]) -> io::Result<Read>
-    ensures { IfOk result (λ read. read.count ≤ length bytes.old) }
+    ensures ok { IfOk result (λ read. read.count ≤ length bytes.old) }
+    ensures err { OnErr result (length bytes.new ≡ length bytes.old) }
 {
     if kind < 3 || kind == 7 {
         return input::read_bytes(rt, bytes, 0);
@@ -167,6 +171,7 @@ fn play_call(
     state: State,
 ) -> io::Result<()>
     requires { Within (length file.now) (length table.old) (length note.old) (length bytes.old) state }
+    ensures { OnErr result ((length table.new ≡ length table.old) × (length note.new ≡ length note.old) × (length bytes.new ≡ length bytes.old)) }
 {
     let call = read_call(rt, state.kind)?;
     play::play(

@@ -1,4 +1,6 @@
 // One recorded call: made, and its answer printed.
+ghost use Rattle.std.specs.Prelude.{◌≡◌, length, OnErr};
+
 use crate::{digest, lines};
 use std::io;
 
@@ -20,7 +22,9 @@ pub fn play(
     table: &mut [u32],
     note: &mut [u16],
     call: Call,
-) -> io::Result<()> {
+) -> io::Result<()>
+    ensures { OnErr result ((length output.new ≡ length output.old) × (length table.new ≡ length table.old) × (length note.new ≡ length note.old)) }
+{
     let kind = call.kind;
     match kind {
         1 => check(rt, file),
@@ -39,12 +43,16 @@ fn check(rt: &impl Print, file: &[u8]) -> io::Result<()> {
     lines::print(rt, b"check", refusal, &[0u64; 0], digest::of_nothing())
 }
 
-fn pack(rt: &impl Print, file: &[u8], output: &mut [u8]) -> io::Result<()> {
+fn pack(rt: &impl Print, file: &[u8], output: &mut [u8]) -> io::Result<()>
+    ensures { OnErr result (length output.new ≡ length output.old) }
+{
     let refusal = interface::ilstrovan_pack(file, output);
     lines::print(rt, b"pack", refusal, &[0u64; 0], digest::of_bytes(output))
 }
 
-fn start(rt: &impl Print, file: &[u8], table: &mut [u32]) -> io::Result<()> {
+fn start(rt: &impl Print, file: &[u8], table: &mut [u32]) -> io::Result<()>
+    ensures { OnErr result (length table.new ≡ length table.old) }
+{
     let refusal = interface::ilstrovan_start(file, table);
     lines::print(rt, b"start", refusal, &[0u64; 0], digest::of_numbers(table))
 }
@@ -55,19 +63,17 @@ fn pass(
     table: &mut [u32],
     share: u32,
     note: &mut [u16],
-) -> io::Result<()> {
+) -> io::Result<()>
+    ensures { OnErr result ((length table.new ≡ length table.old) × (length note.new ≡ length note.old)) }
+{
     let mut answer = [0u64; 5];
     let refusal = interface::ilstrovan_pass(file, table, share, note, &mut answer);
     lines::print(rt, b"pass", refusal, &answer, digest::of_noted(table, note))
 }
 
-fn run(
-    rt: &impl Print,
-    file: &[u8],
-    table: &mut [u32],
-    budget: u32,
-    excess: u16,
-) -> io::Result<()> {
+fn run(rt: &impl Print, file: &[u8], table: &mut [u32], budget: u32, excess: u16) -> io::Result<()>
+    ensures { OnErr result (length table.new ≡ length table.old) }
+{
     let mut answer = [0u64; 6];
     let refusal = interface::ilstrovan_run(file, table, budget, excess, &mut answer);
     lines::print(rt, b"run", refusal, &answer, digest::of_numbers(table))
@@ -79,13 +85,9 @@ fn audit(rt: &impl Print, file: &[u8], table: &[u32], share: u32) -> io::Result<
     lines::print(rt, b"audit", refusal, &answer, digest::of_numbers(table))
 }
 
-fn page(
-    rt: &impl Print,
-    file: &[u8],
-    table: &[u32],
-    share: u32,
-    page: &mut [u8],
-) -> io::Result<()> {
+fn page(rt: &impl Print, file: &[u8], table: &[u32], share: u32, page: &mut [u8]) -> io::Result<()>
+    ensures { OnErr result (length page.new ≡ length page.old) }
+{
     let refusal = interface::ilstrovan_page(file, table, share, page);
     lines::print(rt, b"page", refusal, &[0u64; 0], digest::of_bytes(page))
 }
@@ -96,7 +98,9 @@ fn take_back(
     table: &mut [u32],
     share: u32,
     note: &[u16],
-) -> io::Result<()> {
+) -> io::Result<()>
+    ensures { OnErr result (length table.new ≡ length table.old) }
+{
     let mut answer = [0u64; 1];
     let refusal = interface::ilstrovan_take_back(file, table, share, note, &mut answer);
     lines::print(

@@ -9,7 +9,7 @@
 // Lines that write past byte 32 come after those that rely on the marks there.
 #![tactic(auto)]
 
-ghost use Rattle.std.specs.Prelude.{◌≤◌, length, IfOk};
+ghost use Rattle.std.specs.Prelude.{◌≡◌, ◌≤◌, length, IfOk, OnErr};
 
 use case_lines::{read_header, read_numbers, read_study, word};
 use fields::all;
@@ -39,7 +39,9 @@ fn mark(file: &mut [u8]) {
     }
 }
 
-fn run(rt: &(impl Input + Print), file: &mut [u8]) -> io::Result<()> {
+fn run(rt: &(impl Input + Print), file: &mut [u8]) -> io::Result<()>
+    ensures { OnErr result (length file.new ≡ length file.old) }
+{
     for _ in 0..MOST_LINES {
         let word = word(rt)?;
         if word == 0 {
@@ -50,7 +52,9 @@ fn run(rt: &(impl Input + Print), file: &mut [u8]) -> io::Result<()> {
     Ok(())
 }
 
-fn run_line(rt: &(impl Input + Print), word: u8, file: &mut [u8]) -> io::Result<()> {
+fn run_line(rt: &(impl Input + Print), word: u8, file: &mut [u8]) -> io::Result<()>
+    ensures { OnErr result (length file.new ≡ length file.old) }
+{
     let size = read(rt, word, file)?;
     let study = &file[..size];
     answers(rt, study)?;
@@ -62,7 +66,8 @@ fn run_line(rt: &(impl Input + Print), word: u8, file: &mut [u8]) -> io::Result<
 
 // Reads a file up to its label, and answers its length.
 fn read(rt: &impl Input, word: u8, file: &mut [u8]) -> io::Result<usize>
-    ensures { IfOk result (λ size. size ≤ length file.old) }
+    ensures ok { IfOk result (λ size. size ≤ length file.old) }
+    ensures err { OnErr result (length file.new ≡ length file.old) }
 {
     if word == b's' {
         return read_study(rt, file);
