@@ -77,7 +77,8 @@ fn pass_in(
         note,
         &mut flows[TOTAL],
     );
-    if refusal != 0 {
+    let refused = refusal != 0;
+    if refused {
         return refused_pass(refusal);
     }
     let passed = judging::pass_table(
