@@ -4,6 +4,7 @@
 use std::fs;
 use std::path::{Path, PathBuf};
 use std::process::Command;
+use std::sync::atomic::{AtomicUsize, Ordering};
 
 /// The town of two roads, as text.
 pub const TOWN: &str = "\
@@ -198,9 +199,12 @@ impl Outcome {
 pub struct Folder(PathBuf);
 
 impl Folder {
-    /// An empty folder; every test gives another name.
+    /// An empty folder, another one at each call: tests run side by side, and
+    /// two of them may give one name.
     pub fn new(name: &str) -> Self {
-        let folder = Path::new(env!("CARGO_TARGET_TMPDIR")).join(name);
+        static CALLS: AtomicUsize = AtomicUsize::new(0);
+        let call = CALLS.fetch_add(1, Ordering::Relaxed);
+        let folder = Path::new(env!("CARGO_TARGET_TMPDIR")).join(format!("{name}-{call}"));
         let _ = fs::remove_dir_all(&folder);
         fs::create_dir_all(&folder).expect("a folder for the test");
         Folder(folder)
