@@ -1,39 +1,24 @@
 // A heading and the response to an input.
-ghost use Rattle.std.specs.Prelude.{◌≡◌, ◌≤◌, length, OnErr};
-
-use case_lines::{label, number_within, text};
+use crate::Cases;
+use case_lines::{Response, label, number_within};
 use std::io;
 
-// What `page` prints, or `assign`.
-pub fn show(
+// Reads how much of the input counts, and the label.
+pub fn show<F: FnOnce(&[u8], &mut [u32], &mut Response)>(
     rt: &(impl Input + Print),
-    paged: bool,
-    input: &[u8],
-    table: &mut [u32],
+    cases: &mut Cases,
+    respond: F,
 ) -> io::Result<()>
-    ensures { OnErr result (length table.new ≡ length table.old) }
+    requires { F.IsAlwaysCallable respond }
 {
-    let size = number_within(rt, input.len())?;
+    let size = number_within(rt, cases.input.len())?;
     label(rt)?;
-    text(rt, b"\n")?;
-    respond(rt, paged, &input[..size], table)
-}
-
-fn respond(rt: &impl Print, paged: bool, input: &[u8], table: &mut [u32]) -> io::Result<()>
-    ensures { OnErr result (length table.new ≡ length table.old) }
-{
-    let mut printed = [0u8; 32768];
-    let size = response(paged, input, table, &mut printed);
-    text(rt, &printed[..size])
-}
-
-// Answers how many bytes are printed.
-fn response(paged: bool, input: &[u8], table: &mut [u32], out: &mut [u8]) -> usize
-    requires { 32768 ≤ length out.old }
-    ensures { result ≤ length out.old }
-{
-    if paged {
-        return report::respond_page(input, table, out);
-    }
-    report::respond(input, table, out)
+    println!(rt; "")?;
+    let mut response = Response::new(0);
+    respond(
+        &cases.input[..size],
+        cases.table.as_mut_slice(),
+        &mut response,
+    );
+    rt.write_all(response.as_slice())
 }

@@ -13,89 +13,55 @@
 // Most tables and notes have more numbers than their study asks for, which no call may change.
 #![tactic(auto)]
 
-ghost use Rattle.std.specs.Prelude.{◌≡◌, ◌≤◌, length, IfOk, OnErr};
-
-use case_lines::{read_study, read_table, word};
+use case_lines::{Buffer, each_line, number_u16, read_study, read_table};
 use std::io;
 
 mod calling;
 mod report;
 
-// There are fewer lines than this.
-const MOST_LINES: usize = 1000;
-
-// How much of the file's and the table's memory is in use.
-#[derive(Clone, Copy)]
-struct Sizes {
-    file: usize,
-    table: usize,
+// What the lines before have left.
+#[derive(Drop)]
+struct Cases {
+    file: Buffer<u8, 96>,
+    table: Buffer<u32, 5>,
+    note: [u16; 8],
 }
 
 fn main(rt: HostRuntime) -> io::Result<()> {
-    let mut file_space = [0u8; 96];
-    let mut table_space = [0u32; 5];
-    let mut note_space = [7u16; 8];
-    let file: &mut [u8] = &mut file_space;
-    let table: &mut [u32] = &mut table_space;
-    let note: &mut [u16] = &mut note_space;
-    run(&rt, file, table, note)
+    let mut cases = Cases {
+        file: Buffer::new(0),
+        table: Buffer::new(0),
+        note: [7; 8],
+    };
+    each_line(&rt, |word| run_line(&rt, word, &mut cases))
 }
 
-fn run(
-    rt: &(impl Input + Print),
-    file: &mut [u8],
-    table: &mut [u32],
-    note: &mut [u16],
-) -> io::Result<()>
-    ensures { OnErr result ((length file.new ≡ length file.old) × (length table.new ≡ length table.old) × (length note.new ≡ length note.old)) }
-{
-    let mut sizes = Sizes { file: 0, table: 0 };
-    for _ in 0..MOST_LINES {
-        let word = word(rt)?;
-        if word == 0 {
-            return Ok(());
-        }
-        sizes = run_line(rt, word, file, table, note, sizes)?;
+fn run_line(rt: &(impl Input + Print), word: u8, cases: &mut Cases) -> io::Result<()> {
+    match word {
+        b'f' => read_file(rt, &mut cases.file),
+        b't' => read_flows(rt, &mut cases.table),
+        b'n' => read_note(rt, &mut cases.note),
+        b's' => calling::start(rt, cases),
+        b'a' => calling::audit(rt, cases),
+        b'p' => calling::pass(rt, cases),
+        b'b' => calling::take_back(rt, cases),
+        _ => calling::run(rt, cases),
     }
+}
+
+fn read_file(rt: &impl Input, file: &mut Buffer<u8, 96>) -> io::Result<()> {
+    file.len = read_study(rt, &mut file.items)?;
     Ok(())
 }
 
-fn run_line(
-    rt: &(impl Input + Print),
-    word: u8,
-    file: &mut [u8],
-    table: &mut [u32],
-    note: &mut [u16],
-    sizes: Sizes,
-) -> io::Result<Sizes>
-    requires { (sizes.file ≤ length file.old) × (sizes.table ≤ length table.old) }
-    ensures ok { IfOk result (λ after. (after.file ≤ length file.old) × (after.table ≤ length table.old)) }
-    ensures err { OnErr result ((length file.new ≡ length file.old) × (length table.new ≡ length table.old) × (length note.new ≡ length note.old)) }
-{
-    let size = sizes.file;
-    let count = sizes.table;
-    match word {
-        b'f' => {
-            let size = read_study(rt, file)?;
-            Ok(Sizes {
-                file: size,
-                table: count,
-            })
-        }
-        b't' => {
-            let count = read_table(rt, table)?;
-            Ok(Sizes {
-                file: size,
-                table: count,
-            })
-        }
-        b'n' => {
-            calling::read_note(rt, note)?;
-            Ok(sizes)
-        }
-        _ => {
-            calling::call(rt, word, &file[..size], &mut table[..count], note)?;
-            Ok(sizes)
-        }
+fn read_flows(rt: &impl Input, table: &mut Buffer<u32, 5>) -> io::Result<()> {
+    table.len = read_table(rt, &mut table.items)?;
+    Ok(())
+}
+
+fn read_note(rt: &impl Input, note: &mut [u16; 8]) -> io::Result<()> {
+    for number in note {
+        *number = number_u16(rt)?;
     }
+    Ok(())
 }

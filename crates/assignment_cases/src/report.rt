@@ -1,114 +1,84 @@
 // The answers in words.
 use calls::{AuditAnswer, Ending, Outcome, PassAnswer, RunAnswer, TakeBackAnswer};
-use case_lines::{print, text};
+use std::fmt::Display;
 use std::io;
 
 pub fn start(rt: &impl Print, refusal: u8) -> io::Result<()> {
-    print(rt, b": start, refusal #", &[refusal as u64])
+    print!(rt; ": start, refusal {refusal}")
 }
 
 pub fn audit(rt: &impl Print, share: u32, answer: AuditAnswer) -> io::Result<()> {
-    print(
-        rt,
-        b": audit at share #, refusal #, gap #, cost #, over #",
-        &[
-            share as u64,
-            answer.refusal as u64,
-            answer.gap,
-            answer.cost,
-            answer.over as u64,
-        ],
+    print!(rt; ": audit at share {share}, refusal {}", answer.refusal)?;
+    print!(rt;
+        ", gap {}, cost {}, over {}",
+        answer.gap, answer.cost, answer.over
     )
 }
 
 pub fn pass(rt: &impl Print, share: u32, answer: PassAnswer) -> io::Result<()> {
-    print(
-        rt,
-        b": pass at share #, refusal #",
-        &[share as u64, answer.refusal as u64],
-    )?;
-    let outcome = answer.outcome;
-    name_outcome(rt, outcome)?;
-    print(
-        rt,
-        b", gap #, cost #, share #, over #",
-        &[
-            answer.gap,
-            answer.cost,
-            answer.share as u64,
-            answer.over as u64,
-        ],
+    print!(rt; ": pass at share {share}, refusal {}", answer.refusal)?;
+    print!(rt; ", {}, gap {}", outcome_word(answer.outcome), answer.gap)?;
+    print!(rt;
+        ", cost {}, share {}, over {}",
+        answer.cost, answer.share, answer.over
     )
 }
 
 pub fn take_back(rt: &impl Print, share: u32, answer: TakeBackAnswer) -> io::Result<()> {
-    print(
-        rt,
-        b": taking back at share #, refusal #, share #",
-        &[share as u64, answer.refusal as u64, answer.share as u64],
-    )
+    print!(rt;
+        ": taking back at share {share}, refusal {}",
+        answer.refusal
+    )?;
+    print!(rt; ", share {}", answer.share)
 }
 
 pub fn run(rt: &impl Print, budget: u32, excess: u16, answer: RunAnswer) -> io::Result<()> {
-    print(
-        rt,
-        b": run with budget # and excess #, refusal #",
-        &[budget as u64, excess as u64, answer.refusal as u64],
+    print!(rt; ": run with budget {budget} and excess {excess}")?;
+    print!(rt;
+        ", refusal {}, {}",
+        answer.refusal,
+        ending_word(answer.ending)
     )?;
-    let ending = answer.ending;
-    name_ending(rt, ending)?;
-    print(
-        rt,
-        b", judged #, share #, gap #, cost #, over #",
-        &[
-            answer.judged as u64,
-            answer.share as u64,
-            answer.gap,
-            answer.cost,
-            answer.over as u64,
-        ],
+    print!(rt; ", judged {}, share {}", answer.judged, answer.share)?;
+    print!(rt;
+        ", gap {}, cost {}, over {}",
+        answer.gap, answer.cost, answer.over
     )
 }
 
-fn name_outcome(rt: &impl Print, outcome: Outcome) -> io::Result<()> {
+fn outcome_word(outcome: Outcome) -> &'static str {
     match outcome {
-        Outcome::Refused => text(rt, b", refused"),
-        Outcome::Moved => text(rt, b", moved"),
-        Outcome::Finest => text(rt, b", finest"),
+        Outcome::Refused => "refused",
+        Outcome::Moved => "moved",
+        Outcome::Finest => "finest",
     }
 }
 
-fn name_ending(rt: &impl Print, ending: Ending) -> io::Result<()> {
+fn ending_word(ending: Ending) -> &'static str {
     match ending {
-        Ending::Refused => text(rt, b", refused"),
-        Ending::Reached => text(rt, b", reached"),
-        Ending::Finest => text(rt, b", finest"),
-        Ending::Spent => text(rt, b", spent"),
+        Ending::Refused => "refused",
+        Ending::Reached => "reached",
+        Ending::Finest => "finest",
+        Ending::Spent => "spent",
     }
 }
 
 // The numbers of the note.
 pub fn noted(rt: &impl Print, note: &[u16]) -> io::Result<()> {
-    text(rt, b", note")?;
-    for i in 0..note.len() {
-        entry(rt, note[i])?;
-    }
-    Ok(())
-}
-
-fn entry(rt: &impl Print, x: u16) -> io::Result<()> {
-    print(rt, b" #", &[x as u64])
+    print!(rt; ", note")?;
+    numbers(rt, note)
 }
 
 // The numbers of the table, and the end of the line.
 pub fn left(rt: &impl Print, table: &[u32]) -> io::Result<()> {
-    text(rt, b", table")?;
-    for i in 0..table.len() {
-        flow(rt, table[i])?;
-    }
-    text(rt, b"\n")
+    print!(rt; ", table")?;
+    numbers(rt, table)?;
+    println!(rt; "")
 }
 
-fn flow(rt: &impl Print, x: u32) -> io::Result<()> {
-    print(rt, b" #", &[x as u64])
+fn numbers<T: Display>(rt: &impl Print, numbers: &[T]) -> io::Result<()> {
+    for number in numbers {
+        print!(rt; " {number}")?;
+    }
+    Ok(())
 }

@@ -11,7 +11,10 @@ pub fn read_study(rt: &impl Input, file: &mut [u8]) -> io::Result<usize>
     ensures err { OnErr result (length file.new ≡ length file.old) }
 {
     let size = read_header(rt, file)?;
-    read_numbers(rt, file, 32, size, 2)?;
+    let end = file.len().min(size + size % 2);
+    if let Some(sections) = file[..end].get_mut(32..) {
+        read_numbers(rt, sections, 2)?;
+    }
     Ok(size)
 }
 
@@ -21,44 +24,30 @@ pub fn read_header(rt: &impl Input, file: &mut [u8]) -> io::Result<usize>
     ensures err { OnErr result (length file.new ≡ length file.old) }
 {
     let size = number_within(rt, file.len())?;
-    read_numbers(rt, file, 0, 8, 2)?;
-    read_numbers(rt, file, 8, 32, 4)?;
+    let mut counts = [0u8; 8];
+    let mut pairs = [0u8; 24];
+    read_numbers(rt, &mut counts, 2)?;
+    read_numbers(rt, &mut pairs, 4)?;
+    put(file, 0, &counts);
+    put(file, 8, &pairs);
     Ok(size)
 }
 
-// Reads numbers of `width` bytes each, from `start` on up to `end`.
-pub fn read_numbers(
-    rt: &impl Input,
-    bytes: &mut [u8],
-    start: usize,
-    end: usize,
-    width: usize,
-) -> io::Result<()>
-    requires { (1 ≤ width) × (width ≤ 4) × (end ≤ 2 ^ 63) }
+// Reads numbers of `width` bytes each up to the end of the bytes.
+pub fn read_numbers(rt: &impl Input, bytes: &mut [u8], width: usize) -> io::Result<()>
+    requires { (1 ≤ width) × (width ≤ 4) }
     ensures { OnErr result (length bytes.new ≡ length bytes.old) }
 {
-    let mut at = start;
-    while at < end {
-        put(bytes, at, width, number(rt)?);
-        at += width;
+    for place in bytes.chunks_mut(width) {
+        put(place, 0, &number(rt)?.to_le_bytes());
     }
     Ok(())
 }
 
-// Puts the lowest `width` bytes of a value from `at` on.
-pub fn put(bytes: &mut [u8], at: usize, width: usize, value: u64)
-    requires { (at ≤ 2 ^ 63) × (width ≤ 4) }
-{
-    let mut rest = value;
-    for i in 0..width {
-        put_byte(bytes, at + i, rest);
-        rest = rest / 256;
-    }
-}
-
-fn put_byte(bytes: &mut [u8], at: usize, value: u64) {
-    if at < bytes.len() {
-        bytes[at] = (value % 256) as u8;
+// Puts the values from `at` on.
+pub fn put(bytes: &mut [u8], at: usize, values: &[u8]) {
+    for (byte, value) in bytes.iter_mut().skip(at).zip(values) {
+        *byte = *value;
     }
 }
 
@@ -68,8 +57,8 @@ pub fn read_table(rt: &impl Input, table: &mut [u32]) -> io::Result<usize>
     ensures err { OnErr result (length table.new ≡ length table.old) }
 {
     let count = number_within(rt, table.len())?;
-    for i in 0..count {
-        table[i] = number(rt)? as u32;
+    for flow in &mut table[..count] {
+        *flow = number(rt)?;
     }
     Ok(count)
 }

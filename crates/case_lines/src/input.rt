@@ -1,9 +1,11 @@
-// Words, numbers and labels on standard input. With a word or a number goes the byte behind it.
+// Lines, words, numbers and labels on standard input. With a word or a number goes the byte behind it.
 ghost use Rattle.std.specs.Prelude.{◌<◌, ◌≤◌, ◌^◌, IfOk};
 
-use crate::output::print_byte;
 use std::io;
-use streams::read_full;
+use std::io::Read;
+
+// There are fewer lines than this.
+const MOST_LINES: usize = 1000;
 
 // A word or a label has fewer bytes than this.
 const MOST_BYTES: usize = 100;
@@ -11,63 +13,71 @@ const MOST_BYTES: usize = 100;
 // A number has fewer digits than this.
 const MOST_DIGITS: usize = 11;
 
-// The first letter of the next word, or 0 at the end of the input.
-pub fn word(rt: &impl Input) -> io::Result<u8> {
-    let first = next(rt)?;
-    let mut last = first;
-    for _ in 0..MOST_BYTES {
-        if last <= b' ' {
-            return Ok(first);
-        }
-        last = next(rt)?;
+// Runs each line of the input, with the first letter of its word.
+pub fn each_line<F: FnMut(u8) -> io::Result<()>>(rt: &impl Input, mut run: F) -> io::Result<()>
+    requires { F.IsAlwaysCallable run }
+{
+    for _ in 0..MOST_LINES {
+        let Some(word) = word(rt)? else {
+            return Ok(());
+        };
+        run(word)?;
     }
-    Ok(first)
+    Ok(())
+}
+
+// The first letter of the next word, or none at the end of the input or at a byte 0.
+fn word(rt: &impl Input) -> io::Result<Option<u8>> {
+    let mut bytes = rt.reader().bytes();
+    let first = bytes.next().transpose()?;
+    if first.is_some_and(is_in_word) {
+        for byte in bytes.take(MOST_BYTES) {
+            if !is_in_word(byte?) {
+                break;
+            }
+        }
+    }
+    Ok(first.filter(|byte| *byte != 0))
+}
+
+// Words end at a space or at the end of their line.
+fn is_in_word(byte: u8) -> bool {
+    byte > b' '
 }
 
 // The next number, taken modulo 2³². It is 0 where there is no digit.
-pub fn number(rt: &impl Input) -> io::Result<u64>
-    ensures { IfOk result (λ value. value < 2 ^ 32) }
-{
-    let mut value = 0;
-    for _ in 0..MOST_DIGITS {
-        let byte = next(rt)?;
-        if byte < b'0' || b'9' < byte {
-            return Ok(value);
+pub fn number(rt: &impl Input) -> io::Result<u32> {
+    let mut value = 0u32;
+    for byte in rt.reader().bytes().take(MOST_DIGITS) {
+        let byte = byte?;
+        if !byte.is_ascii_digit() {
+            break;
         }
-        value = (10 * value + wide(byte - b'0')) % 4294967296;
+        value = value.wrapping_mul(10).wrapping_add(u32::from(byte - b'0'));
     }
     Ok(value)
+}
+
+// The next number, taken modulo 2¹⁶.
+pub fn number_u16(rt: &impl Input) -> io::Result<u16> {
+    Ok((number(rt)? % 65536) as u16)
 }
 
 // The next number, or `most` where that is less.
 pub fn number_within(rt: &impl Input, most: usize) -> io::Result<usize>
     ensures { IfOk result (λ value. (value ≤ most) × (value < 2 ^ 32)) }
 {
-    let value = number(rt)? as usize;
-    Ok(if value < most { value } else { most })
+    Ok(most.min(number(rt)? as usize))
 }
 
 // Prints the rest of the line.
 pub fn label(rt: &(impl Input + Print)) -> io::Result<()> {
-    for _ in 0..MOST_BYTES {
-        let byte = next(rt)?;
+    for byte in rt.reader().bytes().take(MOST_BYTES) {
+        let byte = byte?;
         if byte == 0 || byte == b'\n' {
-            return Ok(());
+            break;
         }
-        print_byte(rt, byte)?;
+        rt.write_all(&[byte])?;
     }
     Ok(())
-}
-
-// The next byte, or 0 at the end of the input.
-fn next(rt: &impl Input) -> io::Result<u8> {
-    let mut bytes = [0u8; 1];
-    read_full(rt, &mut bytes)?;
-    Ok(bytes[0])
-}
-
-fn wide(x: u8) -> u64
-    ensures { result < 256 }
-{
-    x as u64
 }

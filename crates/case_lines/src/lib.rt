@@ -1,4 +1,4 @@
-// What the programs of cases read and print. A line of standard input is a word, of which the first
+// What the programs of cases read. A line of standard input is a word, of which the first
 // letter counts, and what the program reads after it, each with one space before it:
 //
 //     HEADER    the length of a file, and its header: version, n, m, p, and three pairs of offset and
@@ -12,8 +12,7 @@
 
 mod bytes;
 mod input;
-mod output;
 
 pub use bytes::{put, read_header, read_numbers, read_study, read_table};
-pub use input::{label, number, number_within, word};
-pub use output::{print, text};
+pub use input::{each_line, label, number, number_u16, number_within};
+pub use streams::{Buffer, Response};

@@ -1,5 +1,5 @@
 -- Trips on their way along next links, node by node: those that wait at each node, and the volumes so far.
-use Rattle.std.specs.Prelude.{◌≡◌, ℕ, ◌+◌, ◌*◌, ◌^◌, ◌<◌, ◌≤◌, List, length, replicate, ◌≢◌, slice_index, slice_index_or, slice_set}
+use Rattle.std.specs.Prelude.{◌≡◌, ℕ, ◌+◌, ◌*◌, ◌^◌, ◌<◌, ◌≤◌, List, length, replicate, ◌≢◌, Option, None, MatchOption, slice_index, slice_index_or, slice_set}
 use Rattle.theory.specs.Finite.{sum, tabulate}
 use Rattle.theory.specs.Study.{head, no_link}
 use Rattle.loading.specs.Along.{walk_along, leaves}
@@ -61,15 +61,15 @@ pub record SentBelow (n : ℕ) (links : List (List ℕ)) (next : List ℕ) (k : 
   pub fewer : links_ahead n links next waiting + count ≤ links_ahead n links next waiting₀
   pub none_left : count ≡ 0 → (j : ℕ) → j < k → (slice_index next j ≢ no_link) → slice_index waiting j ≡ 0
 
--- Among the heads of next links, where there is none.
-abbrev pub no_head : ℕ
-no_head = 128
+-- The head of the next link of node k, if it has one.
+abbrev pub HeadOf : List (List ℕ) → List ℕ → ℕ → Option ℕ → Type 0
+HeadOf links next k found =
+    MatchOption found (slice_index next k ≡ no_link) (λ h. (slice_index next k ≢ no_link) × (h ≡ head links (slice_index next k)))
 
--- The heads of next links, of the nodes below k.
-pub record Heads (k : ℕ) (links : List (List ℕ)) (next heads : List ℕ) : Type 0 where
-  pub size : length heads ≡ 128
-  pub head_at : (j : ℕ) → j < k → (slice_index heads j ≢ no_head) → (slice_index next j ≢ no_link) × (slice_index heads j ≡ head links (slice_index next j))
+-- The heads of the next links of the nodes below n.
+abbrev pub HeadsBelow : ℕ → List (List ℕ) → List ℕ → List (Option ℕ) → Type 0
+HeadsBelow n links next heads = (k : ℕ) → k < n → HeadOf links next k (slice_index_or heads k None)
 
--- All of an order's 128 numbers are nodes, where there is a node.
-pub record Nodes (n : ℕ) (order : List ℕ) : Type 0 where
-  pub node : (i : ℕ) → i < 128 → 0 < n → slice_index order i < n
+-- The first numbers of a list are nodes of n.
+abbrev pub AllNodes : ℕ → ℕ → List ℕ → Type 0
+AllNodes n len order = (i : ℕ) → i < len → slice_index order i < n

@@ -10,119 +10,51 @@
 //     again                 takes the output as the file
 #![tactic(auto)]
 
-ghost use Rattle.std.specs.Prelude.{◌≡◌, ◌≤◌, length, IfOk, OnErr};
-
-use case_lines::{read_study, word};
+use case_lines::{Buffer, each_line, read_study};
 use std::io;
 
 mod report;
 mod row;
 
-// There are fewer lines than this.
-const MOST_LINES: usize = 1000;
+// Room for any file of the cases.
+type Bytes = Buffer<u8, 23288>;
 
-// How much of the file's and the output's memory is in use.
-#[derive(Clone, Copy)]
-struct Sizes {
-    file: usize,
-    output: usize,
+// What the lines before have left.
+#[derive(Drop)]
+struct Cases {
+    file: Bytes,
+    output: Bytes,
 }
 
 fn main(rt: HostRuntime) -> io::Result<()> {
-    let mut file_space = [0u8; 23288];
-    let mut output_space = [0u8; 23288];
-    let file: &mut [u8] = &mut file_space;
-    let output: &mut [u8] = &mut output_space;
-    run(&rt, file, output)
+    let mut cases = Cases {
+        file: Buffer::new(0),
+        output: Buffer::new(0),
+    };
+    each_line(&rt, |word| run_line(&rt, word, &mut cases))
 }
 
-fn run(rt: &(impl Input + Print), file: &mut [u8], output: &mut [u8]) -> io::Result<()>
-    ensures { OnErr result ((length file.new ≡ length file.old) × (length output.new ≡ length output.old)) }
-{
-    let mut sizes = Sizes { file: 0, output: 0 };
-    for _ in 0..MOST_LINES {
-        let word = word(rt)?;
-        if word == 0 {
-            return Ok(());
+fn run_line(rt: &(impl Input + Print), word: u8, cases: &mut Cases) -> io::Result<()> {
+    match word {
+        b'f' => read_file(rt, &mut cases.file),
+        b'r' => row::read(rt, &mut cases.file),
+        b'l' => row::read_link(rt, &mut cases.file),
+        b'p' => report::pack(rt, cases.file.as_slice(), &mut cases.output),
+        b's' => report::show(rt, cases.output.as_slice()),
+        b'a' => {
+            copy(&cases.output, &mut cases.file);
+            Ok(())
         }
-        sizes = run_line(rt, word, file, output, sizes)?;
+        _ => row::read_trips(rt, &mut cases.file),
     }
+}
+
+fn read_file(rt: &impl Input, file: &mut Bytes) -> io::Result<()> {
+    file.len = read_study(rt, &mut file.items)?;
     Ok(())
 }
 
-fn run_line(
-    rt: &(impl Input + Print),
-    word: u8,
-    file: &mut [u8],
-    output: &mut [u8],
-    sizes: Sizes,
-) -> io::Result<Sizes>
-    requires { (sizes.file ≤ length file.old) × (sizes.output ≤ length output.old) }
-    ensures ok { IfOk result (λ after. (after.file ≤ length file.old) × (after.output ≤ length output.old)) }
-    ensures err { OnErr result ((length file.new ≡ length file.old) × (length output.new ≡ length output.old)) }
-{
-    let size = sizes.file;
-    let room = sizes.output;
-    match word {
-        b'p' => {
-            let room = report::pack(rt, &file[..size], output)?;
-            Ok(Sizes {
-                file: size,
-                output: room,
-            })
-        }
-        b's' => {
-            report::show(rt, &output[..room])?;
-            Ok(sizes)
-        }
-        _ => {
-            let size = change(rt, word, file, size, &output[..room])?;
-            Ok(Sizes {
-                file: size,
-                output: room,
-            })
-        }
-    }
-}
-
-// Another file, or a change in the file. Answers the file's size.
-fn change(
-    rt: &impl Input,
-    word: u8,
-    file: &mut [u8],
-    size: usize,
-    output: &[u8],
-) -> io::Result<usize>
-    requires { size ≤ length file.old }
-    ensures ok { IfOk result (λ after. after ≤ length file.old) }
-    ensures err { OnErr result (length file.new ≡ length file.old) }
-{
-    match word {
-        b'f' => read_study(rt, file),
-        b'r' => row::read(rt, file),
-        b'a' => Ok(copy(output, file)),
-        b'l' => {
-            row::read_link(rt, file)?;
-            Ok(size)
-        }
-        _ => {
-            row::read_trips(rt, file)?;
-            Ok(size)
-        }
-    }
-}
-
-// Copies what fits, and answers how many bytes.
-fn copy(from: &[u8], to: &mut [u8]) -> usize
-    ensures { result ≤ length to.old }
-{
-    let mut i = 0;
-    while i < from.len() {
-        if to.len() <= i {
-            return i;
-        }
-        to[i] = from[i];
-        i += 1;
-    }
-    i
+fn copy(from: &Bytes, to: &mut Bytes) {
+    to.len = from.len;
+    to.as_mut_slice().copy_from_slice(from.as_slice());
 }

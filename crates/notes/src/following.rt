@@ -4,8 +4,7 @@ ghost use Rattle.theory.specs.Routes.{distance, is_some};
 ghost use Rattle.theory.specs.Study.{node_of, may_use};
 ghost use Rattle.notes.specs.Followed.{by_note, may_follow, is_settled, Readable, Settled, Origins, Traced, row_leads, Followed, note_follows, AllReadable, AllFollowed};
 
-use loading::index;
-use theory::{ACCESS_POWER, HEAD, NO_LINK, TAIL, node_of, of_lorries};
+use theory::{HEAD, NO_LINK, TAIL, may_use, node_of};
 
 // Whether trips of a commodity may go on from node j by link l: it is one of the node's own outgoing links, and permitted.
 fn may_follow(links: &[[u16; 6]], commodity: u16, j: usize, l: u16) -> bool
@@ -22,14 +21,11 @@ fn may_follow(links: &[[u16; 6]], commodity: u16, j: usize, l: u16) -> bool
     may_use(link, commodity)
 }
 
-// Whether a link may carry a commodity: lorries keep off barred links, and a link whose head is closed carries only flow to that head.
-fn may_use(link: [u16; 6], commodity: u16) -> bool
-    ensures { result ≡ may_use (link ∷ []) commodity 0 }
+// A number of 16 bits, as an index.
+fn index(x: u16) -> usize
+    ensures { result ≡ x }
 {
-    if of_lorries(commodity) && link[ACCESS_POWER] / 2 % 2 == 1 {
-        return false;
-    }
-    link[ACCESS_POWER] % 2 != 1 || index(link[HEAD]) == node_of(commodity)
+    x as usize
 }
 
 // Whether a walk need go no further than node j: it is the destination, or its next link is known already.

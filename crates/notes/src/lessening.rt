@@ -23,7 +23,7 @@ pub fn holds_part(
     let mut part = [0u32; 512];
     let mut k: usize = 0;
     while k < p {
-        if loading::any_trips(&volumes[k]) != 0 {
+        if loading::any_trips(&volumes[k]) {
             put_part(&mut part, nodes, m, &next[k], &volumes[k], j);
             let start = k * m;
             let end = start + m;
@@ -53,7 +53,7 @@ pub fn lessen(
     let mut part = [0u32; 512];
     let mut k: usize = 0;
     while k < p {
-        if loading::any_trips(&volumes[k]) != 0 {
+        if loading::any_trips(&volumes[k]) {
             put_part(&mut part, nodes, m, &next[k], &volumes[k], j);
             let start = k * m;
             let end = start + m;

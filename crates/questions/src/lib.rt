@@ -2,7 +2,6 @@
 // and its share. Nothing here knows of a file.
 #![tactic(auto)]
 
-mod access;
 mod fields;
 mod marks;
 mod numbers;

@@ -7,10 +7,9 @@ ghost use Rattle.calls.specs.Questions.{ends_fit, trips_reach};
 ghost use Rattle.questions.specs.Sized.{Sized, ToNodes, OneClass};
 ghost use Rattle.questions.specs.Reach.{AllOpen, all_marked, row, row_place, Room, NoMarks, Marks, Tails, tails_into, Closure, Rows, whole_row, all_reached, next_node, Filled, Reached};
 
-use crate::access::barred_to;
 use crate::marks::{NO_NODE, both, is_marked, lowest_unvisited, nodes_below, only_node, shared};
 use crate::numbers::node;
-use theory::{ACCESS_POWER, HEAD, TAIL};
+use theory::{ACCESS_POWER, HEAD, TAIL, barred_to};
 
 // 11. Does every node with trips to s have a path to s, of cars and of lorries? The first so many commodities are of cars, and the others, if there
 // are any, of lorries. `all_open` may be true where no link has a closed head: the search is then faster.

@@ -7,8 +7,7 @@ ghost use Rattle.calls.specs.Questions.{share_fits, share_questions};
 ghost use Rattle.travel.specs.Links.{table_totals};
 ghost use Rattle.questions.specs.Rows.{rows_conserve, link_permits, rows_permit, TableFits};
 
-use crate::access::may_use;
-use theory::ACCESS_POWER;
+use theory::{ACCESS_POWER, may_use};
 
 // The number of the first of questions 14, 15, 16, 20 that refuses, or 0. `total` is T. Where none refuses, the links' totals stand in `totals`,
 // which is lent with zeros.

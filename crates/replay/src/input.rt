@@ -1,162 +1,122 @@
-// What a stream holds: little-endian numbers, and lengths with the bytes or numbers after them. At
-// the end of the input a number is 0.
-ghost use Rattle.std.specs.Prelude.{◌+◌, ◌*◌, ◌≤◌, ◌<◌, length, ◌≡◌, IfOk, OnErr};
+// What a stream holds: little-endian numbers, and lengths with the numbers after them.
+ghost use Rattle.std.specs.Prelude.{◌≡◌, ◌≤◌, length, OnErr};
+ghost use Rattle.std.proofs.Common.{lit≤};
 
+use crate::call::{Call, Kind, Lent};
 use std::io;
-use streams::read_full;
+use streams::{Buffer, read_full};
 
 // A length that stands for what was left.
 const SAME: u32 = 4294967295;
 
-// How much was read.
-#[derive(Drop)]
-pub struct Read {
-    pub count: usize,
-    // Not where the stream ends before that, or holds more than fits.
-    pub whole: bool,
+// So many numbers are read at a time.
+const MOST_AT_A_TIME: usize = 1024;
+
+// A number that a stream holds as SIZE bytes.
+trait Encoded<const SIZE: usize>: Copy {
+    fn decode(bytes: [u8; SIZE]) -> Self;
+
+    // An array of the bytes fits memory.
+    ghost is_short: { SIZE ≤ 8 };
 }
 
-pub fn byte(rt: &impl Input) -> io::Result<u8> {
-    let mut bytes = [0u8; 1];
-    read_full(rt, &mut bytes)?;
-    Ok(bytes[0])
-}
+impl Encoded<1> for u8 {
+    ghost is_short = { lit≤ tt };
 
-pub fn half(rt: &impl Input) -> io::Result<u16> {
-    let mut bytes = [0u8; 2];
-    read_full(rt, &mut bytes)?;
-    Ok(half_at(&bytes, 0))
-}
-
-pub fn word(rt: &impl Input) -> io::Result<u32> {
-    let mut bytes = [0u8; 4];
-    read_full(rt, &mut bytes)?;
-    Ok(word_at(&bytes, 0))
-}
-
-// A length and its bytes, put at the start of `bytes`, of which `kept` were left.
-pub fn read_bytes(rt: &impl Input, bytes: &mut [u8], kept: usize) -> io::Result<Read>
-    requires { kept ≤ length bytes.old }
-    ensures ok { IfOk result (λ read. read.count ≤ length bytes.old) }
-    ensures err { OnErr result (length bytes.new ≡ length bytes.old) }
-{
-    let n = word(rt)?;
-    if n == SAME {
-        return Ok(as_left(kept));
+    fn decode(bytes: [u8; 1]) -> u8 {
+        u8::from_le_bytes(bytes)
     }
-    let count = n as usize;
-    if bytes.len() < count {
-        return Ok(missing());
-    }
-    let whole = fill(rt, bytes, count)?;
-    Ok(Read { count, whole })
 }
 
-// A length and its numbers, put at the start of `table`, of which `kept` were left.
-pub fn read_numbers(
+impl Encoded<2> for u16 {
+    ghost is_short = { lit≤ tt };
+
+    fn decode(bytes: [u8; 2]) -> u16 {
+        u16::from_le_bytes(bytes)
+    }
+}
+
+impl Encoded<4> for u32 {
+    ghost is_short = { lit≤ tt };
+
+    fn decode(bytes: [u8; 4]) -> u32 {
+        u32::from_le_bytes(bytes)
+    }
+}
+
+// The next call of the stream, and what it is lent; none where the stream ends.
+pub fn read_call(rt: &impl Input, lent: &mut Lent) -> io::Result<Option<Call>> {
+    let byte = read_number::<u8, 1>(rt)?;
+    let Ok(kind) = Kind::try_from(byte) else {
+        return Ok(None);
+    };
+    if read_lent(rt, kind, lent)? {
+        Ok(Some(read_numbers(rt, kind)?))
+    } else {
+        Ok(None)
+    }
+}
+
+// Reads what a call of this kind is lent. Answers whether the stream has it whole.
+fn read_lent(rt: &impl Input, kind: Kind, lent: &mut Lent) -> io::Result<bool> {
+    lent.output.len = 0;
+    Ok(
+        read_part(rt, &mut lent.file)?
+            && (!kind.takes_table() || read_part(rt, &mut lent.table)?)
+            && (!kind.takes_note() || read_part(rt, &mut lent.note)?)
+            && (!kind.takes_output() || read_part(rt, &mut lent.output)?),
+    )
+}
+
+// The numbers at a call's end.
+fn read_numbers(rt: &impl Input, kind: Kind) -> io::Result<Call> {
+    let share = read_number::<u32, 4>(rt)?;
+    let budget = read_number::<u32, 4>(rt)?;
+    let excess = read_number::<u16, 2>(rt)?;
+    Ok(Call {
+        kind,
+        share,
+        budget,
+        excess,
+    })
+}
+
+// A length and its numbers, each made of SIZE bytes. Answers whether the stream has them all, and they fit.
+fn read_part<T: Encoded<SIZE>, const N: usize, const SIZE: usize>(
     rt: &impl Input,
-    table: &mut [u32],
-    bytes: &mut [u8],
-    kept: usize,
-) -> io::Result<Read>
-    requires { (kept ≤ length table.old) × (4 * length table.old ≤ length bytes.old) }
-    ensures ok { IfOk result (λ read. read.count ≤ length table.old) }
-    ensures err { OnErr result ((table.new ≡ table.old) × (length bytes.new ≡ length bytes.old)) }
-{
-    let n = word(rt)?;
-    if n == SAME {
-        return Ok(as_left(kept));
-    }
-    let count = n as usize;
-    if table.len() < count {
-        return Ok(missing());
-    }
-    let whole = fill(rt, bytes, 4 * count)?;
-    decode(bytes, table, count);
-    Ok(Read { count, whole })
-}
-
-// The same of numbers of 16 bits.
-pub fn read_halves(
-    rt: &impl Input,
-    note: &mut [u16],
-    bytes: &mut [u8],
-    kept: usize,
-) -> io::Result<Read>
-    requires { (kept ≤ length note.old) × (2 * length note.old ≤ length bytes.old) }
-    ensures ok { IfOk result (λ read. read.count ≤ length note.old) }
-    ensures err { OnErr result ((note.new ≡ note.old) × (length bytes.new ≡ length bytes.old)) }
-{
-    let n = word(rt)?;
-    if n == SAME {
-        return Ok(as_left(kept));
-    }
-    let count = n as usize;
-    if note.len() < count {
-        return Ok(missing());
-    }
-    let whole = fill(rt, bytes, 2 * count)?;
-    decode_halves(bytes, note, count);
-    Ok(Read { count, whole })
-}
-
-// What was left, with nothing read.
-pub fn as_left(count: usize) -> Read
-    ensures { result.count ≡ count }
-{
-    Read { count, whole: true }
-}
-
-fn missing() -> Read
-    ensures { result.count ≡ 0 }
-{
-    Read {
-        count: 0,
-        whole: false,
+    part: &mut Buffer<T, N>,
+) -> io::Result<bool> {
+    match read_number::<u32, 4>(rt)? {
+        SAME => Ok(true),
+        len if len as usize <= N => {
+            part.len = len as usize;
+            fill(rt, part.as_mut_slice())
+        }
+        _ => Ok(false),
     }
 }
 
-// Reads into the first `size` bytes. Answers whether the stream has as many.
-fn fill(rt: &impl Input, bytes: &mut [u8], size: usize) -> io::Result<bool>
-    requires { size ≤ length bytes.old }
-    ensures { OnErr result (length bytes.new ≡ length bytes.old) }
+// Answers whether the stream has as many numbers.
+fn fill<T: Encoded<SIZE>, const SIZE: usize>(rt: &impl Input, numbers: &mut [T]) -> io::Result<bool>
+    ensures { OnErr result (length numbers.new ≡ length numbers.old) }
 {
-    let got = read_full(rt, &mut bytes[..size])?;
-    Ok(got == size)
-}
-
-fn decode(bytes: &[u8], table: &mut [u32], count: usize)
-    requires { (count ≤ length table.old) × (4 * count ≤ length bytes.now) }
-{
-    for i in 0..count {
-        table[i] = word_at(bytes, 4 * i);
+    let mut chunk = [[0u8; SIZE]; MOST_AT_A_TIME];
+    for part in numbers.chunks_mut(MOST_AT_A_TIME) {
+        let encoded = &mut chunk[..part.len()];
+        let bytes = encoded.as_flattened_mut();
+        if read_full(rt, bytes)? < bytes.len() {
+            return Ok(false);
+        }
+        for (number, bytes) in part.iter_mut().zip(encoded) {
+            *number = T::decode(*bytes);
+        }
     }
+    Ok(true)
 }
 
-fn decode_halves(bytes: &[u8], note: &mut [u16], count: usize)
-    requires { (count ≤ length note.old) × (2 * count ≤ length bytes.now) }
-{
-    for i in 0..count {
-        note[i] = half_at(bytes, 2 * i);
-    }
-}
-
-fn word_at(bytes: &[u8], at: usize) -> u32
-    requires { at + 4 ≤ length bytes.now }
-{
-    let low = wide(bytes[at]) + 256 * wide(bytes[at + 1]);
-    let high = wide(bytes[at + 2]) + 256 * wide(bytes[at + 3]);
-    low + 65536 * high
-}
-
-fn half_at(bytes: &[u8], at: usize) -> u16
-    requires { at + 2 ≤ length bytes.now }
-{
-    (wide(bytes[at]) + 256 * wide(bytes[at + 1])) as u16
-}
-
-fn wide(byte: u8) -> u32
-    ensures { result < 256 }
-{
-    byte as u32
+// The next number, of SIZE bytes. Where the stream ends before that, the bytes that are not there are 0.
+fn read_number<T: Encoded<SIZE>, const SIZE: usize>(rt: &impl Input) -> io::Result<T> {
+    let mut bytes = [0u8; SIZE];
+    read_full(rt, &mut bytes)?;
+    Ok(T::decode(bytes))
 }

@@ -4,24 +4,14 @@ use std::io;
 
 pub fn print(
     rt: &impl Print,
-    name: &[u8],
+    name: &str,
     refusal: u8,
     numbers: &[u64],
     digest: u64,
 ) -> io::Result<()> {
-    rt.write_all(name)?;
-    number(rt, refusal as u64)?;
-    each(rt, numbers)?;
-    println!(rt; " {digest:016x}")
-}
-
-fn each(rt: &impl Print, numbers: &[u64]) -> io::Result<()> {
-    for i in 0..numbers.len() {
-        number(rt, numbers[i])?;
+    print!(rt; "{name} {refusal}")?;
+    for number in numbers {
+        print!(rt; " {number}")?;
     }
-    Ok(())
-}
-
-fn number(rt: &impl Print, n: u64) -> io::Result<()> {
-    print!(rt; " {n}")
+    println!(rt; " {digest:016x}")
 }

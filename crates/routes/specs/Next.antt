@@ -1,7 +1,7 @@
 -- A node's next link for one commodity, which is called a destination: the first fitting link. Of the links with an open head it is found along the
 -- chain of the links out of the node, which are looked at first by the last 16 bits of times and marks, for eight destinations side by side. The links
 -- into a closed destination are walked along by themselves. A link that the commodity's class is barred from is in neither chain, and never fits.
-use Rattle.std.specs.Prelude.{◌≡◌, ℕ, ◌+◌, ◌%◌, ◌<◌, min, Bool, false, not, ◌&&◌, ◌||◌, List, [], length, ◌==◌, ◌≢◌, nat_lt, slice_index, slice_index_or}
+use Rattle.std.specs.Prelude.{◌≡◌, ℕ, ◌+◌, ◌%◌, ◌<◌, Bool, false, not, ◌&&◌, ◌||◌, List, [], length, ◌==◌, ◌≢◌, nat_lt, slice_index, slice_index_or}
 use Rattle.theory.specs.Finite.{first}
 use Rattle.theory.specs.Laws.Filled.{Filled}
 use Rattle.theory.specs.Routes.{distances, fits_next}
@@ -70,11 +70,6 @@ pub record EachCandidate (lorries : Bool) (links : List (List ℕ)) (times : Lis
 -- The links kept for the destinations of a group, when the walk is over.
 abbrev pub Candidates : Bool → List (List ℕ) → List ℕ → List (List ℕ) → ℕ → List ℕ → Type 0
 Candidates lorries links times lows j row = (i : ℕ) → i < 8 → RuledOut lorries links times lows j i (slice_index row i)
-
--- Of two links the lower one is kept where what link l gives is the node's own, and otherwise the one that was there.
-pub record Lowered (old given own l r : ℕ) : Type 0 where
-  pub took : given ≡ own → r ≡ min old l
-  pub stays : (given ≢ own) → r ≡ old
 
 -- The walk along the links into destination s, where that is closed, is at link l: the row has for each node the first fitting link of those whose
 -- head is open or that are below l.

@@ -1,5 +1,5 @@
 -- Next links kept by destination and by node.
-use Rattle.std.specs.Prelude.{◌≡◌, ℕ, ◌-◌, ◌/◌, ◌%◌, ◌<◌, ◌≤◌, min, ◌⊎◌, List, [], ◌++◌, map, length, set, replicate, slice_index, slice_index_or, slice_set}
+use Rattle.std.specs.Prelude.{◌≡◌, ℕ, ◌-◌, ◌/◌, ◌%◌, ◌<◌, ◌≤◌, min, ◌⊎◌, Bool, true, false, not, List, [], ◌++◌, map, length, replicate, slice_index, slice_index_or}
 use Rattle.theory.specs.Routes.{Routing, next_links}
 use Rattle.theory.specs.Study.{no_link, link_mark}
 use Rattle.theory.specs.Laws.Filled.{Filled}
@@ -44,52 +44,42 @@ pub record RowsPut (Put : ℕ → List ℕ → Type 0) (table₀ : List (List �
   pub put : (q : ℕ) → first ≤ q → q < k → Put q (slice_index_or table q [])
   pub rest : (q : ℕ) → (first ≤ q → q < k → ⊥) → slice_index_or table q [] ≡ slice_index_or table₀ q []
 
--- The rows of the groups before the one that begins with `first`, of p destinations, are as `Put` says, and the others are as they were.
-pub record GroupsPut (Put : ℕ → List ℕ → Type 0) (table₀ : List (List ℕ)) (p first : ℕ) (table : List (List ℕ)) : Type 0 where
+-- Somebody goes to the group of eight that destination k is in, or, where `used` is false, nobody does.
+abbrev pub GroupChosen : Bool → ℕ → List ℕ → List ℕ → ℕ → Type 0
+GroupChosen true nodes destinations trips k = GroupUnused nodes destinations trips k → ⊥
+GroupChosen false nodes destinations trips k = GroupUnused nodes destinations trips k
+
+-- The next links to destination k, or what the row was before where its group is not chosen.
+abbrev pub RowChosen : ℕ → List (List ℕ) → List ℕ → List ℕ → List ℕ → Bool → List (List ℕ) → ℕ → List ℕ → Type 0
+RowChosen nodes links destinations trips times used table₀ k row =
+    FullRow nodes links destinations times k row ⊎ ((row ≡ slice_index_or table₀ k []) × GroupChosen (not used) nodes destinations trips k)
+
+-- The same for the destinations of the groups before the one that begins with `first`, and the other rows are as they were.
+pub record ChosenBelow (nodes : ℕ) (links : List (List ℕ)) (destinations trips times : List ℕ) (used : Bool) (table₀ : List (List ℕ)) (first : ℕ)
+    (table : List (List ℕ)) : Type 0 where
   pub begins : first % 8 ≡ 0
-  pub rows : RowsPut Put table₀ 0 (min first p) table
+  pub rows : RowsPut (RowChosen nodes links destinations trips times used table₀) table₀ 0 (min first (length destinations)) table
 
--- Those rows are next links, or have no link where nobody goes to their group.
-abbrev pub NextsBelow : ℕ → List (List ℕ) → List ℕ → List ℕ → List ℕ → List (List ℕ) → ℕ → List (List ℕ) → Type 0
-NextsBelow nodes links destinations trips times table₀ first table =
-    GroupsPut (NextRow nodes links destinations trips times) table₀ (length destinations) first table
+-- The same for each destination.
+abbrev pub EachChosen : ℕ → List (List ℕ) → List ℕ → List ℕ → List ℕ → Bool → List (List ℕ) → List (List ℕ) → Type 0
+EachChosen nodes links destinations trips times used table₀ table =
+    (k : ℕ) → k < length destinations → RowChosen nodes links destinations trips times used table₀ k (slice_index_or table k [])
 
--- They all are next links.
-abbrev pub AllBelow : ℕ → List (List ℕ) → List ℕ → List ℕ → List (List ℕ) → ℕ → List (List ℕ) → Type 0
-AllBelow nodes links destinations times table₀ first table = GroupsPut (FullRow nodes links destinations times) table₀ (length destinations) first table
+-- The rows are the next links to the destinations of a list.
+abbrev pub NextsTo : ℕ → List (List ℕ) → List ℕ → List ℕ → List (List ℕ) → Type 0
+NextsTo nodes links destinations times rows = (k : ℕ) → k < length rows → FullRow nodes links destinations times k (slice_index_or rows k [])
 
--- The rows from `first` on and below k have no link.
-abbrev pub RowsEmpty : ℕ → ℕ → List (List ℕ) → Type 0
-RowsEmpty first k table = (q : ℕ) → first ≤ q → q < k → slice_index_or table q [] ≡ no_links
+-- A row has the first fitting links with open heads of the nodes.
+abbrev pub OpenRow : ℕ → List (List ℕ) → List ℕ → ℕ → List ℕ → Type 0
+OpenRow nodes links times s row = Filled (first_open nodes links times s) no_link 128 nodes row
 
--- They are set to no link.
-abbrev pub RowsCleared : List (List ℕ) → ℕ → ℕ → List (List ℕ) → Type 0
-RowsCleared table₀ first k table = RowsPut (λ q row. row ≡ no_links) table₀ first k table
+-- A row of 128 links has those of the nodes below j, and no link past the nodes.
+pub record OpenBelow (nodes : ℕ) (links : List (List ℕ)) (times : List ℕ) (s j : ℕ) (row : List ℕ) : Type 0 where
+  pub long : length row ≡ 128
+  pub front : (i : ℕ) → i < j → slice_index_or row i no_link ≡ first_open nodes links times s i
+  pub rest : (i : ℕ) → nodes ≤ i → i < 128 → slice_index_or row i no_link ≡ no_link
 
--- The first fitting links of node j with open heads are written, for the destinations of a group from `first` on and below k.
-abbrev pub NodePut : ℕ → List (List ℕ) → List ℕ → List ℕ → ℕ → List (List ℕ) → ℕ → ℕ → List (List ℕ) → Type 0
-NodePut nodes links times group j table₀ first k table =
-    RowsPut (λ q row. row ≡ slice_set (slice_index_or table₀ q []) j (first_open nodes links times (slice_index group (q - first)) j)) table₀ first k table
-
--- A row has the first fitting links with open heads of the nodes below j.
-abbrev pub OpenRow : ℕ → List (List ℕ) → List ℕ → ℕ → ℕ → List ℕ → Type 0
-OpenRow nodes links times s j row = Filled (first_open nodes links times s) no_link 128 j row
-
--- Those of the nodes below j are written.
-abbrev pub OpenPut : ℕ → List (List ℕ) → List ℕ → List ℕ → ℕ → List (List ℕ) → ℕ → ℕ → List (List ℕ) → Type 0
-OpenPut nodes links times group j table₀ first k table =
-    RowsPut (λ q row. OpenRow nodes links times (slice_index group (q - first)) j row) table₀ first k table
-
--- The rows from `first` on and below k have those of all nodes.
-abbrev pub RowsOpen : ℕ → List (List ℕ) → List ℕ → List ℕ → ℕ → ℕ → List (List ℕ) → Type 0
-RowsOpen nodes links times group first k table =
-    (q : ℕ) → first ≤ q → q < k → OpenRow nodes links times (slice_index group (q - first)) nodes (slice_index_or table q [])
-
--- The next links of all nodes to these destinations are written.
-abbrev pub GroupPut : ℕ → List (List ℕ) → List ℕ → List ℕ → List (List ℕ) → ℕ → ℕ → List (List ℕ) → Type 0
-GroupPut nodes links times group table₀ first k table =
-    RowsPut (λ q row. row ≡ link_marks (routing_from nodes links times (slice_index group (q - first)))) table₀ first k table
-
--- The next links to the destinations from `first` on and below k are written.
-abbrev pub NextsPut : ℕ → List (List ℕ) → List ℕ → List ℕ → List (List ℕ) → ℕ → ℕ → List (List ℕ) → Type 0
-NextsPut nodes links destinations times table₀ first k table = RowsPut (FullRow nodes links destinations times) table₀ first k table
+-- Rows of 128 links have none past the nodes.
+pub record RowsEnd (nodes : ℕ) (rows : List (List ℕ)) : Type 0 where
+  pub long : (k : ℕ) → k < length rows → length (slice_index_or rows k []) ≡ 128
+  pub rest : (k : ℕ) → k < length rows → (i : ℕ) → nodes ≤ i → i < 128 → slice_index_or (slice_index_or rows k []) i no_link ≡ no_link

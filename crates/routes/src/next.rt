@@ -1,48 +1,34 @@
 // Next links, found from the least times for eight commodities side by side, which are the destinations of a group.
-ghost use Rattle.std.specs.Prelude.{◌≡◌, ℕ, ◌+◌, ◌*◌, ◌%◌, ◌<◌, ◌≤◌, min, length, slice_index};
-ghost use Rattle.search.specs.Search.{routing_from};
+ghost use Rattle.std.specs.Prelude.{◌≡◌, ℕ, ◌*◌, ◌%◌, ◌<◌, ◌≤◌, Bool, length, slice_index, slice_index_or};
 ghost use Rattle.search.specs.Given.{AllSearchable, class_of};
-ghost use Rattle.search.specs.Chains.{Chainable, Linked, chain_of};
-ghost use Rattle.search.specs.Lanes.{EachSearchable, Found};
-ghost use Rattle.routes.specs.Next.{first_open, Unfit, Lows, Kept, RowKept, Candidates, Lowered};
-ghost use Rattle.routes.specs.Table.{link_marks, Nexts, AllNexts, RowsEmpty, RowsCleared, NodePut, OpenRow, OpenPut, RowsOpen, GroupPut, NextsPut};
+ghost use Rattle.search.specs.Chains.{Linked, chain_of};
+ghost use Rattle.search.specs.Lanes.{Found};
+ghost use Rattle.routes.specs.Next.{Kept, RowKept};
+ghost use Rattle.routes.specs.Table.{Nexts, AllNexts, NextsTo, RowsEnd, EachChosen};
 
-use search::{INTO, OUT, group_end, group_of, group_trips, index, search};
+use search::{INTO, OUT, Search, any_trips, group_end, group_of};
 use theory::{HEAD, NO_LINK, TAIL, node_of};
 
-// The last 16 bits of a number.
+// The last 16 bits of a number. No conversion of the library leaves out the others.
 fn low(x: u32) -> u16
     ensures { result ≡ x % 65536 }
 {
     (x % 65536) as u16
 }
 
-// The last 16 bits of the marks of the nodes.
-fn put_lows(lows: &mut [[u16; 8]; 128], nodes: usize, marks: &[[u32; 8]; 128])
-    requires { (nodes ≤ 128) × (length lows.old ≡ 128) }
-    ensures { Lows nodes marks.now lows.new }
-{
-    let mut j: usize = 0;
-    while j < nodes {
-        lows[j] = low_row(marks[j]);
-        j += 1;
-    }
-}
-
 // The last 16 bits of eight marks.
 fn low_row(row: [u32; 8]) -> [u16; 8]
     ensures { (i : ℕ) → i < 8 → slice_index result i ≡ slice_index row i % 65536 }
 {
-    let mut lows = [0u16; 8];
-    let mut k: usize = 0;
-    while k < 8 {
+    let mut lows = [0; 8];
+    for k in 0..8 {
         lows[k] = low(row[k]);
-        k += 1;
     }
     lows
 }
 
-// The link that is there already, or else link l where what it gives is the node's own.
+// The link that is there already, or else link l where what it gives is the node's own. No link is a number here: eight are looked at side by side, in
+// fixed memory.
 fn keep(old: u16, given: u16, own: u16, l: u16) -> u16
     ensures { Kept old given own l result }
 {
@@ -57,251 +43,178 @@ fn keep_row(row: &mut [u16; 8], own: [u16; 8], ahead: [u16; 8], time: u16, l: u1
     requires { length row.old ≡ 8 }
     ensures { RowKept own ahead time l row.old 8 row.new }
 {
-    let mut k: usize = 0;
-    while k < 8 {
-        row[k] = keep(
-            row[k],
-            std::num::wrapping_add_u16(ahead[k], time),
-            own[k],
-            l,
-        );
-        k += 1;
+    for k in 0..8 {
+        row[k] = keep(row[k], ahead[k].wrapping_add(time), own[k], l);
     }
 }
 
-// For each destination of a group the first link out of node j, of those with an open head, that the last 16 bits of times and marks do not rule
-// out: no such link before it fits. All eight are looked at side by side, without a branch. The chains are those of the group's class, and the group
-// is given only to say so.
-fn candidates(
-    links: &[[u16; 6]],
-    times: &[u32; 512],
-    group: &[u16; 8],
-    out: &[u16; 896],
-    lows: &[[u16; 8]; 128],
-    j: usize,
-) -> [u16; 8]
-    requires { Chainable links.now × (out.now ≡ chain_of (class_of group.now) links.now 0) × (j < 128) }
-    ensures { Candidates (class_of group.now) links.now times.now lows.now j result }
-{
-    let own = lows[j];
-    let mut row = [NO_LINK; 8];
-    let mut l = out[j];
-    while l != NO_LINK {
-        let i = index(l);
-        let ahead = lows[index(links[i][HEAD])];
-        keep_row(&mut row, own, ahead, low(times[i]), l);
-        l = out[384 + i];
-    }
-    row
+// A search whose marks are found: the least times to the destinations of its group. The chains of the links out of each node are at hand too.
+#[derive(Clone, Copy)]
+struct Routes<'a, 'm> {
+    search: Search<'a>,
+    out: &'a [u16; 896],
+    marks: &'m [[u32; 8]; 128],
+    ghost found: { Found search.nodes search.links.now search.times.now search.group marks.now },
+    ghost chained: { out.now ≡ chain_of (class_of search.group) search.links.now 0 },
 }
 
-// The next link of node j to destination k of a group, of those with an open head: the first link out of it whose time plus its head's distance
-// equals its own distance. No such link before `from` does. The marks are the least times to the destinations of the group.
-fn next_link(
-    nodes: usize,
-    links: &[[u16; 6]],
-    times: &[u32; 512],
-    group: &[u16; 8],
-    out: &[u16; 896],
-    marks: &[[u32; 8]; 128],
-    j: usize,
-    k: usize,
-    from: u16,
-) -> u16
-    requires each_searchable { EachSearchable nodes links.now times.now group.now × Found nodes links.now times.now group.now marks.now }
-    requires out_value { (out.now ≡ chain_of (class_of group.now) links.now 0) × (j < nodes) × (k < 8) × Unfit nodes links.now times.now (slice_index group.now k) j from }
-    ensures { result ≡ first_open nodes links.now times.now (slice_index group.now k) j }
-{
-    let own = marks[j][k];
-    let mut l = from;
-    while l != NO_LINK {
-        let i = index(l);
-        if marks[index(links[i][HEAD])][k] + times[i] == own {
-            break;
+impl Routes<'_, '_> {
+    ghost use Rattle.routes.specs.Routes.{LowMarks, CandidatesOf, UnfitBefore, open_link, NodePut, RowOpen, RowsOpen, RowRouted, RowsRouted};
+
+    // The last 16 bits of the marks of the nodes.
+    fn put_lows(&self, lows: &mut [[u16; 8]; 128])
+        requires { length lows.old ≡ 128 }
+        ensures { LowMarks self.now lows.new }
+    {
+        let marks = self.marks;
+        for (j, row) in marks[..self.search.nodes].iter().enumerate() {
+            lows[j] = low_row(*row);
         }
-        l = out[384 + i];
     }
-    l
+
+    // For each destination of the group the first link out of node j, of those with an open head, that the last 16 bits of times and marks do not rule
+    // out: no such link before it fits. All eight are looked at side by side, without a branch.
+    fn candidates(&self, lows: &[[u16; 8]; 128], j: usize) -> [u16; 8]
+        requires { j < 128 }
+        ensures { CandidatesOf self.now lows.now j result }
+    {
+        let own = lows[j];
+        let mut row = [NO_LINK; 8];
+        // A walk along a chain counts no index.
+        let mut l = self.out[j];
+        while l != NO_LINK {
+            let i = usize::from(l);
+            let ahead = lows[usize::from(self.search.links[i][HEAD])];
+            keep_row(&mut row, own, ahead, low(self.search.times[i]), l);
+            l = self.out[384 + i];
+        }
+        row
+    }
+
+    // The next link of node j to destination k of the group, of those with an open head: the first link out of it whose time plus its head's distance
+    // equals its own distance. No such link before `from` does.
+    fn next_link(&self, j: usize, k: usize, from: u16) -> u16
+        requires { (j < self.now.search.nodes) × (k < 8) × UnfitBefore self.now k j from }
+        ensures { result ≡ open_link self.now k j }
+    {
+        let own = self.marks[j][k];
+        // A walk along a chain counts no index.
+        let mut l = from;
+        while l != NO_LINK {
+            let i = usize::from(l);
+            let head = usize::from(self.search.links[i][HEAD]);
+            let given = self.marks[head][k] + self.search.times[i];
+            if given == own {
+                break;
+            }
+            l = self.out[384 + i];
+        }
+        l
+    }
+
+    // Writes the next links of node j to the destinations of the group, of the links with an open head: a row for each destination.
+    fn put_node(&self, rows: &mut [[u16; 128]], lows: &[[u16; 8]; 128], j: usize)
+        requires { LowMarks self.now lows.now × (j < self.now.search.nodes) × (length rows.old ≤ 8) }
+        ensures { NodePut self.now j rows.old (length rows.old) rows.new }
+    {
+        let from = self.candidates(lows, j);
+        for (k, row) in rows.iter_mut().enumerate() {
+            row[j] = self.next_link(j, k, from[k]);
+        }
+    }
+
+    // Writes the next links of all nodes to the destinations of the group, of the links with an open head.
+    fn put_open(&self, rows: &mut [[u16; 128]])
+        requires { RowsEnd self.now.search.nodes rows.old × (length rows.old ≤ 8) }
+        ensures { RowsOpen self.now rows.new }
+    {
+        let mut lows = [[0; 8]; 128];
+        self.put_lows(&mut lows);
+        for j in 0..self.search.nodes {
+            self.put_node(rows, &lows, j);
+        }
+    }
+
+    // Writes the links into destination k of the group, where that is closed: each that fits as its tail's next link and is below the one there.
+    fn put_own(&self, row: &mut [u16; 128], k: usize)
+        requires { (k < 8) × RowOpen self.now k row.old }
+        ensures { RowRouted self.now k row.new }
+    {
+        // A walk along a chain counts no index.
+        let mut l = self.search.into[128 + node_of(self.search.group[k])];
+        while l != NO_LINK {
+            let i = usize::from(l);
+            let j = usize::from(self.search.links[i][TAIL]);
+            let head = usize::from(self.search.links[i][HEAD]);
+            let given = self.marks[head][k] + self.search.times[i];
+            if given == self.marks[j][k] {
+                row[j] = row[j].min(l);
+            }
+            l = self.search.into[384 + i];
+        }
+    }
+
+    // Writes the links into those destinations of the group that are closed, beside the links with an open head.
+    fn put_closed(&self, rows: &mut [[u16; 128]])
+        requires { RowsOpen self.now rows.old × (length rows.old ≤ 8) }
+        ensures { RowsRouted self.now rows.new }
+    {
+        for (k, row) in rows.iter_mut().enumerate() {
+            self.put_own(row, k);
+        }
+    }
 }
 
-// Writes the next links of node j to the destinations of a group, of the links with an open head.
-fn put_node(
-    table: &mut [[u16; 128]],
-    first: usize,
-    past: usize,
+// What next links are found over: a network with the trips on it, the times of its links, and their chains.
+#[derive(Clone, Copy)]
+struct Network<'a> {
     nodes: usize,
-    links: &[[u16; 6]],
-    times: &[u32; 512],
-    group: &[u16; 8],
-    out: &[u16; 896],
-    marks: &[[u32; 8]; 128],
-    lows: &[[u16; 8]; 128],
-    j: usize,
-)
-    requires each_searchable { EachSearchable nodes links.now times.now group.now × Found nodes links.now times.now group.now marks.now }
-    requires out_value { (out.now ≡ chain_of (class_of group.now) links.now 0) × Lows nodes marks.now lows.now × (j < nodes) }
-    requires first_le_past { (first ≤ past) × (past ≤ first + 8) × (past ≤ 32) × (past ≤ length table.old) }
-    ensures { NodePut nodes links.now times.now group.now j table.old first past table.new }
-{
-    let row = candidates(links, times, group, out, lows, j);
-    let mut k = first;
-    while k < past {
-        let i = k - first;
-        table[k][j] = next_link(nodes, links, times, group, out, marks, j, i, row[i]);
-        k += 1;
-    }
+    links: &'a [[u16; 6]],
+    destinations: &'a [u16],
+    trips: &'a [u16],
+    times: &'a [u32; 512],
+    chains: &'a [[u16; 896]],
+    ghost all_searchable: { AllSearchable nodes links.now destinations.now times.now × Linked (class_of destinations.now) links.now chains.now },
+    ghost trips_len: { length trips.now ≡ length destinations.now * nodes },
 }
 
-// Writes the next links of all nodes to the destinations of a group, which are those from `first` on and below `past`, of the links with an open
-// head.
-fn put_group(
-    table: &mut [[u16; 128]],
-    first: usize,
-    past: usize,
-    nodes: usize,
-    links: &[[u16; 6]],
-    times: &[u32; 512],
-    group: &[u16; 8],
-    out: &[u16; 896],
-    marks: &[[u32; 8]; 128],
-)
-    requires each_searchable { EachSearchable nodes links.now times.now group.now × Found nodes links.now times.now group.now marks.now }
-    requires out_value { (out.now ≡ chain_of (class_of group.now) links.now 0) × RowsEmpty first past table.old }
-    requires first_le_past { (first ≤ past) × (past ≤ first + 8) × (past ≤ 32) × (past ≤ length table.old) }
-    ensures { OpenPut nodes links.now times.now group.now nodes table.old first past table.new }
-{
-    let mut lows = [[0u16; 8]; 128];
-    put_lows(&mut lows, nodes, marks);
-    let mut j: usize = 0;
-    while j < nodes {
-        put_node(
-            table, first, past, nodes, links, times, group, out, marks, &lows, j,
-        );
-        j += 1;
+impl Network<'_> {
+    // Writes the next links to the destinations of a group.
+    fn put_group(&self, group: &[u16], rows: &mut [[u16; 128]])
+        requires all_searchable { AllSearchable self.now.nodes self.now.links.now group.now self.now.times.now × Linked (class_of group.now) self.now.links.now self.now.chains.now }
+        requires few { (0 < length group.now) × (length group.now ≤ 8) × (length rows.old ≡ length group.now) × RowsEnd self.now.nodes rows.old }
+        ensures { NextsTo self.now.nodes self.now.links.now group.now self.now.times.now rows.new }
+    {
+        let search = Search {
+            nodes: self.nodes,
+            links: self.links,
+            times: self.times,
+            group: group_of(group),
+            into: &self.chains[INTO],
+        };
+        let mut marks = [[0; 8]; 128];
+        search.put_marks(&mut marks);
+        let routes = Routes {
+            search,
+            out: &self.chains[OUT],
+            marks: &marks,
+        };
+        routes.put_open(rows);
+        routes.put_closed(rows);
     }
-}
 
-// The lower of the link that is there and link l where what that gives is the node's own, and otherwise the link that is there.
-fn lower(old: u16, given: u32, own: u32, l: u16) -> u16
-    ensures { Lowered old given own l result }
-{
-    if given != own {
-        return old;
+    // Writes the next links to the destinations of the groups to which somebody goes, or else of those to which nobody goes.
+    fn put_groups(&self, table: &mut [[u16; 128]], used: bool)
+        requires { (length table.old ≡ length self.now.destinations.now) × RowsEnd self.now.nodes table.old }
+        ensures { EachChosen self.now.nodes self.now.links.now self.now.destinations.now self.now.trips.now self.now.times.now used table.old table.new }
+    {
+        for first in (0..self.destinations.len()).step_by(8) {
+            let past = group_end(self.destinations.len(), first);
+            if any_trips(&self.trips[first * self.nodes..past * self.nodes]) == used {
+                self.put_group(&self.destinations[first..past], &mut table[first..past]);
+            }
+        }
     }
-    if l < old { l } else { old }
-}
-
-// Writes the links into destination k of a group, where that is closed: each that fits as its tail's next link and is below the one there.
-fn put_own(
-    row: &mut [u16; 128],
-    nodes: usize,
-    links: &[[u16; 6]],
-    times: &[u32; 512],
-    group: &[u16; 8],
-    into: &[u16; 896],
-    marks: &[[u32; 8]; 128],
-    k: usize,
-)
-    requires each_searchable { EachSearchable nodes links.now times.now group.now × Found nodes links.now times.now group.now marks.now }
-    requires into_value { (into.now ≡ chain_of (class_of group.now) links.now 1) × (k < 8) × OpenRow nodes links.now times.now (slice_index group.now k) nodes row.old }
-    ensures { row.new ≡ link_marks (routing_from nodes links.now times.now (slice_index group.now k)) }
-{
-    let mut l = into[128 + node_of(group[k])];
-    while l != NO_LINK {
-        let i = index(l);
-        let j = index(links[i][TAIL]);
-        let given = marks[index(links[i][HEAD])][k] + times[i];
-        row[j] = lower(row[j], given, marks[j][k], l);
-        l = into[384 + i];
-    }
-}
-
-// Writes the links into those destinations of a group that are closed, beside the links with an open head.
-fn put_closed(
-    table: &mut [[u16; 128]],
-    first: usize,
-    past: usize,
-    nodes: usize,
-    links: &[[u16; 6]],
-    times: &[u32; 512],
-    group: &[u16; 8],
-    into: &[u16; 896],
-    marks: &[[u32; 8]; 128],
-)
-    requires each_searchable { EachSearchable nodes links.now times.now group.now × Found nodes links.now times.now group.now marks.now }
-    requires into_value { (into.now ≡ chain_of (class_of group.now) links.now 1) × RowsOpen nodes links.now times.now group.now first past table.old }
-    requires first_le_past { (first ≤ past) × (past ≤ first + 8) × (past ≤ 32) × (past ≤ length table.old) }
-    ensures { GroupPut nodes links.now times.now group.now table.old first past table.new }
-{
-    let mut k = first;
-    while k < past {
-        put_own(
-            &mut table[k],
-            nodes,
-            links,
-            times,
-            group,
-            into,
-            marks,
-            k - first,
-        );
-        k += 1;
-    }
-}
-
-// Sets the rows of the destinations from `first` on and below `past` to no link.
-fn clear_rows(table: &mut [[u16; 128]], first: usize, past: usize)
-    requires { (first ≤ past) × (past ≤ 32) × (past ≤ length table.old) }
-    ensures { RowsCleared table.old first past table.new }
-{
-    let mut k = first;
-    while k < past {
-        table[k] = [NO_LINK; 128];
-        k += 1;
-    }
-}
-
-// Writes the next links to the destinations of a group, which are those from `first` on and below `past`. The marks are lent for the search.
-fn put_next(
-    table: &mut [[u16; 128]],
-    first: usize,
-    past: usize,
-    nodes: usize,
-    links: &[[u16; 6]],
-    destinations: &[u16],
-    times: &[u32; 512],
-    chains: &[[u16; 896]],
-    marks: &mut [[u32; 8]; 128],
-)
-    requires all_searchable { AllSearchable nodes links.now destinations.now times.now × Linked (class_of destinations.now) links.now chains.now }
-    requires first_in_bounds { (first < length destinations.now) × (past ≡ min (first + 8) (length destinations.now)) }
-    requires past_in_bounds { (past ≤ length table.old) × RowsEmpty first past table.old }
-    ensures { NextsPut nodes links.now destinations.now times.now table.old first past table.new }
-{
-    let group = group_of(destinations, first);
-    search(nodes, links, times, group, &chains[INTO], marks);
-    put_group(
-        table,
-        first,
-        past,
-        nodes,
-        links,
-        times,
-        &group,
-        &chains[OUT],
-        marks,
-    );
-    put_closed(
-        table,
-        first,
-        past,
-        nodes,
-        links,
-        times,
-        &group,
-        &chains[INTO],
-        marks,
-    );
 }
 
 // The next links to each destination, kept by destination and by node. A group of destinations to which nobody goes is not searched, and
@@ -320,26 +233,17 @@ pub fn next_table(
     ensures nexts { Nexts nodes links.now destinations.now trips.now times.now table.new }
     ensures table_len_unchanged { length table.new ≡ length table.old }
 {
-    let mut marks = [[0; 8]; 128];
-    let mut first: usize = 0;
-    while first < destinations.len() {
-        let past = group_end(destinations.len(), first);
-        clear_rows(table, first, past);
-        if 0 < group_trips(nodes, trips, first, past) {
-            put_next(
-                table,
-                first,
-                past,
-                nodes,
-                links,
-                destinations,
-                times,
-                chains,
-                &mut marks,
-            );
-        }
-        first += 8;
-    }
+    let network = Network {
+        nodes,
+        links,
+        destinations,
+        trips,
+        times,
+        chains,
+    };
+    let rows = &mut table[..destinations.len()];
+    rows.fill([NO_LINK; 128]);
+    network.put_groups(rows, true);
 }
 
 // The next links to the destinations of the groups to which nobody goes, which `next_table` leaves out.
@@ -358,24 +262,13 @@ pub fn complete_table(
     ensures all_nexts { AllNexts nodes links.now destinations.now times.now table.new }
     ensures table_len_unchanged { length table.new ≡ length table.old }
 {
-    let mut first: usize = 0;
-    while first < destinations.len() {
-        let past = group_end(destinations.len(), first);
-        if group_trips(nodes, trips, first, past) == 0 {
-            let mut marks = [[0; 8]; 128];
-            clear_rows(table, first, past);
-            put_next(
-                table,
-                first,
-                past,
-                nodes,
-                links,
-                destinations,
-                times,
-                chains,
-                &mut marks,
-            );
-        }
-        first += 8;
-    }
+    let network = Network {
+        nodes,
+        links,
+        destinations,
+        trips,
+        times,
+        chains,
+    };
+    network.put_groups(&mut table[..destinations.len()], false);
 }

@@ -1,6 +1,6 @@
 -- Searches for eight commodities of one class side by side. They are a group, and each is called a destination of it. A table of marks has a row for
 -- each node, with a mark for each destination of the group; the marks of one destination are a lane of the table.
-use Rattle.std.specs.Prelude.{ℕ, ◌+◌, ◌≤◌, ◌<◌, ◌≡◌, List, [], length, get_or, set, replicate}
+use Rattle.std.specs.Prelude.{ℕ, ◌≤◌, ◌<◌, ◌≡◌, Bool, true, false, List, [], length, get_or, set, replicate}
 use Rattle.theory.specs.Finite.{sum, tabulate}
 use Rattle.theory.specs.Study.{node_of, of_lorries}
 use Rattle.search.specs.Search.{routing_from, unreached, marks}
@@ -42,6 +42,10 @@ pub record Compared (row old : List ℕ) (k r : ℕ) : Type 0 where
   pub none-lower : r ≡ 0 → (i : ℕ) → i < k → get_or old i 0 ≤ get_or row i 0
   pub some-lower : 0 < r → (i : ℕ) × (i < k) × (get_or row i 0 < get_or old i 0)
 
+-- One of the marks of a row is below the old one.
+abbrev pub SomeFallen : List ℕ → List ℕ → Type 0
+SomeFallen row old = (i : ℕ) × (i < 8) × (get_or row i 0 < get_or old i 0)
+
 -- The network can be searched to each destination of the group, and all are of one class.
 pub record EachSearchable (nodes : ℕ) (links : List (List ℕ)) (times group : List ℕ) : Type 0 where
   pub each : (i : ℕ) → i < 8 → Searchable nodes links times (get_or group i 0)
@@ -82,20 +86,18 @@ module _ (nodes : ℕ) (links : List (List ℕ)) (times group : List ℕ) where
     pub shaped-scans : Shaped scanned
     pub each : (i : ℕ) → i < 8 → Scans nodes links times (get_or group i 0) (lane i table) (lane i scanned)
 
-  -- A visit of node k scanned c nodes, none or this one. If none, nothing changed.
-  pub record Visited (k : ℕ) (table₀ scanned₀ table scanned : List (List ℕ)) (c : ℕ) : Type 0 where
+  -- A node of which some marks had fallen has been scanned.
+  pub record Rescanned (scanned₀ table scanned : List (List ℕ)) : Type 0 where
     pub scans : EachScans table scanned
-    pub falls : totals scanned + c ≤ totals scanned₀
-    pub few : c ≤ 1
-    pub same-marks : c ≡ 0 → table ≡ table₀
-    pub same-scans : c ≡ 0 → scanned ≡ scanned₀
-    pub quiet : c ≡ 0 → (i : ℕ) → i < 8 → get_or (lane i scanned) k 0 ≤ get_or (lane i table) k 0
+    pub falls : totals scanned < totals scanned₀
 
-  -- Visits of all nodes below k, and of others, scanned c nodes, by which the sum of the marks at the last scans fell from `most` or less.
-  pub record Swept (k most : ℕ) (table scanned : List (List ℕ)) (c : ℕ) : Type 0 where
+  -- Of the nodes below k those have been scanned of which some marks had fallen, or there was none (r). If there was one, the sum of the marks at the
+  -- last scans fell below `most`.
+  pub record Swept (k most : ℕ) (table scanned : List (List ℕ)) (r : Bool) : Type 0 where
     pub scans : EachScans table scanned
-    pub falls : totals scanned + c ≤ most
-    pub quiet : c ≡ 0 → EachQuiet k table scanned
+    pub no_more : totals scanned ≤ most
+    pub falls : r ≡ true → totals scanned < most
+    pub quiet : r ≡ false → EachQuiet k table scanned
 
 -- The first k destinations of a group are marked as such, and nothing else is reached.
 pub record SetOut (group : List ℕ) (k : ℕ) (table : List (List ℕ)) : Type 0 where

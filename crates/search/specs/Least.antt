@@ -1,5 +1,5 @@
 -- The sum of trips × least time, as it is added up from tables of marks of eight destinations side by side.
-use Rattle.std.specs.Prelude.{ℕ, ◌+◌, ◌*◌, ◌-◌, ◌≤◌, ◌≡◌, List, get_or}
+use Rattle.std.specs.Prelude.{ℕ, ◌+◌, ◌*◌, ◌≤◌, ◌≡◌, List, get_or}
 use Rattle.theory.specs.Finite.{sum}
 use Rattle.search.specs.Search.{routing_from, unreached, marks}
 use Rattle.search.specs.Lanes.{lane}
@@ -13,10 +13,10 @@ pub record LeastTo (trips : List ℕ) (table : List (List ℕ)) (k j r : ℕ) : 
   pub is : r ≡ sum j (λ i. get_or trips i 0 * get_or (lane k table) i 0)
   pub most : r ≤ j * most_at_node
 
--- The same over the destinations of a group from `first` on and below k.
-pub record LeastToGroup (nodes : ℕ) (trips : List ℕ) (table : List (List ℕ)) (first k r : ℕ) : Type 0 where
-  pub is : r ≡ sum (k - first) (λ i. sum nodes (λ j. get_or trips ((first + i) * nodes + j) 0 * get_or (lane i table) j 0))
-  pub most : r ≤ (k - first) * (128 * most_at_node)
+-- The same over the first k destinations of a group, to which these are the trips.
+pub record LeastToFirst (nodes : ℕ) (trips : List ℕ) (table : List (List ℕ)) (k r : ℕ) : Type 0 where
+  pub is : r ≡ sum k (λ i. sum nodes (λ j. get_or trips (i * nodes + j) 0 * get_or (lane i table) j 0))
+  pub most : r ≤ k * (128 * most_at_node)
 
 -- The sum of trips × least time, over the first k destinations.
 unfoldable pub least_below : ℕ → List (List ℕ) → List ℕ → List ℕ → List ℕ → ℕ → ℕ

@@ -6,6 +6,7 @@ pub mod Chains
 pub mod Marks
 pub mod Rows
 pub mod Lanes
+pub mod Searches
 pub mod Groups
 pub mod Least
 pub mod Laws

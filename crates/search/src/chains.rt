@@ -1,11 +1,10 @@
 // The links out of each node, or into it, as chains of a class of commodities, of lorries or of cars. Links whose head is closed are apart from those
 // whose head is open, and those that the class is barred from are apart from all others.
 ghost use Rattle.std.specs.Prelude.{◌<◌, [], ◌∷◌, ◌≡◌, length, replicate};
-ghost use Rattle.theory.specs.Study.{column, barred_to, no_link};
+ghost use Rattle.theory.specs.Study.{column, no_link};
 ghost use Rattle.search.specs.Chains.{end_of, Chainable, Linked, chain_of};
 
-use crate::numbers::index;
-use theory::{ACCESS_POWER, HEAD, NO_LINK, TAIL};
+use theory::{ACCESS_POWER, HEAD, NO_LINK, TAIL, barred_to};
 
 // Which chains: of the links into each node, and of those out of it.
 pub const INTO: usize = 0;
@@ -38,9 +37,7 @@ fn chain_links(links: &[[u16; 6]], lorries: bool, end: usize, chain: &mut [u16; 
     requires { Chainable links.now × (chain.old ≡ replicate 896 no_link) × (end < 2) }
     ensures { chain.new ≡ chain_of lorries links.now end }
 {
-    let mut l = links.len();
-    while 0 < l {
-        l -= 1;
+    for l in (0..links.len()).rev() {
         let j = end_of(links[l], lorries, end);
         chain[384 + l] = chain[j];
         chain[j] = l as u16;
@@ -48,11 +45,13 @@ fn chain_links(links: &[[u16; 6]], lorries: bool, end: usize, chain: &mut [u16; 
 }
 
 // Where a link ends: at its tail, or at its head; 128 places on if the head is closed; and 256 places on if the class is barred from it.
+#[tactic(auto, unfolding(crate::specs::Chains::end_of))]
 fn end_of(link: [u16; 6], lorries: bool, end: usize) -> usize
     requires { (end < 2) × (column end (link ∷ []) 0 < 128) }
-    ensures { result ≡ end_of lorries (link ∷ []) end 0 }
+    ensures value { result ≡ end_of lorries (link ∷ []) end 0 }
+    ensures place { result < 384 }
 {
-    let node = index(link[end]);
+    let node = usize::from(link[end]);
     if barred_to(link, lorries) {
         return 256 + node;
     }
@@ -61,11 +60,4 @@ fn end_of(link: [u16; 6], lorries: bool, end: usize) -> usize
     } else {
         node
     }
-}
-
-// Whether the class is barred from a link.
-fn barred_to(link: [u16; 6], lorries: bool) -> bool
-    ensures { result ≡ barred_to (link ∷ []) lorries 0 }
-{
-    lorries && link[ACCESS_POWER] / 2 % 2 == 1
 }

@@ -1,52 +1,35 @@
 // The sum of trips × least time, found from the least times to eight destinations side by side.
-ghost use Rattle.std.specs.Prelude.{◌≡◌, ◌+◌, ◌*◌, ◌≤◌, ◌<◌, ◌^◌, length};
+ghost use Rattle.std.specs.Prelude.{◌≡◌, ℕ, ◌*◌, ◌≤◌, ◌<◌, length};
 ghost use Rattle.search.specs.Given.{AllSearchable, class_of};
 ghost use Rattle.search.specs.Chains.{chain_of};
 ghost use Rattle.search.specs.Lanes.{Marked};
 ghost use Rattle.search.specs.Groups.{least_over};
-ghost use Rattle.search.specs.Least.{LeastTo, LeastToGroup};
+ghost use Rattle.search.specs.Least.{LeastTo, LeastToFirst};
 
-use crate::groups::{group_end, group_of, group_trips};
-use crate::scans::search;
-
-// Trips × mark.
-fn product(trips: u16, mark: u32) -> u64
-    requires { trips * mark < 2 ^ 64 }
-    ensures { result ≡ trips * mark }
-{
-    trips as u64 * mark as u64
-}
+use crate::groups::{any_trips, group_end, group_of};
+use crate::scans::Search;
 
 // The sum of trips × mark over all nodes, for destination k of a group.
 fn least_to(trips: &[u16], marks: &[[u32; 8]; 128], k: usize) -> u64
     requires { (length trips.now ≤ 128) × (k < 8) × Marked marks.now }
     ensures { LeastTo trips.now marks.now k (length trips.now) result }
 {
-    let mut least: u64 = 0;
-    let mut j: usize = 0;
-    while j < trips.len() {
-        least += product(trips[j], marks[j][k]);
-        j += 1;
+    let mut least = 0;
+    // By index: zip ends at either slice, and is slower than allowed.
+    for (j, trips) in trips.iter().enumerate() {
+        least += u64::from(*trips) * u64::from(marks[j][k]);
     }
     least
 }
 
-// The sum of trips × mark over the destinations of a group, which are those from `first` on and below `past`.
-fn least_to_group(
-    nodes: usize,
-    trips: &[u16],
-    marks: &[[u32; 8]; 128],
-    first: usize,
-    past: usize,
-) -> u64
-    requires { (nodes ≤ 128) × (past * nodes ≤ length trips.now) × (first ≤ past) × (past ≤ first + 8) × (past ≤ 32) × Marked marks.now }
-    ensures { LeastToGroup nodes trips.now marks.now first past result }
+// The sum of trips × mark over the destinations of a group, to which these are the trips, destination by destination.
+fn least_to_group(nodes: usize, trips: &[u16], marks: &[[u32; 8]; 128]) -> u64
+    requires { (0 < nodes) × (nodes ≤ 128) × (length trips.now ≤ 8 * nodes) × Marked marks.now }
+    ensures { (m : ℕ) → length trips.now ≡ m * nodes → LeastToFirst nodes trips.now marks.now m result }
 {
-    let mut least: u64 = 0;
-    let mut k: usize = first;
-    while k < past {
-        least += least_to(&trips[k * nodes..k * nodes + nodes], marks, k - first);
-        k += 1;
+    let mut least = 0;
+    for (k, trips) in trips.chunks_exact(nodes).enumerate() {
+        least += least_to(trips, marks, k);
     }
     least
 }
@@ -64,17 +47,23 @@ pub fn least_times(
     requires trips_len { length trips.now ≡ length destinations.now * nodes }
     ensures { result ≡ least_over nodes links.now destinations.now trips.now times.now }
 {
-    let mut marks = [[0; 8]; 128];
-    let mut least: u64 = 0;
-    let mut first: usize = 0;
-    while first < destinations.len() {
+    let mut least = 0;
+    for first in (0..destinations.len()).step_by(8) {
         let past = group_end(destinations.len(), first);
-        if 0 < group_trips(nodes, trips, first, past) {
-            let group = group_of(destinations, first);
-            search(nodes, links, times, group, into, &mut marks);
-            least += least_to_group(nodes, trips, &marks, first, past);
+        let trips = &trips[first * nodes..past * nodes];
+        if any_trips(trips) {
+            let group = group_of(&destinations[first..past]);
+            let search = Search {
+                nodes,
+                links,
+                times,
+                group,
+                into,
+            };
+            let mut marks = [[0; 8]; 128];
+            search.put_marks(&mut marks);
+            least += least_to_group(nodes, trips, &marks);
         }
-        first += 8;
     }
     least
 }

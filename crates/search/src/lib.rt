@@ -4,11 +4,9 @@
 mod chains;
 mod groups;
 mod least;
-mod numbers;
 mod scans;
 
 pub use chains::{INTO, OUT, into_chain, put_chains};
-pub use groups::{group_end, group_of, group_trips};
+pub use groups::{any_trips, group_end, group_of};
 pub use least::least_times;
-pub use numbers::index;
-pub use scans::search;
+pub use scans::Search;

@@ -1,66 +1,60 @@
 // The fields of a study of two links, one destination and two nodes.
 ghost use Rattle.study.specs.Fields.{HasLink};
 
-use case_lines::print;
 use std::io;
 
 pub fn all(rt: &impl Print, file: &[u8]) -> io::Result<()> {
-    link(rt, file, 0)?;
-    link(rt, file, 1)?;
-    destination(rt, file, 0)?;
-    trips(rt, file, 0, 0)?;
-    trips(rt, file, 0, 1)?;
-    marks(rt, file, 0)?;
-    marks(rt, file, 1)
-}
-
-// Where the counts say that a link, a destination or an entry is there, its bytes are.
-fn link(rt: &impl Print, file: &[u8], link: usize) -> io::Result<()> {
-    if study::refusal(file) != 0 {
-        return Ok(());
+    for number in 0..2 {
+        link(rt, file, number)?;
     }
-    if link < study::link_count(file) {
-        link_fields(rt, study::links(file), study::link_size(file), link)?;
+    destination(rt, file, 0)?;
+    for node in 0..2 {
+        trips(rt, file, 0, node)?;
+    }
+    for number in 0..2 {
+        marks(rt, file, number)?;
     }
     Ok(())
 }
 
-fn link_fields(rt: &impl Print, links: &[u8], size: usize, link: usize) -> io::Result<()>
-    requires { HasLink links.now size link }
+// Where the counts say that a link, a destination or an entry is there, its bytes are.
+fn link(rt: &impl Print, file: &[u8], number: usize) -> io::Result<()> {
+    if study::refusal(file) != 0 {
+        return Ok(());
+    }
+    if number < study::link_count(file) {
+        link_fields(rt, study::links(file), study::link_size(file), number)?;
+    }
+    Ok(())
+}
+
+fn link_fields(rt: &impl Print, links: &[u8], size: usize, number: usize) -> io::Result<()>
+    requires { HasLink links.now size number }
 {
-    let tail = study::tail(links, size, link) as u64;
-    let head = study::head(links, size, link) as u64;
-    let free_time = study::free_time(links, size, link) as u64;
-    let rise = study::rise(links, size, link) as u64;
-    let capacity = study::capacity(links, size, link) as u64;
-    let power = study::power(links, size, link) as u64;
-    print(
-        rt,
-        b"link #: tail #, head #, free time #, rise #, capacity #, power #\n",
-        &[link as u64, tail, head, free_time, rise, capacity, power],
-    )
+    let tail = study::tail(links, size, number);
+    let head = study::head(links, size, number);
+    let free_time = study::free_time(links, size, number);
+    let rise = study::rise(links, size, number);
+    let capacity = study::capacity(links, size, number);
+    let power = study::power(links, size, number);
+    print!(rt; "link {number}: tail {tail}, head {head}, free time {free_time}")?;
+    println!(rt; ", rise {rise}, capacity {capacity}, power {power}")
 }
 
 fn destination(rt: &impl Print, file: &[u8], k: usize) -> io::Result<()> {
-    let destinations = study::destinations(file);
     if k < study::destination_count(file) {
-        let node = study::destination(destinations, k) as u64;
-        print(rt, b"destination #: node #\n", &[k as u64, node])?;
+        let node = study::destination(study::destinations(file), k);
+        println!(rt; "destination {k}: node {node}")?;
     }
     Ok(())
 }
 
 fn trips(rt: &impl Print, file: &[u8], k: usize, node: usize) -> io::Result<()> {
-    let trips = study::trips(file);
     let n = study::node_count(file);
     if node < n {
         if k < study::destination_count(file) {
-            let number = study::trips_from(trips, n, k, node) as u64;
-            print(
-                rt,
-                b"trips from node # to destination #: #\n",
-                &[node as u64, k as u64, number],
-            )?;
+            let trips = study::trips_from(study::trips(file), n, k, node);
+            println!(rt; "trips from node {node} to destination {k}: {trips}")?;
         }
     }
     Ok(())
@@ -69,12 +63,12 @@ fn trips(rt: &impl Print, file: &[u8], k: usize, node: usize) -> io::Result<()> 
 // Where a version has no closed or barred bytes, 0 is read of every node and of every link.
 fn marks(rt: &impl Print, file: &[u8], number: usize) -> io::Result<()> {
     if number < study::node_count(file) {
-        let byte = study::mark_byte(study::closed(file), number) as u64;
-        print(rt, b"closed byte of node #: #\n", &[number as u64, byte])?;
+        let byte = study::mark_byte(study::closed(file), number);
+        println!(rt; "closed byte of node {number}: {byte}")?;
     }
     if number < study::link_count(file) {
-        let byte = study::mark_byte(study::barred(file), number) as u64;
-        print(rt, b"barred byte of link #: #\n", &[number as u64, byte])?;
+        let byte = study::mark_byte(study::barred(file), number);
+        println!(rt; "barred byte of link {number}: {byte}")?;
     }
     Ok(())
 }

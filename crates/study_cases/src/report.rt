@@ -1,49 +1,36 @@
 // What the file layer answers of a file, in one line.
-use case_lines::{label, print, text};
+use case_lines::label;
 use std::io;
 
 // Reads the label of the line.
 pub fn answers(rt: &(impl Input + Print), file: &[u8]) -> io::Result<()> {
     label(rt)?;
-    verdict(rt, study::refusal(file))?;
-    counts(rt, file)?;
-    sections(rt, file)?;
-    text(rt, b"\n")
-}
-
-fn verdict(rt: &impl Print, refusal: u8) -> io::Result<()> {
-    if refusal == 0 {
-        text(rt, b": accepted")
-    } else {
-        print(rt, b": refused #", &[refusal as u64])
+    match study::refusal(file) {
+        0 => print!(rt; ": accepted")?,
+        refusal => print!(rt; ": refused {refusal}")?,
     }
-}
-
-fn counts(rt: &impl Print, file: &[u8]) -> io::Result<()> {
-    let n = study::node_count(file) as u64;
-    let m = study::link_count(file) as u64;
-    let p = study::destination_count(file) as u64;
-    print(rt, b", n #, m #, p #", &[n, m, p])
+    let n = study::node_count(file);
+    let m = study::link_count(file);
+    let p = study::destination_count(file);
+    print!(rt; ", n {n}, m {m}, p {p}")?;
+    sections(rt, file)?;
+    println!(rt; "")
 }
 
 fn sections(rt: &impl Print, file: &[u8]) -> io::Result<()> {
-    section(rt, b", links # bytes", study::links(file))?;
-    section(rt, b", destinations # bytes", study::destinations(file))?;
-    section(rt, b", trips # bytes", study::trips(file))?;
-    section(rt, b", closed # bytes", study::closed(file))?;
-    section(rt, b", lorry trips # bytes", study::lorry_trips(file))?;
-    section(rt, b", barred # bytes", study::barred(file))
+    section(rt, "links", study::links(file))?;
+    section(rt, "destinations", study::destinations(file))?;
+    section(rt, "trips", study::trips(file))?;
+    section(rt, "closed", study::closed(file))?;
+    section(rt, "lorry trips", study::lorry_trips(file))?;
+    section(rt, "barred", study::barred(file))
 }
 
 // A section's length, and its first and last byte if it has any.
-fn section(rt: &impl Print, words: &[u8], bytes: &[u8]) -> io::Result<()> {
-    print(rt, words, &[bytes.len() as u64])?;
-    if 0 < bytes.len() {
-        ends(rt, bytes[0], bytes[bytes.len() - 1])?;
+fn section(rt: &impl Print, name: &str, bytes: &[u8]) -> io::Result<()> {
+    print!(rt; ", {name} {} bytes", bytes.len())?;
+    if let (Some(first), Some(last)) = (bytes.first(), bytes.last()) {
+        print!(rt; " (first {first}, last {last})")?;
     }
     Ok(())
-}
-
-fn ends(rt: &impl Print, first: u8, last: u8) -> io::Result<()> {
-    print(rt, b" (first #, last #)", &[first as u64, last as u64])
 }

@@ -1,15 +1,15 @@
 -- Columns: right-aligned digits behind others, and what stands before the digits put already. These theorems stand here and not beside the other laws
 -- on digits, so that a left-aligned column is refused where they fall.
-use Rattle.std.specs.Prelude.{ℕ, zero, suc, ◌+◌, ◌-◌, ◌/◌, ◌%◌, ◌^◌, ◌≤◌, ◌<◌, ◌≡◌, refl, List, [], ◌∷◌, ◌++◌, length, get_or, replicate}
-use Rattle.std.proofs.Common.{not-suc-le-zero, arith, sym, ◌∙◌, ap, ⊎_elim, append_assoc, length-append, lt-ltb, le-ltb, eq-eqb, ne_eqb}
-use Rattle.std.proofs.lemmas.List.{length-replicate, replicate-append-replicate}
-use Rattle.std.proofs.Math.ListN.{get_or-append}
+use Rattle.std.specs.Prelude.{ℕ, zero, suc, ◌+◌, ◌-◌, ◌/◌, ◌%◌, ◌^◌, ◌≤◌, ◌<◌, ◌≡◌, refl, List, [], ◌∷◌, ◌++◌, length, replicate}
+use Rattle.std.proofs.Common.{arith, sym, ◌∙◌, ap, ⊎_elim, append_assoc, length-append, ne_eqb}
+use Rattle.std.proofs.lemmas.List.{replicate-append-replicate}
 use Rattle.theory.specs.Laws.Finite.{order}
 use Rattle.text.specs.Decimal.{digits_within, decimal, hundredths, aligned}
 use Rattle.text.specs.Put.{leading_byte, leading}
-use Rattle.std.proofs.lemmas.List.Edits.{sets}
+use Rattle.std.proofs.lemmas.Grind.{common_steps}
+use Rattle.std.proofs.lemmas.List.Edits.{sets, sets-eq}
 use Rattle.std.specs.Prelude.{set}
-use Rattle.text.specs.Laws.Decimal.{decimal-small, decimal-large, length-decimal, tenth-below, leading-none}
+use Rattle.text.specs.Laws.Decimal.{decimal-small, decimal-large, leading-none}
 use Rattle.text.specs.Laws.Put.{Left, sets-before}
 
 -- Bytes behind others in a column.
@@ -100,6 +100,10 @@ module _ (target : List ℕ) (at : ℕ) where
             ∙ ap (sets out at) (sym (leading-more width rest))
             ∙ so_far.left;
       }
+
+-- Bytes over a whole column.
+pub sets-whole : (column bytes : List ℕ) → length bytes ≡ length column → sets column 0 bytes ≡ bytes
+sets-whole column bytes full = sets-eq bytes column 0 (omega arith) ∙ grind (arith, common_steps)
 
 -- " 42" and "420" in a column of three
 aligned-42 : aligned 3 (decimal 42) ≡ 32 ∷ 52 ∷ 50 ∷ []

@@ -1,6 +1,6 @@
 -- The digits of numbers at the ends of their ranges, hundredths, and columns.
 use Rattle.std.specs.Prelude.{◌≡◌, refl, [], ◌∷◌}
-use Rattle.text.specs.Decimal.{digits_within, decimal, hundredths, aligned}
+use Rattle.text.specs.Decimal.{digits_within, decimal, hundredths}
 
 decimal-0 : decimal 0 ≡ 48 ∷ []
 unfolding digits_within decimal

@@ -17,12 +17,9 @@ pub fn put_text(out: &mut [u8], at: usize, text: &[u8]) -> usize
     requires { at + length text.now ≤ length out.old }
     ensures { Put out.old at text.now out.new result }
 {
-    let mut i = 0;
-    while i < text.len() {
-        out[at + i] = text[i];
-        i += 1;
-    }
-    at + i
+    let end = at + text.len();
+    out[at..end].copy_from_slice(text);
+    end
 }
 
 // The decimal digits of x, none cut and none added.
@@ -37,13 +34,7 @@ pub fn put_decimal(out: &mut [u8], at: usize, x: u64) -> usize
 fn decimal_length(x: u64) -> usize
     ensures { result ≡ length (decimal x) }
 {
-    let mut size = 1;
-    let mut rest = x;
-    while 10 <= rest {
-        rest /= 10;
-        size += 1;
-    }
-    size
+    x.max(1).ilog10() as usize + 1
 }
 
 // The decimal digits of x, right-aligned in a column of `width` bytes.
@@ -52,22 +43,20 @@ pub fn put_aligned(out: &mut [u8], at: usize, width: usize, x: u64) -> usize
     ensures put { Put out.old at (aligned width (decimal x)) out.new result }
     ensures value { result ≡ at + width }
 {
-    let last = width - 1;
-    put_leading(out, at, last, x / 10);
-    put_byte(out, at + last, digit(x))
+    let last = at + width - 1;
+    put_leading(&mut out[at..last], x / 10);
+    put_byte(out, last, digit(x))
 }
 
 // What stands in a column before its last digit, from right to left: the digits that are left, and
 // spaces before them.
-fn put_leading(out: &mut [u8], at: usize, width: usize, rest: u64)
-    requires { (rest < 10 ^ width) × (at + width ≤ length out.old) }
-    ensures { Put out.old at (leading width rest) out.new (at + width) }
+fn put_leading(column: &mut [u8], rest: u64)
+    requires { rest < 10 ^ length column.old }
+    ensures { column.new ≡ leading (length column.old) rest }
 {
-    let mut i = width;
     let mut left = rest;
-    while 0 < i {
-        i -= 1;
-        out[at + i] = leading_byte(left);
+    for i in (0..column.len()).rev() {
+        column[i] = leading_byte(left);
         left /= 10;
     }
 }
@@ -100,5 +89,5 @@ pub fn put_hundredths(out: &mut [u8], at: usize, width: usize, x: u64) -> usize
 fn digit(x: u64) -> u8
     ensures { result ≡ 48 + x % 10 }
 {
-    48 + (x % 10) as u8
+    b'0' + (x % 10) as u8
 }

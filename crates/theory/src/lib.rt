@@ -6,6 +6,10 @@ ghost use Rattle.std.specs.Prelude.{◌≡◌, ◌≤◌, length};
 ghost use Rattle.theory.specs.Study.{node_of, of_lorries};
 ghost use Rattle.theory.specs.Classes.{car_count};
 
+mod access;
+
+pub use access::{barred_to, may_use};
+
 pub const TAIL: usize = 0;
 
 pub const HEAD: usize = 1;

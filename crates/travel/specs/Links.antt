@@ -1,5 +1,5 @@
 -- Times, costs and sums over the links of a study, which are rows. Numbers by link stand in lists.
-use Rattle.std.specs.Prelude.{ℕ, ◌+◌, ◌-◌, ◌*◌, ◌/◌, ◌%◌, ◌^◌, min, Bool, ◌||◌, List, [], ◌++◌, length, replicate, ◌==◌, nat_le, slice_index, slice_index_or}
+use Rattle.std.specs.Prelude.{ℕ, ◌+◌, ◌-◌, ◌*◌, ◌/◌, ◌^◌, min, Bool, ◌||◌, List, [], ◌++◌, length, replicate, ◌==◌, nat_le, slice_index, slice_index_or}
 use Rattle.theory.specs.Finite.{sum, count, all, tabulate}
 use Rattle.theory.specs.Network.{Network}
 use Rattle.theory.specs.Flows.{link_total, balances, step, step_time, is_over}

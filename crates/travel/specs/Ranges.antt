@@ -42,12 +42,9 @@ pub record Powers (curves : List ℕ) : Type 0 where
   pub size : length curves ≡ 512 + 257 * lists
   pub power : (i r : ℕ) → i < lists → r ≤ 256 → slice_index curves (512 + 257 * i + r) ≡ scaled_power i r
 
--- List i is put, and nothing before it or after it is changed.
-pub record ListPut (i : ℕ) (before after : List ℕ) : Type 0 where
-  pub size : length after ≡ length before
-  pub power : (r : ℕ) → r ≤ 256 → slice_index after (512 + 257 * i + r) ≡ scaled_power i r
-  pub below : (at : ℕ) → at < 512 + 257 * i → slice_index after at ≡ slice_index before at
-  pub above : (at : ℕ) → 769 + 257 * i ≤ at → slice_index after at ≡ slice_index before at
+-- The first n numbers of list i.
+abbrev pub ListTo : ℕ → ℕ → List ℕ → Type 0
+ListTo n i list = (r : ℕ) → r < n → slice_index list r ≡ scaled_power i r
 
 -- Curves of so many places have the list of a link's power: that list ends at 512 + 257 × (5 - q).
 abbrev pub HasList : ℕ → List ℕ → Type 0
@@ -59,6 +56,12 @@ pub record ListAt (curves link : List ℕ) (list : ℕ) : Type 0 where
   pub fit : LinkFits link
   pub has-list : HasList (length curves) link
   pub begins : list ≡ 512 + 257 * (4 - row_power link)
+
+-- A link that fits, and where in curves the list of its power begins.
+pub record CurveFits (link : List ℕ) (list : ℕ) (curves : List ℕ) : Type 0 where
+  pub fit : LinkFits link
+  pub within : list + 256 < length curves
+  pub power : (r : ℕ) → r ≤ 256 → slice_index curves (list + r) ≡ scaled_power (4 - row_power link) r
 
 -- The lists of the powers of all links.
 abbrev pub HasLists : ℕ → List (List ℕ) → Type 0

@@ -1,13 +1,13 @@
 // The choice of j, by which a pass moves a table. `flows` are the links' totals: S of the table, at share
 // W, and Y of the loading.
-ghost use Rattle.std.specs.Prelude.{◌≡◌, ◌+◌, ◌-◌, ◌*◌, ◌<◌, ◌≤◌, min};
+ghost use Rattle.std.specs.Prelude.{◌≡◌, ◌+◌, ◌-◌, ◌*◌, ◌<◌, ◌≤◌};
 ghost use Rattle.theory.specs.Moves.{moved_times, chosen as chosen_of};
 ghost use Rattle.travel.specs.Links.{roads, total_of, load_of};
 ghost use Rattle.travel.specs.Ranges.{Curves, MoveFits};
 
 use crate::powers::list_start;
-use crate::reciprocals::{share_reciprocal, step_by};
-use crate::steps::time_at;
+use crate::reciprocals::{SHARE_PARTS, reciprocal, step_by};
+use crate::steps::Curve;
 use crate::table::{LOAD, TOTAL};
 use theory::ACCESS_POWER;
 
@@ -18,10 +18,20 @@ struct Sums {
     spent: u64,
 }
 
+// The bounds of a bisection: the j that is sought is `low` or above, and not above `high`. With them stands how far the sums at `low` are below
+// 0, and those at the last j that failed above it, if one did.
+#[derive(Clone, Copy)]
+struct Bounds {
+    low: u32,
+    high: u32,
+    below: u64,
+    above: Option<u64>,
+}
+
 // The largest j that qualifies, from 1 to the smaller of 64 and 1,024 − W, or 0 where none does. The j
 // that qualify are the first ones, so a bisection finds it: low is 0 or qualifies, and no j above high
 // does. Which j between the two are tried is a matter of speed alone: `guess`, and the gap of the table,
-// by which the sums at 0 differ, change nothing of the answer.
+// by which the sums at 0 differ, change nothing of the answer. That 0 stands for none is in the definition `chosen`.
 pub fn chosen(
     links: &[[u16; 6]],
     flows: &[[u64; 512]; 2],
@@ -33,75 +43,58 @@ pub fn chosen(
     requires { MoveFits links.now flows.now share × Curves links.now curves.now }
     ensures { result ≡ chosen_of (roads links.now) share (total_of flows.now) (load_of flows.now) }
 {
-    let mut low = 0;
-    let mut high = last(share);
-    let mut below = gap;
-    let mut above = 0;
-    let mut tries: u32 = 0;
-    while low < high {
-        let j = next_try(low, high, tries, guess, gap, below, above);
-        tries = std::num::wrapping_add_u32(tries, 1);
+    let mut bounds = Bounds {
+        low: 0,
+        high: (1024 - share).min(64),
+        below: gap,
+        above: None,
+    };
+    let mut tries = 0;
+    while bounds.low < bounds.high {
+        let j = bounds.next_try(tries, guess, gap);
+        tries += 1;
         let sums = sums_at(links, flows, share, j, curves);
         if sums.loaded <= sums.spent {
-            low = j;
-            below = sums.spent - sums.loaded;
+            bounds.low = j;
+            bounds.below = sums.spent - sums.loaded;
         } else {
-            high = j - 1;
-            above = sums.loaded - sums.spent;
+            bounds.high = j - 1;
+            bounds.above = Some(sums.loaded - sums.spent);
         }
     }
-    low
+    bounds.low
 }
 
-// The next j to try between two bounds. First the one above the guess, if that is below the middle. Then,
-// four times, the one at which a straight line reaches 0: as long as no j failed, the line from the gap at
-// 0 to what is below 0 at `low`, and otherwise the line from there to what is above 0 past `high`. Then the
-// middle.
-fn next_try(low: u32, high: u32, tries: u32, guess: u32, gap: u64, below: u64, above: u64) -> u32
-    requires { (low < high) × (high ≤ 64) }
-    ensures { (low < result) × (result ≤ high) }
-{
-    let middle = high - (high - low) / 2;
-    if tries == 0 {
-        return first_try(low, middle, guess);
+impl Bounds {
+    // The next j to try. First the one above the guess, if that is below the middle. Then, four times, the one at which a straight line
+    // reaches 0. Then the middle.
+    fn next_try(self, tries: u32, guess: u32, gap: u64) -> u32
+        requires { (self.low < self.high) × (self.high ≤ 64) }
+        ensures { (self.low < result) × (result ≤ self.high) }
+    {
+        let middle = self.high - (self.high - self.low) / 2;
+        match tries {
+            0 if (self.low..middle).contains(&guess) => guess + 1,
+            1..=4 => self.on_line(gap),
+            _ => middle,
+        }
     }
-    if 4 < tries {
-        return middle;
-    }
-    if above == 0 {
-        let fall = std::num::wrapping_sub_u64(gap, below);
-        return steps_above(low, high, 1 + steps_to_zero(below, low, fall));
-    }
-    let rise = std::num::wrapping_add_u64(below, above);
-    steps_above(low, high, steps_to_zero(below, high + 1 - low, rise))
-}
 
-// The j above the guess, or the middle where it is not below that.
-fn first_try(low: u32, middle: u32, guess: u32) -> u32
-    requires { low < middle }
-    ensures { (low < result) × (result ≤ middle) }
-{
-    if guess < low {
-        return middle;
+    // The j at which a straight line reaches 0: as long as no j failed, the line from the gap at 0 to what is below 0 at `low`, and otherwise
+    // the line from there to what is above 0 past `high`.
+    fn on_line(self, gap: u64) -> u32
+        requires { (self.low < self.high) × (self.high ≤ 64) }
+        ensures { (self.low < result) × (result ≤ self.high) }
+    {
+        let steps = match self.above {
+            None => 1 + steps_to_zero(self.below, self.low, gap.wrapping_sub(self.below)),
+            Some(above) => {
+                let rise = self.below.wrapping_add(above);
+                steps_to_zero(self.below, self.high + 1 - self.low, rise)
+            }
+        };
+        (self.low + steps).clamp(self.low + 1, self.high)
     }
-    if guess < middle {
-        return guess + 1;
-    }
-    middle
-}
-
-// The j that is so many steps above the lower bound, and not past the upper one.
-fn steps_above(low: u32, high: u32, steps: u32) -> u32
-    requires { (low < high) × (high ≤ 64) × (steps ≤ 65) }
-    ensures { (low < result) × (result ≤ high) }
-{
-    if steps == 0 {
-        return low + 1;
-    }
-    if low + steps < high {
-        return low + steps;
-    }
-    high
 }
 
 // How many steps a straight line that changes by `change` in `width` steps needs for an amount, at most 64.
@@ -110,23 +103,8 @@ fn steps_to_zero(amount: u64, width: u32, change: u64) -> u32
     requires { width ≤ 65 }
     ensures { result ≤ 64 }
 {
-    let steps = amount / 256 * width as u64 / (change / 256 + 1);
-    if steps < 64 {
-        return steps as u32;
-    }
-    64
-}
-
-// The last j that may be chosen at a share.
-fn last(share: u32) -> u32
-    requires { share ≤ 1024 }
-    ensures { result ≡ min 64 (1024 - share) }
-{
-    let left = 1024 - share;
-    if left < 64 {
-        return left;
-    }
-    64
+    let steps = amount / 256 * u64::from(width) / (change / 256 + 1);
+    steps.min(64) as u32
 }
 
 // What decides whether j qualifies. Times are those at flow S + j·Y and share W + j.
@@ -135,20 +113,20 @@ fn sums_at(links: &[[u16; 6]], flows: &[[u64; 512]; 2], share: u32, j: u32, curv
     ensures loaded_value { result.loaded ≡ share * moved_times (roads links.now) share (total_of flows.now) (load_of flows.now) j (load_of flows.now) }
     ensures spent_value { result.spent ≡ moved_times (roads links.now) share (total_of flows.now) (load_of flows.now) j (total_of flows.now) }
 {
-    let by_share = share_reciprocal(share + j);
+    let by_share = reciprocal(SHARE_PARTS, u64::from(share + j));
     let mut loaded = 0;
     let mut spent = 0;
-    let mut l = 0;
-    while l < links.len() {
+    for (l, link) in links.iter().enumerate() {
         let s = flows[TOTAL][l];
         let y = flows[LOAD][l];
         let step = step_by(curves[l], by_share, s + j as u64 * y);
-        let list = list_start(links[l][ACCESS_POWER] / 256, curves.len());
-        let link = time_at(links[l], list, step, curves);
-        loaded += y * link.time;
-        spent += s * link.time;
-        l += 1;
+        let list = list_start(link[ACCESS_POWER] / 256, curves.len());
+        let here = Curve::new(*link, list, curves).time_at(step);
+        loaded += y * here.time;
+        spent += s * here.time;
     }
-    let loaded = share as u64 * loaded;
-    Sums { loaded, spent }
+    Sums {
+        loaded: u64::from(share) * loaded,
+        spent,
+    }
 }

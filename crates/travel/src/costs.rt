@@ -4,10 +4,10 @@ ghost use Rattle.theory.specs.Finite.{sum};
 ghost use Rattle.theory.specs.Flows.{step, is_over};
 ghost use Rattle.theory.specs.Cost.{link_cost};
 ghost use Rattle.travel.specs.Links.{row_time, list_cost, list_over, list_product};
-ghost use Rattle.travel.specs.Ranges.{LinksFit, ListAt, LinkPowers, HasLists, ShareFits, Within, most_flow, most_time};
+ghost use Rattle.travel.specs.Ranges.{LinksFit, LinkPowers, HasLists, ShareFits, Within, most_flow, most_time};
 
 use crate::powers::{ALL_LISTS, ONE_LIST, list_start};
-use crate::steps::{step_of, time_at};
+use crate::steps::Curve;
 use theory::{ACCESS_POWER, CAPACITY, FREE_TIME, RISE};
 
 // The cost of links and how many of them are over.
@@ -32,49 +32,46 @@ pub fn cost(links: &[[u16; 6]], flows: &[u64; 512], share: u32, curves: &[u64]) 
     ensures over_value { result.over ≡ list_over links.now share flows.now }
 {
     if curves.len() == ONE_LIST {
-        return cost_by(links, flows, share, curves, ONE_LIST);
+        return cost_by::<ONE_LIST>(links, flows, share, curves);
     }
-    cost_by(links, flows, share, curves, ALL_LISTS)
+    cost_by::<ALL_LISTS>(links, flows, share, curves)
 }
 
-// The same, with the lists as they begin in curves of so many places. These are a constant of each call, so the compiler makes two loops of
-// this one: where there is one list, links' powers are not looked at.
-fn cost_by(
+// The same, with the lists as they begin in curves of so many places. Where there is one list, links' powers are not looked at.
+fn cost_by<const PLACES: usize>(
     links: &[[u16; 6]],
     flows: &[u64; 512],
     share: u32,
     curves: &[u64],
-    places: usize,
 ) -> Costs
     requires links_fit { LinksFit links.now × ShareFits share × Within (length links.now) most_flow flows.now }
-    requires link_powers { LinkPowers links.now curves.now × HasLists places links.now }
+    requires link_powers { LinkPowers links.now curves.now × HasLists PLACES links.now }
     ensures cost_value { result.cost ≡ list_cost links.now share flows.now }
     ensures over_value { result.over ≡ list_over links.now share flows.now }
 {
     let mut cost = 0;
     let mut over = 0;
-    let mut l = 0;
-    while l < links.len() {
-        let list = list_start(links[l][ACCESS_POWER] / 256, places);
-        let link = link_cost(links[l], list, share, flows[l], curves);
-        cost += link.area;
-        over += link.over as u32;
-        l += 1;
+    // Two slices of one length are gone over by one count.
+    for (link, flow) in links.iter().zip(&flows[..links.len()]) {
+        let list = list_start(link[ACCESS_POWER] / 256, PLACES);
+        let here = link_cost(Curve::new(*link, list, curves), share, *flow);
+        cost += here.area;
+        over += u32::from(here.over);
     }
     Costs { cost, over }
 }
 
 // The area of a link's staircase from 0 to 64·S: the treads below the step, each c·W wide, and what is
 // left at the height of the step.
-fn link_cost(link: [u16; 6], list: usize, share: u32, flow: u64, curves: &[u64]) -> LinkCost
-    requires { ListAt curves.now link list × ShareFits share × (flow ≤ most_flow) }
-    ensures area_value { (result.area ≡ link_cost (row_time link) (slice_index link 4) share flow) × (result.area ≤ 64 * flow * most_time) }
-    ensures over_value { result.over ≡ is_over (step (slice_index link 4) share flow) }
+fn link_cost(curve: Curve, share: u32, flow: u64) -> LinkCost
+    requires { ShareFits share × (flow ≤ most_flow) }
+    ensures area_value { (result.area ≡ link_cost (row_time curve.entry.link) (slice_index curve.entry.link 4) share flow) × (result.area ≤ 64 * flow * most_time) }
+    ensures over_value { result.over ≡ is_over (step (slice_index curve.entry.link 4) share flow) }
 {
-    let width = link[CAPACITY] as u64 * share as u64;
-    let step = step_of(link[CAPACITY], share, flow);
-    let whole = heights_below(link, list, step, curves) * width;
-    let here = time_at(link, list, step, curves);
+    let width = u64::from(curve.link[CAPACITY]) * u64::from(share);
+    let step = curve.step_of(share, flow);
+    let whole = heights_below(curve, step) * width;
+    let here = curve.time_at(step);
     let area = whole + here.time * (64 * flow - step * width);
     LinkCost {
         area,
@@ -84,30 +81,27 @@ fn link_cost(link: [u16; 6], list: usize, share: u32, flow: u64, curves: &[u64])
 
 // The sum of the heights of the treads below a step. A scaled power below the 256th has 32 bits, so the cast
 // to them keeps it; the compiler then multiplies several at once.
-fn heights_below(link: [u16; 6], list: usize, step: u64, curves: &[u64]) -> u64
-    requires { ListAt curves.now link list × (step ≤ 256) }
-    ensures { (result ≡ sum step (row_time link)) × (result ≤ step * most_time) }
+fn heights_below(curve: Curve, step: u64) -> u64
+    requires { step ≤ 256 }
+    ensures { (result ≡ sum step (row_time curve.entry.link)) × (result ≤ step * most_time) }
 {
-    let rise = link[RISE] as u64;
+    let rise = u64::from(curve.link[RISE]);
     let mut risen = 0;
-    let mut r = 0;
-    while r < step {
-        risen += rise * curves[list + r as usize] as u32 as u64 / 16777216;
-        r += 1;
+    for power in &curve.curves[curve.list..curve.list + step as usize] {
+        let low = *power as u32;
+        risen += rise * u64::from(low) / 16777216;
     }
-    link[FREE_TIME] as u64 * step + risen
+    u64::from(curve.link[FREE_TIME]) * step + risen
 }
 
-// The sum over m links of time × flow.
+// The sum over m links of time × flow. The contract has m beside the arrays.
 pub fn product(times: &[u32; 512], flows: &[u64; 512], m: usize) -> u64
     requires { (m ≤ 512) × Within m most_time times.now × Within m most_flow flows.now }
     ensures { result ≡ list_product m times.now flows.now }
 {
     let mut spent = 0;
-    let mut l = 0;
-    while l < m {
-        spent += times[l] as u64 * flows[l];
-        l += 1;
+    for (time, flow) in times[..m].iter().zip(&flows[..m]) {
+        spent += u64::from(*time) * flow;
     }
     spent
 }

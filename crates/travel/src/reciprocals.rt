@@ -7,9 +7,9 @@ ghost use Rattle.travel.specs.Ranges.{LinksFit, LinkPowers, Curves, most_flow};
 use theory::CAPACITY;
 
 // Reciprocals count parts: those of shares 2⁴²ths, and those of capacities 2³⁸ths.
-const SHARE_PARTS: u64 = 4398046511104;
+pub const SHARE_PARTS: u64 = 1 << 42;
 
-const CAPACITY_PARTS: u64 = 274877906944;
+const CAPACITY_PARTS: u64 = 1 << 38;
 
 // Step r by the reciprocals of a link's capacity and of the share: two multiplications in place of a
 // division.
@@ -20,26 +20,15 @@ pub fn step_by(by_capacity: u64, by_share: u64, flow: u64) -> u64
 {
     let parts = 64 * flow * by_share / SHARE_PARTS;
     let treads = parts * by_capacity / CAPACITY_PARTS;
-    if treads < 256 {
-        return treads;
-    }
-    256
+    treads.min(256)
 }
 
-// The reciprocal of a share.
-pub fn share_reciprocal(share: u32) -> u64
-    requires { 1 ≤ share }
-    ensures { result ≡ reciprocal share_parts share }
+// The reciprocal of a share or a capacity, in parts of so much.
+pub fn reciprocal(parts: u64, divisor: u64) -> u64
+    requires { (1 ≤ divisor) × (parts < 2 ^ 63) }
+    ensures { result ≡ reciprocal parts divisor }
 {
-    SHARE_PARTS / share as u64 + 1
-}
-
-// The reciprocal of a link's capacity.
-fn capacity_reciprocal(link: [u16; 6]) -> u64
-    requires { 1 ≤ slice_index link 4 }
-    ensures { (result ≡ reciprocal capacity_parts (slice_index link 4)) × (slice_index link 4 ≤ 65535) }
-{
-    CAPACITY_PARTS / link[CAPACITY] as u64 + 1
+    parts / divisor + 1
 }
 
 // Writes the reciprocals of the links' capacities before the lists of powers.
@@ -47,9 +36,8 @@ pub fn put_reciprocals(curves: &mut [u64], links: &[[u16; 6]])
     requires { LinksFit links.now × LinkPowers links.now curves.old }
     ensures { Curves links.now curves.new × (length curves.new ≡ length curves.old) }
 {
-    let mut l: usize = 0;
-    while l < links.len() {
-        curves[l] = capacity_reciprocal(links[l]);
-        l += 1;
+    // No `zip` with `iter_mut`: nothing would be known of the curves after it.
+    for (l, link) in links.iter().enumerate() {
+        curves[l] = reciprocal(CAPACITY_PARTS, u64::from(link[CAPACITY]));
     }
 }

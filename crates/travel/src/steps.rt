@@ -2,7 +2,7 @@
 ghost use Rattle.std.specs.Prelude.{◌≡◌, ◌≤◌, length, slice_index};
 ghost use Rattle.theory.specs.Flows.{step};
 ghost use Rattle.travel.specs.Links.{padded, timed, list_time};
-ghost use Rattle.travel.specs.Ranges.{LinksFit, ListAt, LinkPowers, ShareFits, Within, Clear, TimesFit, most_flow, most_time};
+ghost use Rattle.travel.specs.Ranges.{LinksFit, CurveFits, ListAt, LinkPowers, ShareFits, Within, Clear, TimesFit, most_flow, most_time};
 
 use crate::powers::list_start;
 use theory::{ACCESS_POWER, CAPACITY, FREE_TIME, RISE};
@@ -14,30 +14,44 @@ pub struct LinkTime {
     pub over: bool,
 }
 
-// Step r: the smaller of 256 and floor(64·S / (c·W)).
-pub fn step_of(capacity: u16, share: u32, flow: u64) -> u64
-    requires { (1 ≤ capacity) × ShareFits share × (flow ≤ most_flow) }
-    ensures { (result ≡ step capacity share flow) × (result ≤ 256) }
-{
-    let width = capacity as u32 * share;
-    let treads = (64 * flow) as u32 / width;
-    if treads < 256 {
-        return treads as u64;
-    }
-    256
+// A link and the curves of a call, in which the list of the link's power begins at `list`.
+#[derive(Clone, Copy)]
+pub struct Curve<'a> {
+    pub link: [u16; 6],
+    pub list: usize,
+    pub curves: &'a [u64],
+    ghost fits: { CurveFits link list curves.now },
 }
 
-// Time at a step, a + floor(b·r^q / 64^q), and whether that is step 256. The list of the link's power begins at `list`. No other function
-// makes a `LinkTime`.
-pub fn time_at(link: [u16; 6], list: usize, step: u64, curves: &[u64]) -> LinkTime
-    requires { ListAt curves.now link list × (step ≤ 256) }
-    ensures { (result ≡ timed link step) × (result.time ≤ most_time) }
-{
-    let power = curves[list + step as usize];
-    let time = link[FREE_TIME] as u64 + link[RISE] as u64 * power / 16777216;
-    LinkTime {
-        time,
-        over: step == 256,
+impl<'a> Curve<'a> {
+    pub fn new(link: [u16; 6], list: usize, curves: &'a [u64]) -> Self
+        requires { ListAt curves.now link list }
+        ensures { result.link ≡ link }
+    {
+        Curve { link, list, curves }
+    }
+
+    // Time at a step, a + floor(b·r^q / 64^q), and whether that is step 256. No other function makes a `LinkTime`.
+    pub fn time_at(self, step: u64) -> LinkTime
+        requires { step ≤ 256 }
+        ensures { (result ≡ timed self.entry.link step) × (result.time ≤ most_time) }
+    {
+        let power = self.curves[self.list + step as usize];
+        let time = u64::from(self.link[FREE_TIME]) + u64::from(self.link[RISE]) * power / 16777216;
+        LinkTime {
+            time,
+            over: step == 256,
+        }
+    }
+
+    // Step r: the smaller of 256 and floor(64·S / (c·W)).
+    pub fn step_of(self, share: u32, flow: u64) -> u64
+        requires { ShareFits share × (flow ≤ most_flow) }
+        ensures { (result ≡ step (slice_index self.entry.link 4) share flow) × (result ≤ 256) }
+    {
+        let width = u32::from(self.link[CAPACITY]) * share;
+        let treads = (64 * flow) as u32 / width;
+        u64::from(treads.min(256))
     }
 }
 
@@ -46,7 +60,8 @@ pub fn link_time(link: [u16; 6], list: usize, share: u32, flow: u64, curves: &[u
     requires { ListAt curves.now link list × ShareFits share × (flow ≤ most_flow) }
     ensures { (result ≡ timed link (step (slice_index link 4) share flow)) × (result.time ≤ most_time) }
 {
-    time_at(link, list, step_of(link[CAPACITY], share, flow), curves)
+    let curve = Curve::new(link, list, curves);
+    curve.time_at(curve.step_of(share, flow))
 }
 
 // Writes the times of the links with the flows of an array, at a share, in place of the first numbers of
@@ -63,11 +78,9 @@ pub fn times(
     ensures times_after { times.new ≡ padded (length links.now) (list_time links.now share flows.now) }
     ensures times_fit { TimesFit (length links.now) times.new }
 {
-    let mut l = 0;
-    while l < links.len() {
-        let list = list_start(links[l][ACCESS_POWER] / 256, curves.len());
-        let link = link_time(links[l], list, share, flows[l], curves);
-        times[l] = link.time as u32;
-        l += 1;
+    for (l, link) in links.iter().enumerate() {
+        let list = list_start(link[ACCESS_POWER] / 256, curves.len());
+        let here = link_time(*link, list, share, flows[l], curves);
+        times[l] = here.time as u32;
     }
 }

@@ -4,12 +4,12 @@ ghost use Rattle.theory.specs.Flows.{link_total};
 ghost use Rattle.travel.specs.Links.{padded, list_fits};
 ghost use Rattle.travel.specs.Ranges.{Within, RowAdded, most_total};
 
-// Two totals of each link that belong together: S of a table and Y of its loading.
+// Two totals of each link that belong together: S of a table and Y of its loading. They are rows of one array: the contract of `chosen` has it so.
 pub const TOTAL: usize = 0;
 
 pub const LOAD: usize = 1;
 
-// The totals of a table of p rows, each of m flows.
+// The totals of a table of p rows, each of m flows. Here and below the contracts of public functions have p and m beside the slices.
 pub fn totals(table: &[u32], p: usize, m: usize) -> [u64; 512]
     requires { (p ≤ 64) × (m ≤ 512) × (p * m ≤ length table.now) }
     ensures { (result ≡ padded m (link_total p m table.now)) × Within 512 most_total result }
@@ -24,23 +24,20 @@ pub fn write_totals(table: &[u32], p: usize, m: usize, sums: &mut [u64; 512])
     requires { (p ≤ 64) × (m ≤ 512) × (p * m ≤ length table.now) × (sums.old ≡ replicate 512 0) }
     ensures { (sums.new ≡ padded m (link_total p m table.now)) × Within 512 most_total sums.new }
 {
-    let mut k = 0;
-    while k < p {
+    for k in 0..p {
         let start = k * m;
-        add_row(&table[start..], m, sums);
-        k += 1;
+        add_row(&table[start..start + m], sums);
     }
 }
 
-// Adds a row of m flows to the sums. A sum is of 63 rows at most before.
-fn add_row(row: &[u32], m: usize, sums: &mut [u64; 512])
-    requires { (m ≤ 512) × (m ≤ length row.now) × (length sums.old ≡ 512) × Within m (63 * 4294967295) sums.old }
-    ensures { RowAdded m row.now sums.old sums.new }
+// Adds a row of flows to the first sums. A sum is of 63 rows at most before.
+fn add_row(row: &[u32], sums: &mut [u64; 512])
+    requires { (length row.now ≤ 512) × (length sums.old ≡ 512) × Within (length row.now) (63 * 4294967295) sums.old }
+    ensures { RowAdded (length row.now) row.now sums.old sums.new }
 {
-    let mut l = 0;
-    while l < m {
-        sums[l] += row[l] as u64;
-        l += 1;
+    // No `zip` with `iter_mut`: nothing would be known of the sums after it.
+    for (l, flow) in row.iter().enumerate() {
+        sums[l] += u64::from(*flow);
     }
 }
 
@@ -49,12 +46,5 @@ pub fn totals_fit(totals: &[u64; 512], m: usize, limit: u64) -> bool
     requires { m ≤ 512 }
     ensures { result ≡ list_fits m totals.now limit }
 {
-    let mut l = 0;
-    while l < m {
-        if limit < totals[l] {
-            return false;
-        }
-        l += 1;
-    }
-    true
+    totals[..m].iter().all(|total| *total <= limit)
 }

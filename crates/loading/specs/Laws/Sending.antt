@@ -1,6 +1,7 @@
 -- Trips on their way along next links: no node's final volume changes as they are sent on, and what is left at last.
-use Rattle.std.specs.Prelude.{◌≡◌, ℕ, zero, suc, ◌+◌, ◌*◌, ◌^◌, ◌<◌, ◌≤◌, ◌⊎◌, List, [], ◌∷◌, length, set, replicate, ◌≢◌, bit_or, slice_index, slice_index_or, slice_set, refl}
-use Rattle.std.proofs.Common.{mul-le-mul_right, sym, ◌∙◌, ⊎_elim, get_or-set_same, ext_get_or}
+use Rattle.std.specs.Prelude.{◌≡◌, ℕ, zero, suc, ◌+◌, ◌*◌, ◌^◌, ◌<◌, ◌≤◌, ◌⊎◌, List, [], ◌∷◌, length, replicate, ◌≢◌, Option, None, bit_or, slice_index, slice_index_or, slice_set, refl}
+use Rattle.std.specs.List.{fold}
+use Rattle.std.proofs.Common.{mul-le-mul_right, le_of_suc-le-suc, sym, ◌∙◌, ⊎_elim, get_or-set_same, ext_get_or}
 use native.Mathlib.Omega.{arith}
 use Rattle.std.proofs.Math.Path.{ap}
 use Rattle.std.proofs.lemmas.Nat.{or_comm}
@@ -13,8 +14,8 @@ use Rattle.theory.specs.Laws.Bits.{or-grows}
 use Rattle.theory.specs.Laws.Cases.{on-equal}
 use Rattle.theory.specs.Laws.Finite.{below_suc, sum-cong, sum-zero, sum-term, sum_bound, length-tabulate, get_d_tabulate, tabulate-cong}
 use Rattle.loading.specs.Along.{walk_along, one_if_same, leaves, volumes_along, Followable, Sendable}
-use Rattle.loading.specs.Sending.{all_zero, ZeroBelow, Heads, no_head, worth, links_ahead, final_volumes, waiting_after, volumes_after}
-use Rattle.loading.specs.Sending.{OwnBelow, Movable, Sending, Sent, SentBelow, Nodes}
+use Rattle.loading.specs.Sending.{all_zero, ZeroBelow, HeadOf, HeadsBelow, worth, links_ahead, final_volumes, waiting_after, volumes_after}
+use Rattle.loading.specs.Sending.{OwnBelow, Movable, Sending, Sent, SentBelow}
 use Rattle.loading.specs.Laws.Leaves.{same-one, other_none, leaves_none, head-below, sets-out}
 
 -- What a list comes to after one of its numbers is set.
@@ -227,6 +228,11 @@ module _ {n : ℕ} {links : List (List ℕ)} {next : List ℕ} {k : ℕ} {waitin
         none_left = λ e j b _. absurd (omega arith);
       }
 
+-- That some sent is as good as how many.
+pub below_one : {n : ℕ} {links : List (List ℕ)} {next : List ℕ} {k : ℕ} {waiting₀ volumes₀ waiting volumes : List ℕ} (count : ℕ)
+    → SentBelow n links next k waiting₀ volumes₀ waiting volumes (count + 1) → SentBelow n links next k waiting₀ volumes₀ waiting volumes 1
+below_one count s = record { sent = s.sent; fewer = omega (arith, s.fewer); none_left = λ e j b _. absurd (omega arith) }
+
 -- Where no node sends any more, the volumes are final.
 pub sending-ends : {n : ℕ} {links : List (List ℕ)} {next waiting₀ volumes₀ waiting volumes : List ℕ} {count : ℕ}
     → SentBelow n links next n waiting₀ volumes₀ waiting volumes count → count ≡ 0 → volumes ≡ final_volumes n links next waiting volumes
@@ -245,39 +251,21 @@ sending-ends {n} {links} {next} {waiting} {volumes} {count} s none =
     complete : (j : ℕ) → j < 128 → slice_index volumes j ≡ slice_index (final_volumes n links next waiting volumes) j
     complete j b = omega (arith, sum-zero n _ (nothing j), final-at n links next waiting volumes j b)
 
--- The heads of next links are written node by node.
-module _ {links : List (List ℕ)} {next : List ℕ} where
-  pub heads-none : {heads : List ℕ} → length heads ≡ 128 → Heads 0 links next heads
-  heads-none long = record { size = long; head_at = λ j h. absurd (omega arith) }
+-- The heads of next links are written node by node,
+pub heads-more : (links : List (List ℕ)) (next : List ℕ) (heads : List (Option ℕ)) (k : ℕ) (found : Option ℕ) → HeadsBelow k links next heads → k < length heads
+    → HeadOf links next k found → HeadsBelow (k + 1) links next (slice_set heads k found)
+heads-more links next heads k found so_far few is j b =
+    on-equal j k
+    (λ e. rw (e, get_or-set_same heads k found None few) is)
+    (λ off. rw (get_or-set_other heads k j found None off) (so_far j (omega (arith, off))))
 
-  pub heads-more : {j : ℕ} {heads : List ℕ} → Heads j links next heads → j < 128 → (h : ℕ)
-      → ((h ≢ no_head) → (slice_index next j ≢ no_link) × (h ≡ head links (slice_index next j))) → Heads (j + 1) links next (slice_set heads j h)
-  heads-more {j} {heads} w few h is =
-      record {
-        size = length-set heads j h ∙ w.size;
-        head_at = λ i b. on-equal i j
-            (λ e. rw (e, get_or-set_same heads j h 0 (omega (arith, w.size))) is)
-            (λ off. rw (get_or-set_other heads j i h 0 off) (w.head_at i (omega (arith, off))));
-      }
-
--- An order of nodes: node 0 in every place at first,
-pub nodes-begin : (n : ℕ) → Nodes n all_zero
-unfolding all_zero
-nodes-begin n = record { node = λ i h some. omega (arith, get_or-replicate {A = ℕ} 128 i 0 0 h) }
-
--- and a node set into a place of it.
-pub nodes-set : {n : ℕ} {order : List ℕ} → Nodes n order → (i v : ℕ) → v < n → Nodes n (slice_set order i v)
-nodes-set {n} {order} nodes i v node =
-    record {
-      node = λ j h some. on-equal j i
-          (λ e. rw e (set_there order i (rw e at (nodes.node j h some))))
-          (λ off. rw (get_or-set_other order i j v 0 off) (nodes.node j h some));
-    }
-  where
-    set_there : (xs : List ℕ) (i : ℕ) → slice_index xs i < n → slice_index (slice_set xs i v) i < n
-    set_there [] i b = b
-    set_there (x ∷ xs) zero b = node
-    set_there (x ∷ xs) (suc i) b = set_there xs i b
+-- and no node has been counted more often than nodes were passed.
+pub counts-more : (counts : List ℕ) (h k : ℕ) → h < length counts → ((i : ℕ) → slice_index counts i ≤ k)
+    → (i : ℕ) → slice_index (slice_set counts h (slice_index counts h + 1)) i ≤ k + 1
+counts-more counts h k few so_far i =
+    on-equal i h
+    (λ e. rw (e, get_or-set_same counts h (slice_index counts h + 1) 0 few) (omega (arith, so_far h)))
+    (λ off. rw (get_or-set_other counts h i (slice_index counts h + 1) 0 off) (omega (arith, so_far i)))
 
 -- Where there are no trips there is nothing to send.
 pub volumes-none : (n : ℕ) (links : List (List ℕ)) (next trips : List ℕ) → ZeroBelow n trips → all_zero ≡ volumes_along n links next (λ j. slice_index trips j)
@@ -290,9 +278,15 @@ volumes-none n links next trips zeros =
     volume : ℕ → ℕ
     volume j = sum n (λ i. slice_index trips i * leaves links next n i j)
 
--- Numbers are joined one by one: they are all 0 where the bits are.
-pub zero_more : (xs : List ℕ) (k c : ℕ) → (c ≡ 0 → ZeroBelow k xs) → bit_or c (slice_index xs k) ≡ 0 → ZeroBelow (k + 1) xs
-zero_more xs k c below e i h =
-    let left : c ≡ 0 = omega (arith, or-grows c (slice_index xs k)) in
-    let right : slice_index_or xs k 0 ≡ 0 = omega (arith, or_comm c (slice_index xs k), or-grows (slice_index xs k) c) in
-    on-equal i k (λ same. rw same right) (λ away. below left i (omega (arith, away)))
+-- Numbers are joined one after the other: where no bit is left they are all 0, and so is what they are joined to.
+pub zero_joined : (xs : List ℕ) (any : ℕ) → fold (λ c x. bit_or c x) any xs ≡ 0 → (any ≡ 0) × ZeroBelow (length xs) xs
+zero_joined [] any e = (e, λ i h. absurd (omega arith))
+zero_joined (x ∷ xs) any e =
+    let rest = zero_joined xs (bit_or any x) e in (
+      omega (arith, or-grows any x, rest.0),
+      first (omega (arith, or_comm any x, or-grows x any, rest.0)) rest.1,
+    )
+  where
+    first : x ≡ 0 → ZeroBelow (length xs) xs → ZeroBelow (length (x ∷ xs)) (x ∷ xs)
+    first is others zero h = is
+    first is others (suc i) h = others i (le_of_suc-le-suc h)

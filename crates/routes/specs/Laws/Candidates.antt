@@ -1,8 +1,8 @@
 -- The walk along the links out of a node that keeps, for each destination of a group, the first link that the last 16 bits of times and marks do not
 -- rule out.
-use Rattle.std.specs.Prelude.{◌≡◌, ℕ, ◌+◌, ◌%◌, ◌<◌, Bool, List, [], length, get_or, replicate, ◌≢◌, slice_index, slice_index_or, slice_set, refl}
+use Rattle.std.specs.Prelude.{◌≡◌, ℕ, ◌+◌, ◌%◌, ◌<◌, Bool, List, [], length, get_or, replicate, ◌≢◌, slice_index, slice_index_or, refl}
 use Rattle.std.proofs.Math.Nat.{mod-add-mod}
-use Rattle.std.proofs.Common.{arith, sym, ◌∙◌, ap, length-set, get_or-set_same, get_or-set_other}
+use Rattle.std.proofs.Common.{arith, sym, ◌∙◌, ap}
 use Rattle.std.proofs.lemmas.List.{length-replicate, get_or-replicate}
 use Rattle.theory.specs.Study.{head, no_link}
 use Rattle.theory.specs.Laws.Cases.{on-equal}
@@ -10,23 +10,8 @@ use Rattle.search.specs.Given.{class_of}
 use Rattle.search.specs.Chains.{chain_of, Chainable}
 use Rattle.search.specs.Lanes.{EachSearchable, Found}
 use Rattle.search.specs.Laws.Chains.{chain-begins, chain-goes, chain-map}
-use Rattle.routes.specs.Next.{Unfit, Lows, RowKept, RuledOut, EachCandidate, Candidates}
+use Rattle.routes.specs.Next.{Unfit, Lows, RowKept, RuledOut, EachCandidate}
 use Rattle.routes.specs.Laws.Next.{unfit}
-
--- The last 16 bits of the marks are taken node by node.
-module _ {marks : List (List ℕ)} where
-  pub lows-none : {lows : List (List ℕ)} → length lows ≡ 128 → Lows 0 marks lows
-  lows-none size = record { size = size; each = λ j h. absurd (omega arith) }
-
-  pub lows-more : {k : ℕ} {lows : List (List ℕ)} (row : List ℕ) → k < 128 → ((i : ℕ) → i < 8 → slice_index row i ≡ slice_index (slice_index_or marks k []) i % 65536)
-      → Lows k marks lows → Lows (k + 1) marks (slice_set lows k row)
-  lows-more {k} {lows} row h new w =
-      record {
-        size = length-set lows k row ∙ w.size;
-        each = λ j b i c.
-            on-equal j k (λ e. rw (e, get_or-set_same lows k row [] (omega (arith, w.size))) (new i c))
-            (λ away. rw (get_or-set_other lows k j row [] away) (w.each j (omega (arith, away)) i c));
-      }
 
 -- A link that is ruled out by the last 16 bits does not fit.
 module _ {nodes : ℕ} {links : List (List ℕ)} {times group : List ℕ} (g : EachSearchable nodes links times group) {table lows : List (List ℕ)}
@@ -57,13 +42,8 @@ module _ {lorries : Bool} {links : List (List ℕ)} (g : Chainable links) {times
       }
 
   module _ {l : ℕ} {row : List ℕ} (at : EachCandidate lorries links times lows j l row) where
-    -- ends past the last link,
-    pub walk_ends : l ≡ no_link → Candidates lorries links times lows j row
-    walk_ends e i b =
-        on-equal (slice_index row i) no_link (λ none. rw (none ∙ sym e) ((at.each i b).none_yet none)) (at.each i b).found
-
     module _ (some-link : l ≡ no_link → ⊥) {k : ℕ} (k≡ : k ≡ l) where
-      -- is otherwise at a link,
+      -- is at a link, or past the last,
       pub walk_at : (k < length links) × (k < 512) × (head links k < 128)
       walk_at =
           let below : k < length links = omega (arith, (at.chain.on_chain some-link).0) in

@@ -1,7 +1,8 @@
 -- The walk along the links into a closed destination, by which these are written beside the links with open heads.
 use Rattle.std.specs.Prelude.{◌≡◌, ℕ, ◌+◌, ◌<◌, ◌≤◌, min, Bool, true, false, not, ◌&&◌, ◌||◌, List, [], length, get_or, ◌==◌, ◌≢◌, nat_lt, slice_index, slice_index_or, slice_set, refl}
 use Rattle.std.proofs.Common.{le_refl, arith, sym, ◌∙◌, ⊎_elim, length-set, get_or-set_same, get_or-set_other, lt-ltb, le-ltb, ne_eqb}
-use Rattle.std.proofs.Math.Path.{ap}
+use Rattle.std.proofs.Math.Path.{ap, subst}
+use Rattle.std.proofs.lemmas.List.{set-get_or}
 use Rattle.std.proofs.Math.Bool.{or-true, and-false}
 use Rattle.std.proofs.Math.Option.{some}
 use Rattle.theory.specs.Finite.{first}
@@ -18,7 +19,7 @@ use Rattle.search.specs.Chains.{end_of, chain_of, Passed}
 use Rattle.search.specs.Lanes.{EachSearchable, Found}
 use Rattle.search.specs.Laws.Chains.{place-closed, place-of-closed, first_cong, chain-begins, chain-goes}
 use Rattle.search.specs.Laws.Lanes.{own-chain}
-use Rattle.routes.specs.Next.{fitting, fitting_below, first_below, Lowered, OwnBelow}
+use Rattle.routes.specs.Next.{fitting, fitting_below, first_below, OwnBelow}
 use Rattle.routes.specs.Table.{link_marks, OpenRow}
 use Rattle.routes.specs.Laws.Next.{unfit, elsewhere, fit, link-marks-filled}
 
@@ -86,7 +87,7 @@ module _ (nodes : ℕ) (links : List (List ℕ)) (times : List ℕ) (s j : ℕ) 
 module _ {nodes : ℕ} {links : List (List ℕ)} {times group : List ℕ} (g : EachSearchable nodes links times group) {table : List (List ℕ)}
     (found : Found nodes links times group table) {k : ℕ} (b : k < 8) {into : List ℕ} (chain : into ≡ chain_of (class_of group) links 1) where
   -- The walk begins with the first fitting links with open heads,
-  pub own-begins : {row : List ℕ} {place l : ℕ} → OpenRow nodes links times (slice_index group k) nodes row → place ≡ 128 + node_of (slice_index group k)
+  pub own-begins : {row : List ℕ} {place l : ℕ} → OpenRow nodes links times (slice_index group k) row → place ≡ 128 + node_of (slice_index group k)
       → l ≡ slice_index into place → OwnBelow nodes links times (slice_index group k) l row
   own-begins {row} {place} {l} w place≡ e =
       let inside : 128 + node_of (slice_index group k) < 384 = omega (arith, (g.each k b).destination-node, (g.each k b).roads.few-nodes) in
@@ -129,11 +130,11 @@ module _ {nodes : ℕ} {links : List (List ℕ)} {times group : List ℕ} (g : E
       own_at =
           let roads = (g.each k b).roads in (below, omega (arith, below, roads.few-links), roads.tail-node i below, roads.head-node i below)
 
-      -- and goes on to a higher one.
-      pub own-goes : {t a r l' : ℕ} → t ≡ tail links i → a ≡ head links i
-          → Lowered (slice_index row t) (slice_index (slice_index_or table a []) k + slice_index times i) (slice_index (slice_index_or table t []) k) l r → l' ≡ slice_index into (384 + i)
+      own-writes : {t a r l' : ℕ} → t ≡ tail links i → a ≡ head links i
+          → (slice_index (slice_index_or table a []) k + slice_index times i ≡ slice_index (slice_index_or table t []) k → r ≡ min (slice_index row t) l)
+          → ((slice_index (slice_index_or table a []) k + slice_index times i ≢ slice_index (slice_index_or table t []) k) → r ≡ slice_index row t) → l' ≡ slice_index into (384 + i)
           → (l < l') × OwnBelow nodes links times (slice_index group k) l' (slice_set row t r)
-      own-goes {t} {a} {r} {l'} t≡ a≡ lowered e = (
+      own-writes {t} {a} {r} {l'} t≡ a≡ lowered kept e = (
         higher,
         record {
           chain = (chain-goes (g.each k b).roads.few-links (own-chain g 1 chain k b) at.chain some-link refl i≡ e).1;
@@ -200,5 +201,17 @@ module _ {nodes : ℕ} {links : List (List ℕ)} {times group : List ℕ} (g : E
           here : r ≡ first_below nodes links times s l' t
           here =
               on-equal (slice_index (slice_index_or table a []) k + slice_index times i) (slice_index (slice_index_or table t []) k)
-              (λ same. lowered.took same ∙ ap (λ x. min x l) old ∙ took (usable-fits same))
-              (λ differ. lowered.stays differ ∙ old ∙ stays t (unfit g found tail-node b i below (λ same. differ (rw a≡ same))))
+              (λ same. lowered same ∙ ap (λ x. min x l) old ∙ took (usable-fits same))
+              (λ differ. kept differ ∙ old ∙ stays t (unfit g found tail-node b i below (λ same. differ (rw a≡ same))))
+
+      -- and goes on to a higher one, when the row has been lowered to it where it gives its tail the mark.
+      pub own-goes : {t a l' : ℕ} {row' : List ℕ} → t ≡ tail links i → a ≡ head links i
+          → (slice_index (slice_index_or table a []) k + slice_index times i ≡ slice_index (slice_index_or table t []) k → row' ≡ slice_set row t (min (slice_index row t) l))
+          → ((slice_index (slice_index_or table a []) k + slice_index times i ≢ slice_index (slice_index_or table t []) k) → row' ≡ row) → l' ≡ slice_index into (384 + i)
+          → (l < l') × OwnBelow nodes links times (slice_index group k) l' row'
+      own-goes {t} {a} {l'} {row'} t≡ a≡ took stays e =
+          on-equal (slice_index (slice_index_or table a []) k + slice_index times i) (slice_index (slice_index_or table t []) k)
+          (λ same. rw (took same) (own-writes t≡ a≡ (λ _. refl) (λ differ. absurd (differ same)) e))
+          (λ differ.
+          let After : List ℕ → Type 0 = λ x. (l < l') × OwnBelow nodes links times (slice_index group k) l' x in
+          rw (stays differ) (subst After (set-get_or row t 0) (own-writes t≡ a≡ (λ same. absurd (differ same)) (λ _. refl) e)))

@@ -1,37 +1,24 @@
 -- The table of next links: how its rows are written.
-use Rattle.std.specs.Prelude.{◌≡◌, ℕ, ◌+◌, ◌-◌, ◌*◌, ◌<◌, ◌≤◌, min, List, [], length, slice_index, slice_index_or, slice_set}
-use Rattle.std.proofs.Common.{mul-le-mul_right, arith, ◌∙◌, ap, ⊎_elim, inl, inr, length-set, get_or-set_same, get_or-set_other}
+use Rattle.std.specs.Prelude.{◌≡◌, ℕ, ◌+◌, ◌-◌, ◌<◌, ◌≤◌, min, ◌↔◌, Bool, true, false, not, get_or, List, [], ◌++◌, length, take, drop, map, replicate, slice_index, slice_index_or}
+use Rattle.std.proofs.Common.{rules, arith, ◌∙◌, ap, ⊎_elim, inl, inr, length-drop, length-take-le, get_or-take, get_or-drop}
 use Rattle.std.proofs.Math.Path.{refl}
-use Rattle.theory.specs.Laws.Cases.{on-equal}
+use Rattle.theory.specs.Laws.Cases.{true-false}
 use Rattle.theory.specs.Laws.Finite.{order}
-use Rattle.theory.specs.Laws.Filled.{filled_none, filled_more}
+use Rattle.std.proofs.lemmas.List.{length-map, length-replicate, get_or-replicate, get_or-append_right, places}
+use Rattle.std.proofs.Math.Bool.{beq}
+use Rattle.theory.specs.Routes.{Routing, next_links}
+use Rattle.theory.specs.Study.{no_link, link_mark}
+use Rattle.theory.specs.Laws.Next.{length-next}
 use Rattle.search.specs.Search.{routing_from}
-use Rattle.search.specs.Given.{AllSearchable}
-use Rattle.search.specs.Lanes.{EachSearchable}
-use Rattle.search.specs.Groups.{Member, Unused}
-use Rattle.routes.specs.Table.{link_marks, no_links, Nexts, RowsPut, GroupsPut, NextsBelow, AllBelow, RowsEmpty, RowsCleared, NodePut, OpenPut, GroupPut, NextsPut}
+use Rattle.search.specs.Groups.{Unused}
+use Rattle.search.specs.Laws.Groups.{destinations-from, group-at}
+use Rattle.routes.specs.Table.{link_marks, no_links, NextRow, RowsPut, GroupChosen, RowChosen, ChosenBelow, EachChosen, NextsTo, RowsEnd}
 
--- Rows are written one by one.
+-- No row is written at first, and then rows are written after others.
 module _ {Put : ℕ → List ℕ → Type 0} {table₀ : List (List ℕ)} {first : ℕ} where
   pub rows_none : RowsPut Put table₀ first first table₀
   rows_none = record { size = refl; put = λ q b c. absurd (omega arith); rest = λ q off. refl }
 
-  pub rows_more : {k : ℕ} {table : List (List ℕ)} (row : List ℕ) → k < length table₀ → Put k row → first ≤ k → RowsPut Put table₀ first k table
-      → RowsPut Put table₀ first (k + 1) (slice_set table k row)
-  rows_more {k} {table} row h new from w =
-      record {
-        size = length-set table k row ∙ w.size;
-        put = λ q b c.
-            on-equal q k (λ e. rw (e, get_or-set_same table k row [] (omega (arith, w.size))) new)
-            (λ away. rw (get_or-set_other table k q row [] away) (w.put q b (omega (arith, away))));
-        rest = λ q off. get_or-set_other table k q row [] (λ e. off (omega arith) (omega arith)) ∙ w.rest q (λ b c. off b (omega arith));
-      }
-
-  -- What a row was, before it is written.
-  pub row_before : {k : ℕ} {table : List (List ℕ)} → RowsPut Put table₀ first k table → slice_index_or table k [] ≡ slice_index_or table₀ k []
-  row_before {k} w = w.rest k (λ b c. omega arith)
-
-  -- Rows are written after others,
   pub rows_join : {k past : ℕ} {table table' : List (List ℕ)} → RowsPut Put table₀ first k table → first ≤ k → k ≤ past
       → RowsPut Put table k past table' → RowsPut Put table₀ first past table'
   rows_join {k} w low high v =
@@ -41,105 +28,113 @@ module _ {Put : ℕ → List ℕ → Type 0} {table₀ : List (List ℕ)} {first
         rest = λ q off. v.rest q (λ b c. off (omega arith) c) ∙ w.rest q (λ b c. off b (omega arith));
       }
 
-  -- or over what was written there before.
-  pub rows-over : {Old : ℕ → List ℕ → Type 0} {k : ℕ} {table table' : List (List ℕ)} → RowsPut Old table₀ first k table
-      → RowsPut Put table first k table' → RowsPut Put table₀ first k table'
-  rows-over w v = record { size = v.size ∙ w.size; put = v.put; rest = λ q off. v.rest q off ∙ w.rest q off }
+-- Rows that are set to no link end after the nodes,
+pub empty-ends : (nodes n : ℕ) → RowsEnd nodes (replicate n no_links)
+unfolding no_links
+empty-ends nodes n =
+    record {
+      long = λ k b. rw (get_or-replicate n k no_links [] (omega (arith, length-replicate n no_links))) (length-replicate 128 no_link);
+      rest = λ k b i c d. rw (get_or-replicate n k no_links [] (omega (arith, length-replicate n no_links))) (get_or-replicate 128 i no_link no_link d);
+    }
 
-  -- Rows that are as `Old` says are as `Put` says, where one follows from the other for each.
-  pub rows_are : {Old : ℕ → List ℕ → Type 0} {k : ℕ} {table : List (List ℕ)}
-      → ((q : ℕ) → first ≤ q → q < k → (row : List ℕ) → Old q row → Put q row) → RowsPut Old table₀ first k table → RowsPut Put table₀ first k table
-  rows_are are w = record { size = w.size; put = λ q b c. are q b c _ (w.put q b c); rest = w.rest }
+-- and so do next links.
+link-marks-end : (q : Routing) → q.nodes ≤ 128 → (i : ℕ) → q.nodes ≤ i → i < 128 → slice_index_or (link_marks q) i no_link ≡ no_link
+unfolding link_marks
+link-marks-end q few i low high =
+    get_or-append_right (map link_mark (next_links q)) (replicate (128 - q.nodes) no_link) q.nodes i no_link (length-map (next_links q) link_mark ∙ length-next q) low
+    ∙ get_or-replicate (128 - q.nodes) (i - q.nodes) no_link no_link (omega arith)
 
--- The groups are done one after the other: none at first, then one more, and all in the end.
-module _ {Put : ℕ → List ℕ → Type 0} {table₀ : List (List ℕ)} {p : ℕ} where
-  pub groups_none : GroupsPut Put table₀ p 0 table₀
-  groups_none = let none : min 0 p ≡ 0 = omega arith in record { begins = refl; rows = rw none rows_none }
+pub next-ends : {nodes : ℕ} (links : List (List ℕ)) (destinations trips times : List ℕ) (k : ℕ) {row : List ℕ} → nodes ≤ 128
+    → NextRow nodes links destinations trips times k row → (i : ℕ) → nodes ≤ i → i < 128 → slice_index_or row i no_link ≡ no_link
+unfolding no_links routing_from
+next-ends {nodes} links destinations trips times k {row} few next i low high =
+    ⊎_elim
+    (λ full. rw full (link-marks-end (routing_from nodes links times (slice_index destinations k)) few i low high))
+    (λ none. rw none.0 (get_or-replicate 128 i no_link no_link high))
+    next
 
-  pub groups-more : {first past : ℕ} {table table' : List (List ℕ)} → GroupsPut Put table₀ p first table → first < p → past ≡ min (first + 8) p
-      → RowsPut Put table first past table' → GroupsPut Put table₀ p (first + 8) table'
-  groups-more {first} w inside past≡ v =
-      let all : min first p ≡ first = omega (arith, inside) in
-      record { begins = omega (arith, w.begins); rows = rw (← past≡) (rows_join (rw all at w.rows) (omega arith) (omega (arith, inside)) v) }
+-- A table whose rows from `first` on and below `past` have become others.
+abbrev pub with-rows : List (List ℕ) → List (List ℕ) → ℕ → ℕ → List (List ℕ)
+with-rows table rows first past = take first table ++ (rows ++ drop (past - first) (drop first table))
 
-  pub groups-all : {first : ℕ} {table : List (List ℕ)} → GroupsPut Put table₀ p first table → p ≤ first → (k : ℕ) → k < p → Put k (slice_index_or table k [])
-  groups-all w h k b = w.rows.put k (omega arith) (omega arith)
+module _ (table rows : List (List ℕ)) (first past : ℕ) (low : first ≤ past) (long : past ≤ length table) (size : length rows ≡ past - first) where
+  with-size : length (with-rows table rows first past) ≡ length table
+  with-size = search (rules, places)
 
--- The links of all nodes to the destinations of a group are written node by node.
-module _ {nodes : ℕ} {links : List (List ℕ)} {times : List ℕ} (group : List ℕ) (g : EachSearchable nodes links times group) {table₀ : List (List ℕ)}
-    {first past : ℕ} where
-  pub put-none : RowsEmpty first past table₀ → OpenPut nodes links times group 0 table₀ first past table₀
-  unfolding no_links
-  put-none empty = record { size = refl; put = λ q b c. rw (empty q b c) filled_none; rest = λ q off. refl }
+  with-own : (q : ℕ) → first ≤ q → q < past → slice_index_or (with-rows table rows first past) q [] ≡ slice_index_or rows (q - first) []
+  with-own q b c = grind (arith, places)
 
-  pub put-more : {j : ℕ} {table table' : List (List ℕ)} → OpenPut nodes links times group j table₀ first past table → j < 128
-      → NodePut nodes links times group j table first past table' → OpenPut nodes links times group (j + 1) table₀ first past table'
-  put-more w h v =
-      record {
-        size = v.size ∙ w.size;
-        put = λ q b c. rw (v.put q b c) (filled_more h refl (w.put q b c));
-        rest = λ q off. v.rest q off ∙ w.rest q off;
-      }
+  with-rest : (q : ℕ) → (first ≤ q → q < past → ⊥) → slice_index_or (with-rows table rows first past) q [] ≡ slice_index_or table q []
+  with-rest q off = grind (arith, places)
 
--- A group of destinations, which are those from `first` on and below `past`.
-module _ {nodes : ℕ} {links : List (List ℕ)} {destinations times : List ℕ} (g : AllSearchable nodes links destinations times) {first past : ℕ}
-    (inside : first < length destinations) (past≡ : past ≡ min (first + 8) (length destinations)) where
-  -- It has at most eight,
-  pub group-span : (first ≤ past) × (past ≤ first + 8) × (past ≤ 32)
-  group-span = (omega (arith, inside, past≡), omega (arith, past≡), omega (arith, past≡, g.few-destinations))
+-- The groups are done one after the other: none at first,
+module _ (nodes : ℕ) (links : List (List ℕ)) (destinations trips times : List ℕ) (used : Bool) where
+  pub chosen_none : (table : List (List ℕ)) → ChosenBelow nodes links destinations trips times used table 0 table
+  chosen_none table = let none : min 0 (length destinations) ≡ 0 = omega arith in record { begins = refl; rows = rw none rows_none }
 
-  -- which have their rows in a table with a row for each destination,
-  pub span-rows : {rows : ℕ} → length destinations ≤ rows → past ≤ rows
-  span-rows room = omega (arith, past≡)
+module _ {nodes : ℕ} {links : List (List ℕ)} {destinations trips times : List ℕ} {used : Bool} {table₀ table : List (List ℕ)} {first : ℕ}
+    (w : ChosenBelow nodes links destinations trips times used table₀ first table) where
+  module _ {past : ℕ} (inside : first < length destinations) (past≡ : past ≡ min (first + 8) (length destinations)) where
+    chosen-more : {table' : List (List ℕ)} → RowsPut (RowChosen nodes links destinations trips times used table₀) table first past table'
+        → ChosenBelow nodes links destinations trips times used table₀ (first + 8) table'
+    chosen-more v =
+        let all : min first (length destinations) ≡ first = omega (arith, inside) in
+        record { begins = omega (arith, w.begins); rows = rw (← past≡) (rows_join (rw all at w.rows) (omega arith) (omega (arith, inside)) v) }
 
-  -- and its trips are among all trips.
-  pub trips-within : {size : ℕ} → size ≡ length destinations * nodes → (nodes ≤ 128) × (first ≤ past) × (past ≤ 32) × (past * nodes ≤ size)
-  trips-within all =
-      let within = mul-le-mul_right {m = past} {n = length destinations} nodes (omega (arith, past≡)) in
-      (g.roads.few-nodes, group-span.0, group-span.2, omega (arith, within, all))
+    -- whose rows end after the nodes, as they were,
+    pub part-size : past ≤ length table → length (take (past - first) (drop first table)) ≡ past - first
+    part-size long = length-take-le (past - first) (drop first table) (omega (arith, length-drop first table))
 
-  -- Its next links are written: those with an open head, then those into closed destinations.
-  pub group-put : (group : List ℕ) {table table' table'' : List (List ℕ)} → ((i : ℕ) → i < 8 → Member destinations first i (slice_index group i))
-      → OpenPut nodes links times group nodes table first past table' → GroupPut nodes links times group table' first past table''
-      → NextsPut nodes links destinations times table first past table''
-  group-put group members w v =
-      rows_are
-      (λ q b c row e.
-      let one = members (q - first) (omega arith) in
-      let own : one.number ≡ q = one.own (omega arith) ∙ omega arith in
-      e ∙ ap (λ s. link_marks (routing_from nodes links times s)) (one.is ∙ ap (λ a. slice_index destinations a) own))
-      (rows-over w v)
+    pub part-ends : RowsEnd nodes table₀ → past ≤ length table → RowsEnd nodes (take (past - first) (drop first table))
+    part-ends ends long =
+        record {
+          long = λ k b. rw (own k (omega (arith, part-size long))) (ends.long (first + k) (omega (arith, part-size long, w.rows.size)));
+          rest = λ k b. rw (own k (omega (arith, part-size long))) (ends.rest (first + k) (omega (arith, part-size long, w.rows.size)));
+        }
+      where
+        own : (k : ℕ) → k < past - first → slice_index_or (take (past - first) (drop first table)) k [] ≡ slice_index_or table₀ (first + k) []
+        own k b = get_or-take (past - first) (drop first table) k [] b ∙ get_or-drop first table k [] ∙ w.rows.rest (first + k) (λ b c. omega arith)
 
-  -- One more group is done where those to which nobody goes are left out: its next links are written, or it has no link.
-  module _ (trips : List ℕ) {table₀ table cleared : List (List ℕ)} (w : NextsBelow nodes links destinations trips times table₀ first table)
-      (c : RowsCleared table first past cleared) where
-    pub nexts-put : {table' : List (List ℕ)} → NextsPut nodes links destinations times cleared first past table'
-        → NextsBelow nodes links destinations trips times table₀ (first + 8) table'
-    nexts-put v = groups-more w inside past≡ (rows_are (λ q b h row e. inl e) (rows-over c v))
-
-    pub nexts-skip : Unused nodes trips first past → NextsBelow nodes links destinations trips times table₀ (first + 8) cleared
-    nexts-skip nobody =
-        groups-more w inside past≡
-        (rows_are
-        (λ q b h row e. inr (e, nobody q b h, λ a same d. nobody a (omega (arith, w.begins, same)) (omega (arith, w.begins, same, past≡, d))))
-        c)
-
-  -- One more is done where none is left out: its next links are written, or are there already, since somebody goes to it.
-  module _ {table₀ table : List (List ℕ)} (w : AllBelow nodes links destinations times table₀ first table) where
-    pub all-put : {cleared table' : List (List ℕ)} → RowsCleared table first past cleared → NextsPut nodes links destinations times cleared first past table'
-        → AllBelow nodes links destinations times table₀ (first + 8) table'
-    all-put c v = groups-more w inside past≡ (rows-over c v)
-
-    pub all-kept : {trips : List ℕ} → Nexts nodes links destinations trips times table₀ → (Unused nodes trips first past → ⊥)
-        → AllBelow nodes links destinations times table₀ (first + 8) table
-    all-kept found somebody =
-        groups-more w inside past≡
+    -- then one more, whose rows are written,
+    pub chosen-put : (rows : List (List ℕ)) → past ≤ length table → length rows ≡ past - first
+        → NextsTo nodes links (destinations-from destinations first past) times rows
+        → ChosenBelow nodes links destinations trips times used table₀ (first + 8) (with-rows table rows first past)
+    chosen-put rows long size v =
+        let low : first ≤ past = omega (arith, inside, past≡) in
+        chosen-more
         (record {
-          size = refl;
+          size = with-size table rows first past low long size;
           put = λ q b c.
-              w.rows.rest q (λ e d. omega arith)
-              ∙ ⊎_elim (λ e. e)
-              (λ none. absurd (somebody (λ a d h. none.2 a (omega (arith, w.begins)) (omega arith))))
-              (found.row q (omega arith));
-          rest = λ q off. refl;
+              let at = group-at destinations inside past≡ (q - first) (omega arith) in
+              let place : first + (q - first) ≡ q = omega arith in
+              inl (with-own table rows first past low long size q b c
+              ∙ v (q - first) (omega arith)
+              ∙ ap (λ s. link_marks (routing_from nodes links times s)) (at ∙ ap (λ a. get_or destinations a 0) place));
+          rest = with-rest table rows first past low long size;
         })
+
+    -- or are left as they were,
+    pub chosen-left : (any : Bool) → (any ≡ false) ↔ Unused nodes trips first past → beq any used ≡ false
+        → ChosenBelow nodes links destinations trips times used table₀ (first + 8) table
+    chosen-left any some other =
+        chosen-more (record { size = refl; put = λ q b c. inr (w.rows.rest q (λ e d. omega arith), left used any some other q b c); rest = λ q off. refl })
+      where
+        left : (used any : Bool) → (any ≡ false) ↔ Unused nodes trips first past → beq any used ≡ false → (k : ℕ) → first ≤ k → k < past
+            → GroupChosen (not used) nodes destinations trips k
+        left true false some other k b c = λ q same d. some.0 refl q (omega (arith, w.begins)) (omega (arith, w.begins, past≡))
+        left false true some other k b c = λ nobody.
+            true-false refl (some.1 (λ q e d. nobody q (omega (arith, w.begins)) (omega (arith, past≡))))
+        left true true some other k b c = true-false refl other
+        left false false some other k b c = true-false refl other
+
+  -- and all in the end.
+  pub chosen-all : length destinations ≤ first → EachChosen nodes links destinations trips times used table₀ table
+  chosen-all h k b = w.rows.put k (omega arith) (omega arith)
+
+-- Rows of groups to which somebody goes are next links, and the others have no link, as before.
+module _ (nodes : ℕ) (links : List (List ℕ)) (destinations trips times : List ℕ) (table₀ table : List (List ℕ)) where
+  pub used-nexts : EachChosen nodes links destinations trips times true table₀ table
+      → ((k : ℕ) → k < length destinations → slice_index_or table₀ k [] ≡ no_links)
+      → (k : ℕ) → k < length destinations → NextRow nodes links destinations trips times k (slice_index_or table k [])
+  used-nexts chosen empty k b =
+      ⊎_elim (λ full. inl full) (λ left. inr (left.0 ∙ empty k b, left.1 k refl b, left.1)) (chosen k b)

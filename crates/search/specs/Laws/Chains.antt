@@ -85,22 +85,15 @@ module _ (lorries : Bool) (links : List (List ℕ)) (end l : ℕ) where
   pub place-node : {place : ℕ} → column end links l < 128 → end_of lorries links end l ≡ place → column end links l ≡ place % 128
   place-node inside e = by_place (λ at. omega (arith, at)) (λ on shut at. omega (arith, at)) (λ on is_open at. omega (arith, at))
 
-  place_inside : column end links l < 128 → end_of lorries links end l < 384
-  place_inside inside = by_place (λ at. omega (arith, at)) (λ on shut at. omega (arith, at)) (λ on is_open at. omega (arith, at))
-
 -- A link's row alone tells its ends.
 pub end_row : (lorries : Bool) (links : List (List ℕ)) (end l : ℕ) → end_of lorries (get_or links l [] ∷ []) end 0 ≡ end_of lorries links end l
 unfolding end_of barred_to
 end_row lorries links end l = refl
 
--- Both ends of a link are among 128 nodes,
+-- Both ends of a link are among 128 nodes.
 pub end-node : {links : List (List ℕ)} → Chainable links → (end l : ℕ) → end < 2 → l < length links → column end links l < 128
 end-node g end l h b =
     on-equal end 0 (λ e. rw e (g.tail-node l b)) (λ n. let e : end ≡ 1 = omega (arith, n) in rw e (g.head-node l b))
-
--- and so at one of 384 places.
-pub end-place : (lorries : Bool) {links : List (List ℕ)} → Chainable links → (end l : ℕ) → end < 2 → l < length links → end_of lorries links end l < 384
-end-place lorries {links} g end l h b = place_inside lorries links end l (end-node g end l h b)
 
 -- A search goes by what its test says below n.
 pub first_cong : (n : ℕ) (t u : ℕ → Bool) → ((i : ℕ) → i < n → t i ≡ u i) → first n t ≡ first n u
@@ -294,7 +287,7 @@ module _ {lorries : Bool} {links : List (List ℕ)} {end : ℕ} {chain : List �
       let low = rw (← lowest, ← e) at (chosen lorries links end j 0) in
       record { on_chain = low.on_chain; passed = λ i b c t. absurd (low.between i (omega arith) b c t) }
 
-  -- goes on to a higher link,
+  -- and goes on to a higher link.
   pub chain-goes : {l k l' : ℕ} → Passed lorries links end j P l → (l ≡ no_link → ⊥) → P l → k ≡ l → l' ≡ get_or chain (384 + k) 0
       → (l < l') × Passed lorries links end j P l'
   chain-goes {l} {k} at some-link holds k≡ e =
@@ -311,10 +304,6 @@ module _ {lorries : Bool} {links : List (List ℕ)} {end : ℕ} {chain : List �
               (order i l);
         },
       )
-
-  -- and ends with all of them passed.
-  pub chain-ends : {l : ℕ} → Passed lorries links end j P l → l ≡ no_link → (i : ℕ) → i < length links → end_of lorries links end i ≡ j → P i
-  chain-ends at e i h t = at.passed i h (omega arith) t
 
 -- What is known of the links passed may be weakened.
 pub chain-map : {lorries : Bool} {links : List (List ℕ)} {end j l : ℕ} {P Q : ℕ → Type 0} → Passed lorries links end j P l → ((i : ℕ) → i < length links → P i → Q i)

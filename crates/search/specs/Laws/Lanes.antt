@@ -1,20 +1,20 @@
 -- Lanes of a table of marks: what a row that is stored does to each lane.
-use Rattle.std.specs.Prelude.{ℕ, zero, suc, ◌+◌, ◌≤◌, ◌<◌, min, ◌≡◌, refl, List, [], length, get_or, replicate}
+use Rattle.std.specs.Prelude.{ℕ, zero, suc, ◌+◌, ◌≤◌, ◌<◌, min, ◌≡◌, refl, Bool, true, false, List, [], length, get_or, replicate}
 use Rattle.std.proofs.Common.{le_refl, arith, sym, ◌∙◌, inl, ⊎_elim, length-set, get_or-set_same, get_or-set_other, ext_get_or, below_more}
 use Rattle.std.proofs.Math.Path.{ap}
 use Rattle.std.proofs.Math.ListN.{set}
 use Rattle.std.proofs.lemmas.List.{length-replicate, get_or-replicate, set-get_or}
 use Rattle.theory.specs.Finite.{sum}
-use Rattle.theory.specs.Laws.Cases.{on-equal}
-use Rattle.theory.specs.Laws.Finite.{below_suc, sum_mono, length-tabulate, get_d_tabulate}
+use Rattle.theory.specs.Laws.Cases.{on-equal, true-false}
+use Rattle.theory.specs.Laws.Finite.{order, below_suc, sum_mono, length-tabulate, get_d_tabulate}
 use Rattle.theory.specs.Study.{tail, node_of, of_lorries, no_link}
 use Rattle.search.specs.Search.{unreached}
 use Rattle.search.specs.Given.{longest, class_of}
 use Rattle.search.specs.Chains.{chain_of}
 use Rattle.search.specs.Rows.{Worked}
 use Rattle.search.specs.Marks.{all_unreached, total, Hands, Entered}
-use Rattle.search.specs.Lanes.{lane, all_rows_unreached, totals, Shaped, Marked, RowMarked, EachRelaxed, Compared, EachSearchable, EachSearching, EachHands, EachScanning, EachScanned, EachEntered, EachScans, EachQuiet, Visited, Swept, SetOut, Found}
-use Rattle.search.specs.Laws.Sweep.{relaxed-least, sets-out, scan_begins, scan-ends, scan-at, scan-goes, hands-open, hands-own, scanned-entered, entered-lower, scans-none, scans-more, scans-total, scans-settled}
+use Rattle.search.specs.Lanes.{lane, all_rows_unreached, totals, Shaped, Marked, RowMarked, EachRelaxed, SomeFallen, EachSearchable, EachSearching, EachHands, EachScanning, EachScanned, EachEntered, EachScans, Rescanned, Swept, SetOut, Found}
+use Rattle.search.specs.Laws.Sweep.{relaxed-least, sets-out, scan_begins, scan-at, scan-goes, hands-open, hands-own, scanned-entered, entered-lower, scans-none, scans-more, scans-total, scans-settled}
 use Rattle.search.specs.Laws.Found.{search-found}
 
 pub length-lane : (i : ℕ) (table : List (List ℕ)) → length (lane i table) ≡ 128
@@ -98,9 +98,6 @@ own_lane k h = get_or-set_same (replicate 8 unreached) k 0 0 (omega (arith, leng
 other-lane : (k i : ℕ) → i < 8 → (i ≡ k → ⊥) → get_or (set (replicate 8 unreached) k 0) i 0 ≡ unreached
 other-lane k i b away = get_or-set_other (replicate 8 unreached) k i 0 0 away ∙ get_or-replicate 8 i unreached 0 b
 
-pub enter-marked : (k : ℕ) → k < 8 → RowMarked (set (replicate 8 unreached) k 0)
-enter-marked k h i b = on-equal i k (λ e. rw e (omega (arith, own_lane k h))) (λ away. omega (arith, other-lane k i b away))
-
 -- A sum of which one term is less, and none is more.
 sum_less : (n : ℕ) (f g : ℕ → ℕ) (i : ℕ) → i < n → ((j : ℕ) → j < n → f j ≤ g j) → f i < g i → sum n f + 1 ≤ sum n g
 unfolding sum
@@ -124,15 +121,8 @@ module _ {nodes : ℕ} {links : List (List ℕ)} {times group : List ℕ} (g : E
     each-begins w hands h e = record { shaped = w.shaped; each = λ i b. scan_begins (g.each i b) (own-chain 1 chain i b) (w.each i b) (hands.each i b) h e }
 
     module _ {table : List (List ℕ)} {l : ℕ} (at : EachScanning nodes links times group place ahead table₀ table l) where
-      -- ends past the last,
-      pub each-ends : l ≡ no_link → EachScanned nodes links times group place ahead table₀ table
-      each-ends e = record { shaped = at.shaped; each = λ i b. scan-ends (g.each i b) (own-chain 1 chain i b) (at.each i b) e }
-
-      pub each-marked : Marked table
-      each-marked i h = (at.each i h).searching.marked
-
       module _ (some-link : l ≡ no_link → ⊥) {a : ℕ} (a≡ : a ≡ l) where
-        -- is otherwise at a link of the network,
+        -- is at a link of the network, or past the last,
         pub each_at : (a < length links) × (a < 512) × (tail links a < 128) × (get_or times a 0 ≤ longest)
         each_at =
             let b : 0 < 8 = omega arith in
@@ -195,25 +185,12 @@ module _ {nodes : ℕ} {links : List (List ℕ)} {times group : List ℕ} (g : E
     pub above_at : {k : ℕ} → k < 128 → (i : ℕ) → i < 8 → get_or (get_or table k []) i 0 ≤ get_or (get_or scanned k []) i 0
     above_at {k} h i b = omega (arith, (w.each i b).above k h, lane-at i table k h, lane-at i scanned k h)
 
-    -- A visit of a node whose marks have not fallen since its last scan,
-    module _ {k : ℕ} (h : k < 128) {c : ℕ} (compared : Compared (get_or table k []) (get_or scanned k []) 8 c) where
-      pub visit-none : c ≤ 0 → Visited nodes links times group k table scanned table scanned 0
-      visit-none none-lower =
-          record {
-            scans = w;
-            falls = omega arith;
-            few = omega arith;
-            same-marks = λ e. refl;
-            same-scans = λ e. refl;
-            quiet = λ e i b.
-                omega (arith, compared.none-lower (omega arith) i b, lane-at i table k h, lane-at i scanned k h);
-          }
-
-      -- and of any other.
-      pub visit-scans : 0 < c → k < nodes → {table' : List (List ℕ)} → EachScanned nodes links times group k (get_or table k []) table table'
-          → Visited nodes links times group k table scanned table' (set scanned k (get_or table k [])) 1
+    -- A scan of a node of which some marks have fallen since its last scan.
+    module _ {k : ℕ} (h : k < 128) where
+      pub rescans : SomeFallen (get_or table k []) (get_or scanned k []) → k < nodes → {table' : List (List ℕ)} → EachScanned nodes links times group k (get_or table k []) table table'
+          → Rescanned nodes links times group scanned table' (set scanned k (get_or table k []))
       unfolding totals
-      visit-scans some-lower inside {table'} r =
+      rescans (i, b, less) inside {table'} r =
           record {
             scans = record {
               shaped = r.shaped;
@@ -221,10 +198,6 @@ module _ {nodes : ℕ} {links : List (List ℕ)} {times group : List ℕ} (g : E
               each = λ i b. rw (stored i) (scans-more (g.each i b) (w.each i b) inside (rw (← lane-at i table k h) at (r.each i b)));
             };
             falls = fewer;
-            few = omega arith;
-            same-marks = λ e. absurd (omega arith);
-            same-scans = λ e. absurd (omega arith);
-            quiet = λ e. absurd (omega arith);
           }
         where
           stored : (i : ℕ) → lane i (set scanned k (get_or table k [])) ≡ set (lane i scanned) k (get_or (lane i table) k 0)
@@ -234,34 +207,38 @@ module _ {nodes : ℕ} {links : List (List ℕ)} {times group : List ℕ} (g : E
               → total (lane i (set scanned k (get_or table k []))) + get_or (lane i scanned) k 0 ≡ total (lane i scanned) + get_or (lane i table) k 0
           of-lane i b = rw (stored i) (scans-total (g.each i b) (w.each i b) inside)
 
-          fewer : totals (set scanned k (get_or table k [])) + 1 ≤ totals scanned
+          fewer : totals (set scanned k (get_or table k [])) < totals scanned
           fewer =
-              let (i, b, less) = compared.some-lower some-lower in
-              sum_less 8 (λ i. total (lane i (set scanned k (get_or table k [])))) (λ i. total (lane i scanned)) i b
-              (λ a c. omega (arith, of-lane a c, (w.each a c).above k h))
-              (omega (arith, of-lane i b, lane-at i table k h, lane-at i scanned k h))
+              omega (
+                arith,
+                sum_less 8 (λ i. total (lane i (set scanned k (get_or table k [])))) (λ i. total (lane i scanned)) i b
+                    (λ a c. omega (arith, of-lane a c, (w.each a c).above k h))
+                    (omega (arith, of-lane i b, lane-at i table k h, lane-at i scanned k h)),
+              )
 
-  -- A sweep begins with no node,
-  pub sweep-begins : {table scanned : List (List ℕ)} → EachScans nodes links times group table scanned
-      → Swept nodes links times group 0 (totals scanned) table scanned 0
-  sweep-begins w = record { scans = w; falls = omega arith; quiet = λ e i b j h. absurd (omega arith) }
-
-  module _ {b k most c r : ℕ} {table scanned table' scanned' : List (List ℕ)} (w : Swept nodes links times group b most table scanned c)
-      (v : Visited nodes links times group k table scanned table' scanned' r) where
-    still : c + r ≡ 0 → EachQuiet b table' scanned'
-    still e = rw (v.same-marks (omega arith), v.same-scans (omega arith)) (w.quiet (omega arith))
-
-    -- visits any node,
-    pub sweep-visits : Swept nodes links times group b most table' scanned' (c + r)
-    sweep-visits = record { scans = v.scans; falls = omega (arith, w.falls, v.falls); quiet = still }
-
-    -- or the next one.
-    pub sweep-goes : b ≡ k → Swept nodes links times group (b + 1) most table' scanned' (c + r)
-    sweep-goes b≡ =
+  module _ {k most : ℕ} {r : Bool} {table scanned : List (List ℕ)} (w : Swept nodes links times group k most table scanned r) where
+    -- A sweep scans the next node,
+    pub sweep-scans : {table' scanned' : List (List ℕ)} → Rescanned nodes links times group scanned table' scanned'
+        → Swept nodes links times group (k + 1) most table' scanned' true
+    sweep-scans v =
         record {
           scans = v.scans;
-          falls = omega (arith, w.falls, v.falls);
-          quiet = λ e i h. below_more _ b (still e i h) (rw b≡ (v.quiet (omega arith) i h));
+          no_more = omega (arith, w.no_more, v.falls);
+          falls = λ e. omega (arith, w.no_more, v.falls);
+          quiet = λ e. true-false refl e;
+        }
+
+    -- or leaves it out, where no mark of it has fallen.
+    pub sweep-skips : k < 128 → (SomeFallen (get_or table k []) (get_or scanned k []) → ⊥) → Swept nodes links times group (k + 1) most table scanned r
+    sweep-skips h none-fallen =
+        record {
+          scans = w.scans;
+          no_more = w.no_more;
+          falls = w.falls;
+          quiet = λ e i b.
+              below_more _ k (w.quiet e i b)
+              (⊎_elim (λ less. absurd (none-fallen (i, b, less))) (λ most. omega (arith, lane-at i table k h, lane-at i scanned k h))
+              (order (get_or (get_or table k []) i 0) (get_or (get_or scanned k []) i 0)));
         }
 
   -- The searches set out with each destination marked,
@@ -319,10 +296,10 @@ module _ {nodes : ℕ} {links : List (List ℕ)} {times group : List ℕ} (g : E
       }
 
   -- After a sweep that scans no node the marks are the distances.
-  pub sweep-found : {table scanned : List (List ℕ)} {most c : ℕ} → Swept nodes links times group nodes most table scanned c → c ≡ 0
+  pub sweep-found : {table scanned : List (List ℕ)} {most : ℕ} → Swept nodes links times group nodes most table scanned false
       → Found nodes links times group table
-  sweep-found w e =
+  sweep-found w =
       record {
-        least = λ i h. search-found (g.each i h) (w.scans.each i h).searching (scans-settled (g.each i h) (w.scans.each i h) (w.quiet e i h));
+        least = λ i h. search-found (g.each i h) (w.scans.each i h).searching (scans-settled (g.each i h) (w.scans.each i h) (w.quiet refl i h));
         marked = λ i h. (w.scans.each i h).searching.marked;
       }

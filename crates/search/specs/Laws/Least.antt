@@ -1,6 +1,6 @@
 -- The sum of trips × least time is added up node by node, destination by destination and group by group.
 use Prim.Native.Nat.{ℕ, zero, suc, ◌+◌, ◌*◌, ◌-◌, ◌≤◌, ◌<◌, min}
-use Rattle.std.proofs.Common.{mul-le-mul, mul-le-mul_right, sym, ◌∙◌}
+use Rattle.std.proofs.Common.{mul-le-mul, mul-le-mul_right, sym, ◌∙◌, get_or-take, get_or-drop}
 use native.Mathlib.Omega.{arith}
 use Rattle.std.specs.Prelude.{◌≡◌, List, [], get_or, take, drop}
 use Rattle.std.proofs.Math.Path.{refl, ap}
@@ -10,9 +10,9 @@ use Rattle.theory.specs.Laws.Finite.{sum-suc, sum-cong, sum-zero}
 use Rattle.search.specs.Search.{routing_from, unreached, marks}
 use Rattle.search.specs.Lanes.{lane, Found}
 use Rattle.search.specs.Groups.{Unused, least_over, Member}
-use Rattle.search.specs.Least.{most_at_node, LeastTo, LeastToGroup, least_below}
+use Rattle.search.specs.Least.{most_at_node, LeastTo, LeastToFirst, least_below}
 use Rattle.search.specs.Laws.Lanes.{lane-at}
-use Rattle.search.specs.Laws.Trips.{get_d_part}
+use Rattle.search.specs.Laws.Trips.{trips-to, trips-to-at}
 
 -- Trips × mark at a node.
 pub node-most : (t v : ℕ) → t < 65536 → v ≤ unreached → t * v ≤ most_at_node
@@ -35,38 +35,32 @@ module _ (trips : List ℕ) (table : List (List ℕ)) (k : ℕ) where
       }
 
 -- The destinations of a group are added one by one.
-module _ (nodes : ℕ) (trips : List ℕ) (table : List (List ℕ)) (first : ℕ) where
-  pub group-none : LeastToGroup nodes trips table first first 0
+module _ (nodes : ℕ) (trips : List ℕ) (table : List (List ℕ)) where
+  pub first-none : LeastToFirst nodes trips table 0 0
   unfolding sum
-  group-none = let none : first - first ≡ 0 = omega arith in record { is = rw none refl; most = omega arith }
+  first-none = record { is = refl; most = omega arith }
 
-  pub group-more : (k r s : ℕ) → nodes ≤ 128 → first ≤ k → k * nodes + nodes ≤ length trips → LeastToGroup nodes trips table first k r
-      → LeastTo (take (k * nodes + nodes - k * nodes) (drop (k * nodes) trips)) table (k - first) nodes s → LeastToGroup nodes trips table first (k + 1) (r + s)
-  group-more k r s few f≤ long w v =
-      let next : k + 1 - first ≡ k - first + 1 = omega arith in
-      let place : first + (k - first) ≡ k = omega arith in
+  pub first-more : (k r s : ℕ) → nodes ≤ 128 → LeastToFirst nodes trips table k r
+      → LeastTo (take nodes (drop (k * nodes) trips)) table k nodes s → LeastToFirst nodes trips table (k + 1) (r + s)
+  first-more k r s few w v =
       let at_most = mul-le-mul_right most_at_node few in
       record {
-        is = rw next (omega (arith, w.is, v.is, here place, sum-suc (k - first) of));
-        most = rw next (omega (arith, w.most, v.most, at_most));
+        is = omega (arith, w.is, v.is, here, sum-suc k of);
+        most = omega (arith, w.most, v.most, at_most);
       }
     where
       of : ℕ → ℕ
-      of i = sum nodes (λ j. get_or trips ((first + i) * nodes + j) 0 * get_or (lane i table) j 0)
+      of i = sum nodes (λ j. get_or trips (i * nodes + j) 0 * get_or (lane i table) j 0)
 
-      here : first + (k - first) ≡ k
-          → sum nodes (λ j. get_or (take (k * nodes + nodes - k * nodes) (drop (k * nodes) trips)) j 0 * get_or (lane (k - first) table) j 0) ≡ of (k - first)
-      here place =
+      here : sum nodes (λ j. get_or (take nodes (drop (k * nodes) trips)) j 0 * get_or (lane k table) j 0) ≡ of k
+      here =
           sum-cong nodes _ _
-          (λ j h. ap (λ x. x * get_or (lane (k - first) table) j 0)
-          (get_d_part (k * nodes) (k * nodes + nodes) trips (omega arith) long j (omega arith) ∙ ap (λ a. get_or trips (a * nodes + j) 0) (sym place)))
+          (λ j h. ap (λ x. x * get_or (lane k table) j 0) (get_or-take nodes (drop (k * nodes) trips) j 0 h ∙ get_or-drop (k * nodes) trips j 0))
 
 -- Eight destinations at most are in a group.
-pub group-adds : {nodes first past r : ℕ} {trips : List ℕ} {table : List (List ℕ)} → LeastToGroup nodes trips table first past r → past ≤ first + 8
-    → r ≤ 8 * (128 * most_at_node)
-group-adds {nodes} {first} {past} w h =
-    let few : (past - first) * (128 * most_at_node) ≤ 8 * (128 * most_at_node) =
-    mul-le-mul_right {m = past - first} {n = 8} (128 * most_at_node) (omega arith) in
+pub first-adds : {nodes k r : ℕ} {trips : List ℕ} {table : List (List ℕ)} → LeastToFirst nodes trips table k r → k ≤ 8 → r ≤ 8 * (128 * most_at_node)
+first-adds {nodes} {k} w h =
+    let few : k * (128 * most_at_node) ≤ 8 * (128 * most_at_node) = mul-le-mul_right {m = k} {n = 8} (128 * most_at_node) h in
     omega (arith, w.most)
 
 -- A sum in two parts.
@@ -97,19 +91,21 @@ module _ (nodes : ℕ) (links : List (List ℕ)) (destinations trips times : Lis
         omega (arith, so_far, e, sum-parts first (past - first) at, ap (λ k. sum k at) whole)
 
     -- by its marks,
-    pub all_more : {group : List ℕ} {table : List (List ℕ)} {s : ℕ} → ((i : ℕ) → i < 8 → Member destinations first i (get_or group i 0))
-        → Found nodes links times group table → LeastToGroup nodes trips table first past s
+    pub all_more : {group : List ℕ} {table : List (List ℕ)} {s : ℕ} → past * nodes ≤ length trips → ((i : ℕ) → i < 8 → Member destinations first i (get_or group i 0))
+        → Found nodes links times group table → LeastToFirst nodes (trips-to nodes trips first past) table (past - first) s
         → r + s ≡ least_below nodes links destinations trips times (min (first + 8) (length destinations))
-    all_more {group} {table} {s} members found v =
-        adds s (v.is ∙ sum-cong (past - first) _ _ (λ i b. same i (omega arith) (omega arith)))
+    all_more {group} {table} {s} long members found v =
+        adds s (v.is ∙ sum-cong (past - first) _ _ (λ i b. same i b))
       where
-        same : (i : ℕ) → i < 8 → first + i < length destinations
-            → sum nodes (λ j. get_or trips ((first + i) * nodes + j) 0 * get_or (lane i table) j 0) ≡ at (first + i)
-        same i b c =
-            let one = members i b in
-            let is : get_or group i 0 ≡ get_or destinations (first + i) 0 = one.is ∙ ap (λ a. get_or destinations a 0) (one.own c) in
-            ap (λ d. sum nodes (λ j. get_or trips ((first + i) * nodes + j) 0 * get_or d j 0))
-            (found.least i b ∙ ap (λ s. marks (routing_from nodes links times s)) is)
+        same : (i : ℕ) → i < past - first
+            → sum nodes (λ j. get_or (trips-to nodes trips first past) (i * nodes + j) 0 * get_or (lane i table) j 0) ≡ at (first + i)
+        same i b =
+            let one = members i (omega arith) in
+            let is : get_or group i 0 ≡ get_or destinations (first + i) 0 = one.is ∙ ap (λ a. get_or destinations a 0) (one.own (omega arith)) in
+            sum-cong nodes _ _
+            (λ j h. ap (λ x. x * get_or (lane i table) j 0) (trips-to-at nodes trips first past (omega arith) long i b j h)
+            ∙ ap (λ d. get_or trips ((first + i) * nodes + j) 0 * get_or d j 0)
+            (found.least i (omega arith) ∙ ap (λ s. marks (routing_from nodes links times s)) is))
 
     -- which is nothing where nobody goes there.
     pub all-skip : Unused nodes trips first past → r ≡ least_below nodes links destinations trips times (min (first + 8) (length destinations))

@@ -16,7 +16,7 @@ use Rattle.search.specs.Search.{unreached}
 use Rattle.search.specs.Given.{Searchable, longest}
 use Rattle.search.specs.Chains.{end_of, chain_of}
 use Rattle.search.specs.Marks.{all_unreached, total, reach, reached, relaxed, Attained, Searching, Hands, Scanning, Scanned, Entered, Scans}
-use Rattle.search.specs.Laws.Chains.{place-open, place-closed, place-of-open, place-of-closed, place-node, chain-begins, chain-goes, chain-ends, chain-map}
+use Rattle.search.specs.Laws.Chains.{place-open, place-closed, place-of-open, place-of-closed, place-node, chain-begins, chain-goes, chain-map}
 
 -- A sum over a list of which one element is another.
 module _ (f : ℕ → ℕ) (d : List ℕ) (t v : ℕ) (inside : t < length d) where
@@ -233,17 +233,8 @@ module _ {nodes : ℕ} {links : List (List ℕ)} {times : List ℕ} {s : ℕ} (g
         record { searching = w; no_more = λ j. le_refl (get_or d₀ j 0); kept = hands; settled = chain-begins g.roads.few-links chain h e }
 
     module _ {d : List ℕ} {l : ℕ} (at : Scanning nodes links times s place ahead d₀ d l) where
-      -- ends past the last,
-      pub scan-ends : l ≡ no_link → Scanned nodes links times s place ahead d₀ d
-      scan-ends e =
-          record {
-            searching = at.searching;
-            no_more = at.no_more;
-            settled = chain-ends g.roads.few-links chain at.settled e;
-          }
-
       module _ (some-link : l ≡ no_link → ⊥) {i : ℕ} (i≡ : i ≡ l) where
-        -- is otherwise at a link of the network,
+        -- is at a link of the network, or past the last,
         pub scan-at : (i < length links) × (tail links i < 128)
         scan-at =
             let (below, enters) = at.settled.on_chain some-link in

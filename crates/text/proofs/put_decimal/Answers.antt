@@ -1,5 +1,4 @@
 -- `text::put_decimal` meets its contract: in a column of its own width a number has no space before it.
-use borrow.Author.Rules.{rules}
 use native.Mathlib.Omega.{arith}
 use Rattle.text.specs.Laws.Decimal.{some-digit, decimal-below}
 use Rattle.text.proofs.Columns.{aligned-whole}

@@ -1,11 +1,11 @@
 -- The digits of a number, of hundredths, and of a column.
-use Rattle.std.specs.Prelude.{ℕ, zero, suc, ◌+◌, ◌-◌, ◌/◌, ◌%◌, ◌^◌, ◌≤◌, ◌<◌, ◌≡◌, refl, List, [], ◌∷◌, ◌++◌, length, get_or, replicate}
-use Rattle.std.proofs.Common.{not-suc-le-zero, arith, sym, ◌∙◌, ap, ⊎_elim, append_assoc, length-append, lt-ltb, le-ltb, eq-eqb, ne_eqb}
-use Rattle.std.proofs.lemmas.List.{length-replicate, replicate-append-replicate}
+use Rattle.std.specs.Prelude.{ℕ, max, zero, suc, ◌+◌, ◌-◌, ◌*◌, ◌/◌, ◌%◌, ◌^◌, ◌≤◌, ◌<◌, ◌≡◌, List, [], ◌∷◌, ◌++◌, length, get_or}
+use Rattle.std.proofs.Common.{not-suc-le-zero, arith, sym, ◌∙◌, ap, ⊎_elim, length-append, lt-ltb, le-ltb, eq-eqb}
+use Rattle.std.proofs.lemmas.List.{length-replicate}
 use Rattle.std.proofs.Math.ListN.{get_or-append}
 use Rattle.theory.specs.Laws.Finite.{order}
 use Rattle.text.specs.Decimal.{digits_within, decimal, hundredths, aligned}
-use Rattle.text.specs.Put.{leading_byte, leading}
+use Rattle.text.specs.Put.{leading}
 
 -- The digits of a number.
 
@@ -67,6 +67,11 @@ some-digit x = ⊎_elim (λ p. omega (arith, length-small x p)) (λ p. omega (ar
 
 pub decimal-below : (x : ℕ) → x < 10 ^ length (decimal x)
 decimal-below x = below_power (suc x) x (omega arith)
+
+-- So its digits are one more than the highest power of 10 that it is not below; 0 has one digit, as 1 has.
+pub digits_of : (k x : ℕ) → 10 ^ k ≤ max x 1 → max x 1 < 10 * 10 ^ k → length (decimal x) ≡ k + 1
+digits_of zero x low high = omega (arith, length-small x (omega arith))
+digits_of (suc k) x low high = omega (arith, length-large x (omega arith), digits_of k (x / 10) (omega arith) (omega arith))
 
 -- Without its last digit it is below one power less.
 pub tenth-below : (width x : ℕ) → 1 ≤ width → x < 10 ^ width → x / 10 < 10 ^ (width - 1)

@@ -1,13 +1,14 @@
 -- Bytes put one behind the other, and digits one before the other.
-use Rattle.std.specs.Prelude.{ℕ, suc, ◌+◌, ◌-◌, ◌/◌, ◌^◌, ◌≤◌, ◌<◌, ◌≡◌, refl, List, [], ◌∷◌, ◌++◌, length, take, drop, get_or, set}
-use Rattle.std.proofs.Common.{add-zero, sym, ◌∙◌, ap, length-append, take-suc}
+use Rattle.std.specs.Prelude.{ℕ, suc, ◌+◌, ◌-◌, ◌^◌, ◌≤◌, ◌<◌, ◌≡◌, refl, List, [], ◌∷◌, ◌++◌, length, take, drop, get_or, set}
+use Rattle.std.proofs.Common.{add-zero, sym, ◌∙◌, ap, append_assoc, length-append, take-suc}
 use Rattle.std.proofs.Math.Numerals.{add-one}
 use native.Mathlib.Omega.{arith}
 use Rattle.std.proofs.lemmas.List.Edits.{sets, sets-eq}
 use Rattle.std.proofs.Math.Seq.{length-sets}
-use Rattle.std.proofs.lemmas.List.{set_comm}
+use borrow.Rule.Slice.PartMut.{put_mid}
+use Rattle.std.proofs.lemmas.List.{drop-drop, set_comm}
 use Rattle.theory.specs.Finite.{rows}
-use Rattle.text.specs.Put.{Put, leading_byte, leading}
+use Rattle.text.specs.Put.{Put, leading}
 use Rattle.text.specs.Laws.Decimal.{leading-none}
 
 sets-append : (l : List ℕ) (i : ℕ) (xs ys : List ℕ) → sets (sets l i xs) (i + length xs) ys ≡ sets l i (xs ++ ys)
@@ -45,6 +46,12 @@ text-more {before} {after} {at} {i} text h p = rw (add-one i, take-suc text i 0)
   where
     byte : Put after (at + i) (get_or text i 0 ∷ []) (set after (at + i) (get_or text i 0)) (at + (i + 1))
     byte = record { held = refl; place = omega arith }
+
+-- Bytes that are copied over a part, as by `copy_from_slice`.
+pub put-part : {out bytes part : List ℕ} {at end : ℕ} → part ≡ bytes → at + length bytes ≡ end → end ≤ length out → Put out at bytes (put_mid at (end - at) out part) end
+put-part {out} {bytes} {part} {at} {end} same full inside =
+    let size : end - at ≡ length bytes = omega arith in
+    record { held = rw (size, same, sets-eq bytes out at (omega arith), append_assoc, drop-drop); place = sym full }
 
 -- Rows of bytes: none at first, and one more each turn.
 module _ (row : ℕ → List ℕ) where

@@ -1,5 +1,5 @@
 -- Which links may carry a commodity.
-use Rattle.std.specs.Prelude.{ℕ, ◌≡◌, Bool, true, false, List}
+use Rattle.std.specs.Prelude.{ℕ, ◌≡◌, Bool, true, false, List, eqb}
 use Rattle.std.proofs.Math.Bool.{or-true}
 use borrow.Author.Tests.{eq-eqb, ne_eqb, eqb-true}
 use Rattle.theory.specs.Study.{head, closed, node_of, of_lorries, barred_to, may_use}
@@ -21,6 +21,11 @@ module _ (links : List (List ℕ)) (commodity l : ℕ) where
   pub may-open : barred_to links (of_lorries commodity) l ≡ false → (closed links l ≡ 1 → ⊥) → may_use links commodity l ≡ true
   unfolding may_use
   may-open on is_open = rw (on, ne_eqb (closed links l) 1 is_open)
+
+  -- of one whose head is closed the head tells,
+  pub own-only : barred_to links (of_lorries commodity) l ≡ false → closed links l ≡ 1 → may_use links commodity l ≡ eqb (head links l) (node_of commodity)
+  unfolding may_use
+  own-only on shut = rw (on, eq-eqb (closed links l) 1 shut)
 
   -- and so may one that leads to the destination itself.
   pub may-own : barred_to links (of_lorries commodity) l ≡ false → head links l ≡ node_of commodity → may_use links commodity l ≡ true

@@ -1,8 +1,9 @@
 -- Arrays of which the first m numbers count and the others are 0. Those by link have 512 numbers.
-use Rattle.std.specs.Prelude.{◌≡◌, ℕ, ◌+◌, ◌-◌, ◌<◌, ◌≤◌, List, ◌++◌, length, replicate, ◌≢◌, slice_index, slice_index_or, slice_set, refl}
-use Rattle.std.proofs.Common.{arith, sym, ◌∙◌, ap, ⊎_elim, length-append, length-set, get_or-append-add, ext_get_or, get_or-set_same, get_or-set_other}
+use Rattle.std.specs.Prelude.{◌≡◌, ℕ, ◌+◌, ◌-◌, ◌<◌, ◌≤◌, List, ◌++◌, length, drop, replicate, ◌≢◌, slice_index, slice_index_or, slice_set, refl}
+use Rattle.std.proofs.Common.{arith, sym, ◌∙◌, ap, ⊎_elim, length-append, length-drop, length-set, get_or-append-add, ext_get_or, get_or-set_same, get_or-set_other}
 use Rattle.std.proofs.lemmas.List.{length-replicate, get_or-replicate}
 use Rattle.std.proofs.Math.ListN.{get_or-append, get_or-eq_default}
+use Rattle.std.proofs.lemmas.Grind.{elements}
 use Rattle.theory.specs.Finite.{tabulate}
 use Rattle.theory.specs.Laws.Finite.{length-tabulate, get_d_tabulate, order, below_suc}
 use Rattle.travel.specs.Links.{padded}
@@ -76,17 +77,19 @@ zeros-past n m = record { size = length-replicate {A = ℕ} n 0; rest = λ l p. 
 pub zeros-clear : (m : ℕ) → Clear m (replicate 512 0)
 zeros-clear m = zeros-past 512 m
 
--- A zero is written before those of an array.
-pub clear-more : (n m l : ℕ) (xs : List ℕ) → l < n → m ≤ l + 1 → ClearPast n m xs → ClearPast n l (slice_set xs l 0)
-clear-more n m l xs h next clear =
-    record {
-      size = length-set xs l 0 ∙ clear.size;
-      rest = λ i p.
-          ⊎_elim (λ q. get_or-set_other xs l i 0 0 (λ e. omega arith) ∙ clear.rest i (omega arith)) (λ q. here i (omega arith)) (order l i);
-    }
+-- Zeros are written before those of an array.
+pub cleared : (n m : ℕ) (zeros xs : List ℕ) → m ≤ n → ClearPast n m xs → zeros ≡ replicate m 0 → ClearPast n 0 (zeros ++ drop m xs)
+cleared n m zeros xs h clear is =
+    rw is (record {
+      size = omega (arith, length-append (replicate m 0) (drop m xs), length-replicate {A = ℕ} m 0, length-drop m xs, clear.size);
+      rest = λ l p. ⊎_elim (below l) (past l) (order l m);
+    })
   where
-    here : (i : ℕ) → i ≡ l → slice_index (slice_set xs l 0) i ≡ 0
-    here i e = rw e (get_or-set_same xs l 0 0 (omega (arith, clear.size)))
+    below : (l : ℕ) → l < m → slice_index (replicate m 0 ++ drop m xs) l ≡ 0
+    below l p = get_or-append (replicate m 0) (drop m xs) 0 l (omega (arith, length-replicate {A = ℕ} m 0)) ∙ get_d-zeros m l
+
+    past : (l : ℕ) → m ≤ l → slice_index (replicate m 0 ++ drop m xs) l ≡ 0
+    past l p = let zero = clear.rest l p in grind (arith, elements)
 
 -- An array whose first m numbers are written one after the other: the first l are written, and past m there are zeros.
 pub record Filled (l m : ℕ) (f : ℕ → ℕ) (xs : List ℕ) : Type 0 where

@@ -1,5 +1,5 @@
 -- A row added to sums, number by number.
-use Rattle.std.specs.Prelude.{◌≡◌, ℕ, ◌+◌, ◌-◌, ◌<◌, List, length, take, drop, ◌≢◌, slice_index, slice_index_or, slice_set, refl}
+use Rattle.std.specs.Prelude.{◌≡◌, ℕ, ◌+◌, ◌-◌, ◌<◌, ◌≤◌, List, length, take, drop, ◌≢◌, slice_index, slice_index_or, slice_set, refl}
 use Rattle.std.proofs.Common.{not-suc-le-zero, arith, ◌∙◌, ap, ⊎_elim, length-set, length-take, length-drop, get_or-set_same, get_or-set_other, get_or-take, get_or-drop}
 use Rattle.theory.specs.Laws.Finite.{below_suc}
 use Rattle.travel.specs.Ranges.{RowAdded}
@@ -26,11 +26,10 @@ row_more l row before now h so_far =
     here : slice_index_or (slice_set now l x) l 0 ≡ slice_index before l + slice_index row l
     here = get_or-set_same now l x 0 h ∙ ap (λ y. y + slice_index row l) (so_far.kept l (omega arith))
 
--- The part of a table from a place on.
-module _ (table : List ℕ) (start : ℕ) where
-  pub length_from : length (take (length table - start) (drop start table)) ≡ length table - start
-  length_from = simp (length-take, length-drop) (omega arith)
+-- The row of m numbers of a table that begins at a place.
+module _ (table : List ℕ) (start m : ℕ) (within : start + m ≤ length table) where
+  pub length_row : length (take (start + m - start) (drop start table)) ≡ m
+  length_row = simp (length-take, length-drop) (omega arith)
 
-  pub get_d-from : (l : ℕ) → start + l < length table →
-      slice_index (take (length table - start) (drop start table)) l ≡ slice_index table (start + l)
-  get_d-from l h = get_or-take (length table - start) (drop start table) l 0 (omega arith) ∙ get_or-drop start table l 0
+  pub get_d-row : (l : ℕ) → l < m → slice_index (take (start + m - start) (drop start table)) l ≡ slice_index table (start + l)
+  get_d-row l h = get_or-take (start + m - start) (drop start table) l 0 (omega arith) ∙ get_or-drop start table l 0

@@ -1,55 +1,58 @@
--- `add_volumes` meets its contract. The invariant: the volumes of the nodes below `j` are added. The measure is what is left of the nodes.
-use Rattle.std.proofs.Common.{◌≡◌, ◌+◌, ◌*◌, ◌^◌, ◌<◌, length, get_or, ap, ◌∙◌, arith, rules}
-use Rattle.loading.specs.Laws.Scattered.{scatter-none, scatter-skips, scatter-adds, link-below, link-within, sum_fits, length-scattered}
+-- A node with a next link adds its volume there (`scatter-adds`), and any other adds nothing.
+use Rattle.std.proofs.Common.{◌≡◌, ◌*◌, ◌<◌, length, get_or, take, refl, ap, sym, ◌∙◌, arith, get_or-take}
+use Rattle.std.proofs.lemmas.List.{length_push}
+use Rattle.std.proofs.lemmas.Slice.Zip.{zip_turn}
+use Rattle.theory.specs.Study.{no_link}
+use Rattle.loading.specs.Laws.Scattered.{scatter-none, scatter-skips, scatter-adds, link-within, sum_fits}
 use Rattle.loading.proofs.adding.add_volumes.Goals as goal
-use Rattle.loading.proofs.adding.add_volumes.Goals.{After-index-i, then-l, else-l}
+use Rattle.loading.proofs.adding.add_volumes.Goals.{In-Some}
 
-pub loop-j-init : goal.loop-j-init
-loop-j-init c = (search rules, scatter-none c.requires)
-
--- The next link has a number in the row, which holds what the node adds to it.
-at-link :
-    (c : After-index-i) →
+-- The next link and the volume of a turn.
+pair : (c : In-Some) →
+    let j = length c.loop-l.yielded in
+    (j < c.args.nodes) × (c.in-Some.l.now ≡ get_or c.args.next.now j 0) × (c.in-Some.volume.now ≡ get_or c.args.volumes.now j 0)
+pair c =
     let x = c.args in
-    (c.index-i.result < length c.loop-j.row)
-    × (get_or c.loop-j.row c.index-i.result 0 + x.weight * get_or x.volumes.now c.loop-j.j 0 < 2 ^ 32)
-    × (c.index-i.result < 512)
-at-link c =
-    let given = c.requires in
-    let inside = c.loop-j-test.true in (
-      link-within given inside c.loop-j.invariant.1 c.index-i.ensures c.if-l.true,
-      sum_fits given inside c.loop-j.invariant.1 c.index-i.ensures c.if-l.true,
-      omega (arith, given.few-links, link-below given inside c.loop-j.invariant.1 c.index-i.ensures c.if-l.true),
-    )
+    let t = zip_turn (take x.nodes x.next.now) (take x.nodes x.volumes.now) c.loop-l.yielded c.into_iter-l-iterator.result c.loop-l.l-iterator c.next.new.self _ (cc) (cc) c.loop-l.yielded_by _ c.in-Some.is c.next.ensures.steps in
+    let below : length c.loop-l.yielded < x.nodes = omega arith in
+    (below, t.2 0 ∙ get_or-take _ _ _ _ below, t.3 0 ∙ get_or-take _ _ _ _ below)
 
-pub weighted-requires : goal.weighted-requires
-weighted-requires c = omega (arith, (at-link (goal.at.weighted-requires c).After-index-i).1)
+away : (c : In-Some) → (c.in-Some.l.now ≡ no_link → ⊥) → get_or c.args.next.now (length c.loop-l.yielded) 0 ≡ no_link → ⊥
+away c some e = some ((pair c).1 ∙ e)
 
-pub offset_bounds-row-i : goal.offset_bounds-row-i
-offset_bounds-row-i c = omega (arith, (at-link (goal.at.offset_bounds-row-i c).After-index-i).2)
+pub loop-l-init : goal.loop-l-init
+loop-l-init c = scatter-none c.requires
 
-pub bounds-row-i : goal.bounds-row-i
-bounds-row-i c = (at-link (goal.at.bounds-row-i c).After-index-i).0
+pub overflow_mul-row : goal.overflow_mul-row
+overflow_mul-row c =
+    let w = (goal.at.overflow_mul-row c).In-Some in
+    let p = pair w in
+    rw (c.from.ensures, p.2) (omega (arith, sum_fits c.requires p.0 c.loop-l.invariant refl (away w c.if-l.true)))
+
+pub bounds-row-from : goal.bounds-row-from
+bounds-row-from c =
+    let w = (goal.at.bounds-row-from c).In-Some in
+    link-within c.requires (pair w).0 c.loop-l.invariant (c.from-then-l.ensures ∙ (pair w).1) (away w c.if-l.true)
 
 pub overflow_add-row : goal.overflow_add-row
-overflow_add-row c = omega (arith, c.weighted.ensures, (at-link (goal.at.overflow_add-row c).After-index-i).1)
+overflow_add-row c =
+    let w = (goal.at.overflow_add-row c).In-Some in
+    let p = pair w in
+    rw (c.from.ensures, p.2) (omega (arith, sum_fits c.requires p.0 c.loop-l.invariant (c.from-then-l.ensures ∙ p.1) (away w c.if-l.true)))
 
-pub bounds-row-i-then-l : goal.bounds-row-i-then-l
-bounds-row-i-then-l c = (at-link (goal.at.bounds-row-i-then-l c).After-index-i).0
+pub bounds-row-from-then-l : goal.bounds-row-from-then-l
+bounds-row-from-then-l c =
+    let w = (goal.at.bounds-row-from-then-l c).In-Some in
+    link-within c.requires (pair w).0 c.loop-l.invariant (c.from-then-l.ensures ∙ (pair w).1) (away w c.if-l.true)
 
-pub loop-j-preserved : goal.loop-j-preserved
-loop-j-preserved c =
-    let given = c.requires in
-    let inside = c.loop-j-test.true in (
-      search rules,
-      elim c.if-l.branch [
-        | then-l w ↦ w.row-is ∙ scatter-adds given inside c.loop-j.invariant.1 w.index-i.ensures w.if-l.true w.weighted.ensures
-        | else-l w ↦ w.row-is ∙ scatter-skips given inside c.loop-j.invariant.1 w.if-l.false
-      ],
-    )
+pub loop-l-preserved-then-l : goal.loop-l-preserved-then-l
+loop-l-preserved-then-l c =
+    let w = (goal.at.loop-l-preserved-then-l c).In-Some in
+    let p = pair w in
+    rw length_push
+    (scatter-adds c.requires p.0 c.loop-l.invariant (c.from-then-l.ensures ∙ p.1) (away w c.if-l.true) (ap (λ x. c.args.weight * x) (c.from.ensures ∙ p.2)))
 
-pub shape_of-row : goal.shape_of-row
-shape_of-row c = ap length c.loop-j.invariant.1 ∙ length-scattered c.requires c.loop-j.j
-
-pub returns : goal.returns
-returns c = let all : c.loop-j.j ≡ c.args.nodes = omega arith in rw all at c.loop-j.invariant.1
+pub loop-l-preserved : goal.loop-l-preserved
+loop-l-preserved c =
+    let p = pair (goal.at.loop-l-preserved c).In-Some in
+    rw length_push (scatter-skips c.requires p.0 c.loop-l.invariant (sym p.1 ∙ c.if-l.false))

@@ -7,7 +7,7 @@ use lib.ListN.{length}
 use Rattle.theory.specs.Finite.{all}
 use Rattle.notes.specs.Laws.Lessened.{all_hold, table-within, row-long, small-end, row-scatterable, idle-holds, one-more-holds, one-fails}
 use Rattle.notes.proofs.lessening.holds_part.Goals as goal
-use Rattle.notes.proofs.lessening.holds_part.Goals.{After-put_part, then-any_trips-ne0+else-count_less-ne0, else-any_trips-ne0}
+use Rattle.notes.proofs.lessening.holds_part.Goals.{After-put_part, then-any_trips+else-count_less-ne0, else-any_trips}
 
 pub loop-k-init : goal.loop-k-init
 unfolding all
@@ -57,11 +57,11 @@ loop-k-preserved c =
     let inside = c.loop-k-test.true in
     let before = c.loop-k.invariant.1 in (
       search rules,
-      elim c.if-any_trips-ne0.branch [
-        | then-any_trips-ne0+else-count_less-ne0 w ↦ one-more-holds given inside w.put_part.ensures w.count_less.ensures before w.if-count_less-ne0.false
-        | else-any_trips-ne0 w ↦
+      elim c.if-any_trips.branch [
+        | then-any_trips+else-count_less-ne0 w ↦ one-more-holds given inside w.put_part.ensures w.count_less.ensures before w.if-count_less-ne0.false
+        | else-any_trips w ↦
             -- Where no trips leave any node of the commodity, its volumes are 0.
-            idle-holds given inside (λ i h. c.any_trips.ensures w.if-any_trips-ne0.false i (omega arith)) before
+            idle-holds given inside (λ i h. c.any_trips.ensures w.if-any_trips.false i (omega arith)) before
       ],
     )
 

@@ -6,7 +6,7 @@ use borrow.Author.Rules.{rules}
 use lib.ListN.{length}
 use Rattle.notes.specs.Laws.Lessened.{none-lessened, lessened-long, small-end, now-within, length-row, row-scatterable, row-lessenable, idle-lessened, one-more-lessened}
 use Rattle.notes.proofs.lessening.lessen.Goals as goal
-use Rattle.notes.proofs.lessening.lessen.Goals.{After-put_part, then-any_trips-ne0, else-any_trips-ne0}
+use Rattle.notes.proofs.lessening.lessen.Goals.{After-put_part, then-any_trips, else-any_trips}
 
 pub loop-k-init : goal.loop-k-init
 loop-k-init c = (search rules, none-lessened _ _ _)
@@ -53,11 +53,11 @@ loop-k-preserved c =
     let inside = c.loop-k-test.true in
     let before = c.loop-k.invariant.1 in (
       search rules,
-      elim c.if-any_trips-ne0.branch [
-        | then-any_trips-ne0 w ↦ w.table-is ∙ one-more-lessened given inside w.put_part.ensures before w.lessen_row.ensures
-        | else-any_trips-ne0 w ↦
+      elim c.if-any_trips.branch [
+        | then-any_trips w ↦ w.table-is ∙ one-more-lessened given inside w.put_part.ensures before w.lessen_row.ensures
+        | else-any_trips w ↦
             -- Where no trips leave any node of the commodity, its volumes are 0.
-            w.table-is ∙ idle-lessened given inside (λ i h. c.any_trips.ensures w.if-any_trips-ne0.false i (omega arith)) before
+            w.table-is ∙ idle-lessened given inside (λ i h. c.any_trips.ensures w.if-any_trips.false i (omega arith)) before
       ],
     )
 

@@ -1,10 +1,7 @@
--- The loop's invariant: the last 16 bits of the first `k` marks are taken. The measure is what is left of the row.
-use Rattle.std.proofs.Common.{◌-◌, ◌%◌, ◌≤◌, get_or}
+-- The loop's invariant: the last 16 bits of the first `k` marks are taken.
+use Rattle.std.proofs.Common.{◌%◌, get_or}
 use Rattle.theory.specs.Laws.Filled.{Filled}
 use Rattle.routes.proofs.next.low_row.Given as goal
 
 abbrev pub invariant-loop-k : goal.invariant-loop-k
-invariant-loop-k l = (l.k ≤ 8) × Filled (λ i. get_or l.row i 0 % 65536) 0 8 l.k l.lows
-
-abbrev pub decreases-loop-k : goal.decreases-loop-k
-decreases-loop-k l = 8 - l.k
+invariant-loop-k l = Filled (λ i. get_or l.row i 0 % 65536) 0 8 l.k l.lows

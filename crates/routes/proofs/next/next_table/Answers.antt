@@ -1,48 +1,35 @@
 -- `next::next_table` meets its contract.
-use Rattle.std.proofs.Common.{◌∙◌, arith}
-use Rattle.routes.specs.Laws.Table.{groups-all, group-span, span-rows, trips-within, nexts-put, nexts-skip}
+use Rattle.std.proofs.Common.{◌≡◌, ◌∙◌, ap, [], length, drop, replicate, length-append, length-take-le, arith}
+use Rattle.std.proofs.lemmas.List.{length-replicate, get_or-replicate}
+use Rattle.std.proofs.lemmas.List.Elements.{same_from_all_zip}
+use Rattle.std.proofs.Math.ListN.{get_or-append}
+use Rattle.routes.specs.Table.{no_links}
+use Rattle.routes.specs.Laws.Table.{empty-ends, used-nexts}
 use Rattle.routes.proofs.next.next_table.Goals as goal
-use Rattle.routes.proofs.next.next_table.Goals.{then-group_trips-gt0, else-group_trips-gt0}
+use Rattle.routes.proofs.next.next_table.Goals.{After-fill}
 
-pub clear_rows-requires : goal.clear_rows-requires
-clear_rows-requires c =
-    let given = c.requires.all_searchable in
-    let inside = c.loop-first-test.true in
-    let past = c.group_end-past.ensures in
-    let (low, high, few) = group-span given.0 inside past in
-    (low, few, span-rows given.0 inside past (rw c.loop-first.invariant.rows.size c.requires.trips_len.1))
+-- The rows of the destinations have no link.
+empty : (c : After-fill) → c.fill.new.self ≡ replicate (length c.args.destinations.now) no_links
+unfolding no_links
+empty c =
+    c.fill.ensures.after (λ row clone. same_from_all_zip _ _ row clone.whole (λ x y e. e))
+    ∙ ap (λ n. replicate n (replicate 128 65535)) (length-take-le (length c.args.destinations.now) c.args.table.now c.requires.trips_len.1)
 
-pub group_trips-requires : goal.group_trips-requires
-group_trips-requires c =
-    let given = c.requires.all_searchable in
-    trips-within given.0 c.loop-first-test.true c.group_end-past.ensures c.requires.trips_len.0
+pub put_groups-requires : goal.put_groups-requires
+put_groups-requires c =
+    rw (empty (goal.at.put_groups-requires c).After-fill) (length-replicate _ _, empty-ends _ _)
 
-pub put_next-requires : goal.put_next-requires
-put_next-requires c =
-    let given = c.requires.all_searchable in
-    let inside = c.loop-first-test.true in
-    let past = c.group_end-past.ensures in
-    let rows = c.clear_rows.ensures in
-    let long = rows.size ∙ c.loop-first.invariant.rows.size in
-    record { all_searchable = given; first_in_bounds = (inside, past); past_in_bounds = (span-rows given.0 inside past (rw long c.requires.trips_len.1), rows.put) }
-
-pub loop-first-preserved : goal.loop-first-preserved
-loop-first-preserved c =
-    let g = c.requires.all_searchable.0 in
-    let inside = c.loop-first-test.true in
-    let past = c.group_end-past.ensures in
-    let trips = c.args.trips.now in
-    let done = c.loop-first.invariant in
-    let rows = c.clear_rows.ensures in
-    elim c.if-group_trips-gt0.branch [
-      | then-group_trips-gt0 w ↦ rw w.table-is (nexts-put g inside past trips done rows w.put_next.ensures)
-      | else-group_trips-gt0 w ↦ rw w.table-is (
-          nexts-skip g inside past trips done rows (c.group_trips.ensures.0 (omega (arith, w.if-group_trips-gt0.false)))
-          )
-    ]
-
-pub returns : goal.returns
-returns c =
-    let all = c.loop-first.invariant in
-    let room = c.requires.trips_len.1 in
-    record { nexts = record { size = rw all.rows.size room; row = groups-all all c.loop-first-test.false }; table_len_unchanged = all.rows.size }
+pub returns-clause-nexts : goal.returns-clause-nexts
+returns-clause-nexts c =
+    let x = c.args in
+    let rows = c.put_groups.new.table in
+    let filled = empty (goal.at.returns-clause-nexts c).After-fill in
+    let size : length rows ≡ length x.destinations.now = c.put_groups.auto.table ∙ ap length filled ∙ length-replicate _ _ in
+    let rest = drop (length x.destinations.now) x.table.now in
+    record {
+      size = omega (arith, size, length-append rows rest);
+      row = λ k b.
+          rw (get_or-append rows rest [] k (omega (arith, size)))
+          (used-nexts x.nodes x.links.now x.destinations.now x.trips.now x.times.now c.fill.new.self rows c.put_groups.ensures
+          (λ i h. rw filled (get_or-replicate _ i no_links [] h)) k b);
+    }

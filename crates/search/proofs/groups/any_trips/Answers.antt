@@ -1,8 +1,10 @@
 -- `groups::any_trips` meets its contract.
-use borrow.Author.Rules.{rules}
-use Rattle.search.specs.Laws.Trips.{zero_more}
+use Rattle.std.proofs.Common.{◌≡◌, fold, bit_or, rules, arith}
+use Rattle.search.specs.Laws.Trips.{all-zero}
 use Rattle.search.proofs.groups.any_trips.Goals as goal
 
-pub loop-i-preserved : goal.loop-i-preserved
-loop-i-preserved c =
-    (search rules, zero_more c.args.trips.now c.loop-i.i c.loop-i.any c.loop-i.invariant.1)
+pub returns : goal.returns
+returns c =
+    let joined : c.fold.result ≡ fold bit_or 0 c.args.trips.now = search rules in
+    let zero = rw (← joined) at (all-zero c.args.trips.now) in
+    grind (arith, zero)

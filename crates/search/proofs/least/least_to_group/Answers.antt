@@ -1,51 +1,49 @@
 -- `least::least_to_group` meets its contract.
-use Prim.Native.Nat.{◌+◌, ◌*◌, ◌-◌, ◌≤◌}
-use native.Mathlib.Nat.{mul-le-mul_right}
-use native.Mathlib.Omega.{arith}
-use borrow.Author.Rules.{rules}
-use mathlib.Core.Path.{◌≡◌}
-use lib.ListN.{length, take, drop}
-use Rattle.search.specs.Laws.Trips.{length_part, group-within}
-use Rattle.search.specs.Laws.Least.{group-none, group-more}
+use Rattle.std.proofs.Common.{◌≡◌, ◌∙◌, ◌+◌, ◌*◌, ◌<◌, length, take, drop, arith}
+use Rattle.std.proofs.Math.Nat.{lt_of_mul-lt-mul_right}
+use Rattle.std.specs.Iterator.Adapters.{enumerate_source}
+use Rattle.std.specs.Slice.Iter.{chunks_exact_rest}
+use Rattle.search.specs.Laws.Trips.{PartsLeft, parts-none, parts-more, parts-end}
+use Rattle.search.specs.Laws.Least.{first-none, first-more}
 use Rattle.search.proofs.least.least_to_group.Goals as goal
-use Rattle.search.proofs.least.least_to_group.Goals.{In-loop-k}
+use Rattle.search.proofs.least.least_to_group.Goals.{In-Some}
 
 pub loop-k-init : goal.loop-k-init
-loop-k-init c = (search rules, c.requires.2, group-none _ _ _ _)
+loop-k-init c =
+    let left = c.enumerate-k-items.ensures in
+    rw (c.into_iter-k-iterator.ensures.into_iter_gives, left.source, left.count, c.chunks_exact.ensures.rest)
+    (c.chunks_exact.ensures.size, parts-none, first-none _ _ _)
 
--- The trips to destination k stand below the end of the trips, and below 4096.
-within : (c : In-loop-k) →
+-- The trips to destination k are cut off, of which there are eight at most.
+cut-off : (c : In-Some) →
     let x = c.args in
-    (c.loop-k.k * x.nodes + x.nodes ≤ length x.trips.now) × (c.loop-k.k * x.nodes + x.nodes ≤ 4096)
-within c =
+    let k = c.in-Some.k in
+    let trips = c.in-Some.trips.now in
+    (k < 8) × (length trips ≡ x.nodes) × (trips ≡ take x.nodes (drop (k * x.nodes) x.trips.now))
+    × PartsLeft x.nodes x.trips.now (k + 1) (chunks_exact_rest (enumerate_source c.next.new.self))
+cut-off c =
     let x = c.args in
-    let k = c.loop-k.k in
-    let row : (k + 1) * x.nodes ≤ x.past * x.nodes = mul-le-mul_right {m = k + 1} {n = x.past} x.nodes (omega (arith, c.loop-k-test.true)) in
-    (omega (arith, row, c.requires.1), omega (arith, row, (group-within c.requires.2 c.requires.4 c.requires.0).1))
-
--- They are one for each node.
-row-length : (c : In-loop-k) →
-    let x = c.args in
-    let at = c.loop-k.k * x.nodes in
-    length (take (at + x.nodes - at) (drop at x.trips.now)) ≡ x.nodes
-row-length c =
-    let x = c.args in
-    let at = c.loop-k.k * x.nodes in
-    omega (arith, length_part at (at + x.nodes) x.trips.now (omega arith) (within c).0)
+    let k = c.in-Some.k in
+    let ((same, (parts, long), rest), number, next, few) = c.in-Some.ensures.steps in
+    let (size, left, so_far) = c.loop-k.invariant in
+    let (within, own, left') = parts-more (rw (← number) at left) parts (rw size at long) in
+    (lt_of_mul-lt-mul_right x.nodes {m = k} {n = 8} (omega (arith, within, c.requires)), rw size at long, own, left')
 
 pub least_to-least-requires : goal.least_to-least-requires
-least_to-least-requires c = (
-  omega (arith, row-length (goal.at.least_to-least-requires c).In-loop-k, c.requires.0),
-  omega (arith, c.requires.3, c.loop-k-test.true),
-  c.requires.5,
-)
+least_to-least-requires c =
+    let (few, long, own, left) = cut-off (goal.at.least_to-least-requires c).In-Some in
+    (omega (arith, long, c.requires), few, c.requires.3)
 
 pub loop-k-preserved : goal.loop-k-preserved
 loop-k-preserved c =
     let x = c.args in
-    let turn = c.loop-k in (
-      search rules,
-      search rules,
-      group-more x.nodes x.trips.now x.marks.now x.first turn.k turn.least c.least_to-least.result c.requires.0 turn.invariant.0
-          (within (goal.at.loop-k-preserved c).In-loop-k).0 turn.invariant.2 (rw (row-length (goal.at.loop-k-preserved c).In-loop-k) at c.least_to-least.ensures),
-    )
+    let (few, long, own, left) = cut-off (goal.at.loop-k-preserved c).In-Some in
+    let ((same, cut, rest), number, next, bound) = c.in-Some.ensures.steps in
+    let (size, before, so_far) = c.loop-k.invariant in
+    rw (next, ← number)
+    (same ∙ size, left, first-more x.nodes x.trips.now x.marks.now c.in-Some.k c.loop-k.least c.least_to-least.result c.requires.1 (rw (← number) at so_far) (rw (long, own) at c.least_to-least.ensures))
+
+pub returns : goal.returns
+returns c = λ m h.
+    let (size, left, so_far) = c.loop-k.invariant in
+    rw (← parts-end left (rw size at c.in-None.ensures.steps.0.1.0) h) so_far

@@ -1,10 +1,13 @@
--- The loop's invariant: the destinations below `k` are added. The measure is what is left of the group.
-use Prim.Native.Nat.{◌-◌, ◌≤◌}
-use Rattle.search.specs.Least.{LeastToGroup}
+-- The loop's invariant: the destinations so far are added, and the trips to the others are left.
+use Rattle.std.proofs.Common.{◌≡◌}
+use Rattle.std.specs.Iterator.Adapters.{enumerate_source, enumerate_count}
+use Rattle.std.specs.Slice.Iter.{chunks_exact_rest, chunks_exact_size}
+use Rattle.search.specs.Least.{LeastToFirst}
+use Rattle.search.specs.Laws.Trips.{PartsLeft}
 use Rattle.search.proofs.least.least_to_group.Given as goal
 
 abbrev pub invariant-loop-k : goal.invariant-loop-k
-invariant-loop-k l = (l.first ≤ l.k) × (l.k ≤ l.past) × LeastToGroup l.nodes l.trips l.marks l.first l.k l.least
-
-abbrev pub decreases-loop-k : goal.decreases-loop-k
-decreases-loop-k l = l.past - l.k
+invariant-loop-k l =
+    (chunks_exact_size (enumerate_source l.k-iterator) ≡ l.nodes)
+    × PartsLeft l.nodes l.trips (enumerate_count l.k-iterator) (chunks_exact_rest (enumerate_source l.k-iterator))
+    × LeastToFirst l.nodes l.trips l.marks (enumerate_count l.k-iterator) l.least

@@ -4,4 +4,4 @@ use Rattle.study.specs.Laws.{has-destination}
 use Rattle.study_cases.proofs.fields.destination.Goals as goal
 
 pub destination-node-requires : goal.destination-node-requires
-destination-node-requires g c = rw c.destinations-destinations.ensures (has-destination _ _ (omega arith))
+destination-node-requires g c = rw c.destinations.ensures (has-destination _ _ (omega arith))

@@ -1,6 +1,5 @@
--- `sums_at` meets its contract. The invariant: the products of the links passed are added on both sides. The measure is what is left
--- of the links. Assumes nothing.
-use Rattle.std.proofs.Common.{◌≡◌, ℕ, ◌-◌, ◌≤◌, List, length}
+-- The invariant of `sums_at`: the products of the links passed are added on both sides.
+use Rattle.std.proofs.Common.{◌≡◌, ℕ, List}
 use Rattle.travel.specs.Links.{total_of, load_of}
 use Rattle.travel.specs.Laws.Choice.{moved_to}
 use Rattle.travel.proofs.choice.sums_at.Given as goal
@@ -10,7 +9,5 @@ abbrev pub moved : List (List ℕ) → List (List ℕ) → ℕ → ℕ → (ℕ 
 moved links flows share j amount l = moved_to links share (total_of flows) (load_of flows) j amount l
 
 abbrev pub invariant-loop-l : goal.invariant-loop-l
-invariant-loop-l l = (l.l ≤ length l.links) × (l.loaded ≡ moved l.links l.flows l.share l.j (load_of l.flows) l.l) × (l.spent ≡ moved l.links l.flows l.share l.j (total_of l.flows) l.l)
-
-abbrev pub decreases-loop-l : goal.decreases-loop-l
-decreases-loop-l l = length l.links - l.l
+invariant-loop-l l =
+    (l.loaded ≡ moved l.links l.flows l.share l.j (load_of l.flows) l.l) × (l.spent ≡ moved l.links l.flows l.share l.j (total_of l.flows) l.l)

@@ -1,13 +1,8 @@
--- `step_by_lem` meets its contract. Assumes nothing.
-use native.Mathlib.Nat.{min-eq_left, min-eq_right}
-use Rattle.std.proofs.Common.{sym, arith, rules}
+-- `step_by` is the smaller of 256 and the parts.
+use Rattle.std.proofs.Common.{arith}
 use Rattle.travel.specs.Links.{step_by}
 use Rattle.travel.proofs.reciprocals.step_by.Goals as goal
 
-pub returns-then-treads-lt256 : goal.returns-then-treads-lt256
-unfolding step_by
-returns-then-treads-lt256 c = (sym (min-eq_right {m = 256} (omega arith)), omega arith)
-
 pub returns : goal.returns
 unfolding step_by
-returns c = (sym (min-eq_left {n = 256} (omega arith)), search rules)
+returns c = grind arith

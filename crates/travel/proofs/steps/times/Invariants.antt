@@ -1,12 +1,8 @@
--- `times` meets its contract. The invariant: the times of the links passed are written, and past all links there are zeros. The measure
--- is what is left of the links. Assumes nothing.
-use Rattle.std.proofs.Common.{◌-◌, ◌≤◌, length}
+-- The invariant of `times`: the times of the links passed are written, and past all links there are zeros.
+use Rattle.std.proofs.Common.{length}
 use Rattle.travel.specs.Links.{list_time}
 use Rattle.travel.specs.Laws.Padded.{Filled}
 use Rattle.travel.proofs.steps.times.Given as goal
 
 abbrev pub invariant-loop-l : goal.invariant-loop-l
-invariant-loop-l l = (l.l ≤ length l.links) × Filled l.l (length l.links) (list_time l.links l.share l.flows) l.times
-
-abbrev pub decreases-loop-l : goal.decreases-loop-l
-decreases-loop-l l = length l.links - l.l
+invariant-loop-l l = Filled l.l (length l.links) (list_time l.links l.share l.flows) l.times

@@ -1,31 +1,24 @@
--- `totals_fit` meets its contract. The invariant: the totals passed are at most the limit. The measure is what is left of the links.
--- Assumes nothing.
-use Rattle.std.proofs.Common.{ℕ, Bool, leb, List, get_or, sym, ◌∙◌, rules, le-leb}
-use borrow.Author.Tests.{lt-leb}
+-- The chain tests the first m totals one by one, as the definition does.
+use Rattle.std.proofs.Common.{◌≡◌, ℕ, zero, suc, ◌≤◌, Bool, ◌&&◌, leb, List, length, get_or, take, refl, sym, ◌∙◌, ap, add-one, arith, rules}
+use borrow.Author.Tests.{tests}
+use Rattle.std.proofs.lemmas.Iterator.{YieldsList-from_slice}
+use Rattle.std.proofs.lemmas.Iterator.Search.{all_from_yields_List}
+use Rattle.std.proofs.lemmas.List.Folds.{list_all_more}
+use Rattle.std.specs.List.{list_all}
 use Rattle.theory.specs.Finite.{all}
-use Rattle.theory.specs.Laws.Finite.{all-suc, all-refuted, both}
 use Rattle.travel.specs.Links.{list_fits}
 use Rattle.travel.proofs.table.totals_fit.Goals as goal
 
-abbrev fits : List ℕ → ℕ → ℕ → Bool
-fits totals limit l = leb (get_or totals l 0) limit
+tested : (m : ℕ) (xs : List ℕ) (test : ℕ → Bool) → m ≤ length xs → list_all test (take m xs) ≡ all m (λ l. test (get_or xs l 0))
+unfolding all
+tested zero xs test h = refl
+tested (suc m) xs test h =
+    ap (λ n. list_all test (take n xs)) (sym (add-one m))
+    ∙ list_all_more test xs m 0 h ∙ ap (λ b. b && test (get_or xs m 0)) (tested m xs test (omega arith))
 
-pub loop-l-init : goal.loop-l-init
-unfolding list_fits all
-loop-l-init c = search rules
-
-pub returns-then-limit-totals : goal.returns-then-limit-totals
+pub returns : goal.returns
 unfolding list_fits
-returns-then-limit-totals c =
-    let a = c.args in
-    let l = c.loop-l.l in
-    sym (all-refuted a.m (fits a.totals.now a.limit) l c.loop-l-test.true (lt-leb _ _ c.if-limit-totals.true))
-
-pub loop-l-preserved : goal.loop-l-preserved
-unfolding list_fits
-loop-l-preserved c =
-    let a = c.args in
-    let l = c.loop-l.l in (
-      search rules,
-      all-suc l (fits a.totals.now a.limit) ∙ both _ _ c.loop-l.invariant.1 (le-leb _ _ c.if-limit-totals.false),
-    )
+returns c =
+    let x = c.args in
+    all_from_yields_List (λ y. leb y x.limit) _ _ _ c.all.ensures.ran (YieldsList-from_slice (take x.m x.totals.now) (cc)) (λ y b q k. search (rules, tests))
+    ∙ tested x.m x.totals.now (λ y. leb y x.limit) (search rules)
