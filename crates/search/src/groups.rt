@@ -2,13 +2,14 @@
 ghost use Rattle.std.specs.Prelude.{◌≡◌, ◌↔◌, ℕ, false, ◌+◌, ◌≤◌, ◌<◌, min, length, get_or};
 ghost use Rattle.search.specs.Groups.{ZeroBelow, Member};
 
-// The group of these destinations, of which there are eight at most: the first again in the place of those that are wanting.
+// The group of the first eight of these destinations: the first again in the place of those that are wanting.
 pub fn group_of(destinations: &[u16]) -> [u16; 8]
-    requires { (0 < length destinations.now) × (length destinations.now ≤ 8) }
+    requires { (0 < length destinations.now) × (length destinations.now ≤ 32) }
     ensures { (i : ℕ) → i < 8 → Member destinations.now 0 i (get_or result i 0) }
 {
     let mut group = [destinations[0]; 8];
-    group[..destinations.len()].copy_from_slice(destinations);
+    let size = destinations.len().min(8);
+    group[..size].copy_from_slice(&destinations[..size]);
     group
 }
 

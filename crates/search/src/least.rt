@@ -2,12 +2,34 @@
 ghost use Rattle.std.specs.Prelude.{◌≡◌, ℕ, ◌*◌, ◌≤◌, ◌<◌, length};
 ghost use Rattle.search.specs.Given.{AllSearchable, class_of};
 ghost use Rattle.search.specs.Chains.{chain_of};
-ghost use Rattle.search.specs.Lanes.{Marked};
+ghost use Rattle.search.specs.Lanes.{EachSearchable, Marked, Found};
 ghost use Rattle.search.specs.Groups.{least_over};
 ghost use Rattle.search.specs.Least.{LeastTo, LeastToFirst};
 
 use crate::groups::{any_trips, group_end, group_of};
 use crate::scans::Search;
+
+// The least times to the destinations of a group, by a search of these parts.
+pub fn search(
+    nodes: usize,
+    links: &[[u16; 6]],
+    times: &[u32; 512],
+    group: [u16; 8],
+    into: &[u16; 896],
+    marks: &mut [[u32; 8]; 128],
+)
+    requires { EachSearchable nodes links.now times.now group × (into.now ≡ chain_of (class_of group) links.now 1) }
+    ensures { Found nodes links.now times.now group marks.new }
+{
+    let search = Search {
+        nodes,
+        links,
+        times,
+        group,
+        into,
+    };
+    search.put_marks(marks);
+}
 
 // The sum of trips × mark over all nodes, for destination k of a group.
 fn least_to(trips: &[u16], marks: &[[u32; 8]; 128], k: usize) -> u64
@@ -53,15 +75,8 @@ pub fn least_times(
         let trips = &trips[first * nodes..past * nodes];
         if any_trips(trips) {
             let group = group_of(&destinations[first..past]);
-            let search = Search {
-                nodes,
-                links,
-                times,
-                group,
-                into,
-            };
             let mut marks = [[0; 8]; 128];
-            search.put_marks(&mut marks);
+            search(nodes, links, times, group, into, &mut marks);
             least += least_to_group(nodes, trips, &marks);
         }
     }

@@ -8,5 +8,5 @@ mod scans;
 
 pub use chains::{INTO, OUT, into_chain, put_chains};
 pub use groups::{any_trips, group_end, group_of};
-pub use least::least_times;
+pub use least::{least_times, search};
 pub use scans::Search;

@@ -1,7 +1,7 @@
 // What the programs read and print, in memory of fixed size.
 #![tactic(auto)]
 
-ghost use Rattle.std.specs.Prelude.{◌≡◌, ◌≤◌, length, IfOk, OnErr, take};
+ghost use Rattle.std.specs.Prelude.{◌≡◌, ◌≤◌, length, IfOk, OnErr, replicate, take};
 
 use std::io;
 use std::io::Read;
@@ -17,7 +17,8 @@ pub struct Buffer<T, const N: usize> {
 impl<T: Copy, const N: usize> Buffer<T, N> {
     // No item is in use, and each is `item`.
     pub fn new(item: T) -> Self
-        ensures { result.len ≡ 0 }
+        ensures none_used { result.len ≡ 0 }
+        ensures all_alike { result.items ≡ replicate N item }
     {
         Buffer {
             items: [item; N],

@@ -1,10 +1,48 @@
 -- The network can be searched to each destination, and to each group of them.
-use Rattle.std.specs.Prelude.{ℕ, ◌+◌, ◌-◌, ◌*◌, ◌≤◌, ◌<◌, min, ◌≡◌, List, length, get_or, take, drop}
-use Rattle.std.proofs.Common.{mul-le-mul_right, arith, sym, ◌∙◌, ap, length-drop, length-take-le, get_or-take, get_or-drop}
+use Rattle.std.specs.Prelude.{ℕ, ◌+◌, ◌-◌, ◌*◌, ◌≤◌, ◌<◌, min, ◌≡◌, List, ◌++◌, length, get_or, take, drop, replicate}
+use Rattle.std.proofs.Common.{mul-le-mul_right, arith, sym, ◌∙◌, ap, ⊎_elim, length-drop, length-take-le, get_or-take, get_or-drop}
+use Rattle.std.proofs.lemmas.List.{get_or-replicate, get_or-append_right}
+use Rattle.std.proofs.Math.ListN.{get_or-append}
+use Rattle.theory.specs.Laws.Finite.{order}
 use Rattle.theory.specs.Study.{of_lorries}
 use Rattle.search.specs.Given.{class_of, Searchable, AllSearchable}
 use Rattle.search.specs.Lanes.{EachSearchable}
 use Rattle.search.specs.Groups.{Member}
+
+-- The first eight of some destinations, with the first again in the place of those that are wanting, are a group of them.
+pub first-members : (destinations : List ℕ) (size : ℕ) → 0 < length destinations → size ≡ min (length destinations) 8
+    → (i : ℕ) → i < 8 → Member destinations 0 i (get_or (take size destinations ++ drop size (replicate 8 (get_or destinations 0 0))) i 0)
+first-members destinations size some size≡ i b = ⊎_elim within past (order i size)
+  where
+    front : List ℕ
+    front = take size destinations
+
+    others : List ℕ
+    others = replicate 8 (get_or destinations 0 0)
+
+    long : length front ≡ size
+    long = length-take-le size destinations (omega arith)
+
+    within : i < size → Member destinations 0 i (get_or (front ++ drop size others) i 0)
+    within h =
+        record {
+          number = i;
+          below = omega arith;
+          is = get_or-append front (drop size others) 0 i (omega (arith, long)) ∙ get_or-take size destinations i 0 h;
+          own = λ c. omega arith;
+        }
+
+    past : size ≤ i → Member destinations 0 i (get_or (front ++ drop size others) i 0)
+    past h =
+        record {
+          number = 0;
+          below = some;
+          is =
+              get_or-append_right front (drop size others) size i 0 long h
+              ∙ get_or-drop size others (i - size) 0
+              ∙ get_or-replicate 8 (size + (i - size)) (get_or destinations 0 0) 0 (omega arith);
+          own = λ c. absurd (omega arith);
+        }
 
 -- The destinations from `first` on and below `past`, as a slice lends them,
 abbrev pub destinations-from : List ℕ → ℕ → ℕ → List ℕ

@@ -15,12 +15,12 @@ loop-first-init c = (sym (all_none _ _ _ _ _), omega arith)
 members : (c : After-group_of-group) → (i : ℕ) → i < 8 → Member c.args.destinations.now c.loop-first.first i (get_or c.group_of-group.result i 0)
 members c i b = member-of c.args.destinations.now c.loop-first-test.true c.group_end-past.ensures b (c.group_of-group.ensures i b)
 
-pub invariant_of-search : goal.invariant_of-search
-invariant_of-search c =
+pub search-requires : goal.search-requires
+search-requires c =
     let (given, chain) = c.requires.all_searchable in
     let group = c.group_of-group.result in
-    let own = members (goal.at.invariant_of-search c).After-group_of-group in
-    record { searchable = members-searchable given group own; chained = rw (group-class given group own) chain }
+    let own = members (goal.at.search-requires c).After-group_of-group in
+    (members-searchable given group own, rw (group-class given group own) chain)
 
 pub least_to_group-least-requires : goal.least_to_group-least-requires
 least_to_group-least-requires c =
@@ -31,7 +31,7 @@ least_to_group-least-requires c =
     let size = trips-to-size x.nodes x.trips.now first past low long in
     let few : (past - first) * x.nodes ≤ 8 * x.nodes = mul-le-mul_right x.nodes (omega (arith, c.group_end-past.ensures)) in
     let given = c.requires.all_searchable.0 in
-    (omega (arith, given.destination-node first c.loop-first-test.true), given.roads.few-nodes, omega (arith, size, few), c.put_marks.ensures.marked)
+    (omega (arith, given.destination-node first c.loop-first-test.true), given.roads.few-nodes, omega (arith, size, few), c.search.ensures.marked)
 
 -- The destinations of the group are added, or there is nothing to add.
 added : (c : Joined-any_trips) →
@@ -53,7 +53,7 @@ added c =
           let own = w.least_to_group-least.ensures (past - first) size in
           rw w.least-is (
             all_more x.nodes x.links.now x.destinations.now x.trips.now x.times.now inside ends so_far long
-                (λ i b. member-of x.destinations.now inside ends b (w.group_of-group.ensures i b)) w.put_marks.ensures own,
+                (λ i b. member-of x.destinations.now inside ends b (w.group_of-group.ensures i b)) w.search.ensures own,
             omega (arith, small, first-adds own (omega (arith, ends))),
           )
       | else-any_trips w ↦ rw w.least-is (
