@@ -57,6 +57,7 @@ fn link_both(archive: &OsStr, before: &OsStr) {
         "audit",
         "page",
         "take_back",
+        "desks",
     ];
     let renamed = calls.map(|call| format!("--redefine-sym=ilstrovan_{call}=before_{call}"));
     let copied = copy_aligned(archive, &[], &out.join("libinterface.a"))

@@ -1,7 +1,7 @@
 /*
  * Ilstrovan: equilibrium assignment of trips to a road network.
  *
- * Eight calls over a study file in memory, and a flow table and a note that the
+ * Nine calls over study files in memory, and flow tables and a note that the
  * caller lends. Every number they return or write is proved to be the one that
  * documents 01 and 02 define, for any bytes, any table, any note and any
  * numbers. Link with target/staticlib/libinterface.a, which
@@ -11,17 +11,20 @@
  * Returned by every call
  *   0 where the call is accepted, otherwise the number of the first question
  *   that refuses (ilstrovan_refusal below). A refused call writes 0 to each
- *   number of `answer` and leaves the table, the output, the page and the note
- *   as they were.
+ *   number of `answer` and leaves the tables, the output, the page and the note
+ *   as they were. A refused desk of ilstrovan_desks has a number of its own in
+ *   `answer`; the call is accepted all the same.
  *
  * Memory
  *   Everything belongs to the caller: nothing is allocated, kept or freed, and
  *   no pointer is used after the call returns. A pointer is never NULL, not
- *   even with a length of 0, is aligned for its type, and points to as many
- *   elements as the length after it says. What a call writes (output, table,
- *   page, answer, the note of a pass) overlaps nothing else that the call is
- *   handed, and no other thread touches it meanwhile; what a call only reads
- *   may be shared. Calls on separate memory may run in any number of threads.
+ *   even with a length of 0 or at a seat without a desk, is aligned for its
+ *   type, and points to as many elements as the length after it says. What a
+ *   call writes (output, table, page, answer, the note of a pass) overlaps
+ *   nothing else that the call is handed, and no other thread touches it
+ *   meanwhile; what a call only reads may be shared, so that seats may have the
+ *   same file, but not the same table. Calls on separate memory may run in any
+ *   number of threads.
  *
  * Stack
  *   A call needs at most 512 KiB of stack.
@@ -71,6 +74,10 @@
  *   budget                 The most tables a run judges, 1 to 1024.
  *   excess                 The excess at which a run ends, 0 to 65535
  *                          hundredths of a minute a trip.
+ *   desks                  How many desks there are, 1 to 8. They sit at the
+ *                          first seats; the seats after them have no desk.
+ *   allowance              The most turns of all desks together, 1 to 8192.
+ *   budgets, excesses      The budget and the excess of each seat.
  *   answer                 Receives the numbers of the answer, always all.
  *
  * Times are hundredths of a minute. Gap and cost are as document 01 has them:
@@ -154,7 +161,11 @@ enum ilstrovan_refusal {
        odd. Asked after 21. */
     ILSTROVAN_NOTED_FLOW = 22,
     /* A link's barred byte is neither 0 nor 1. Asked after 19 and before 9. */
-    ILSTROVAN_BARRED_BYTES = 23
+    ILSTROVAN_BARRED_BYTES = 23,
+    /* The desks are not 1 to 8. Asked before all others. */
+    ILSTROVAN_DESKS = 24,
+    /* The allowance is not 1 to 8192. Asked after 24. */
+    ILSTROVAN_ALLOWANCE = 25
 };
 
 /* What a pass did: answer[0] of ilstrovan_pass. A refused pass has 0. */
@@ -164,11 +175,13 @@ enum ilstrovan_outcome {
                                     as they were */
 };
 
-/* How a run ended: answer[0] of ilstrovan_run. A refused run has 0. */
+/* How a run ended: answer[0] of ilstrovan_run, and the second number of each
+   desk of ilstrovan_desks. A refused run has 0. */
 enum ilstrovan_ending {
     ILSTROVAN_REACHED = 1,       /* the gap is within the excess */
     ILSTROVAN_RUN_FINEST = 2,    /* there is no move from the last table */
-    ILSTROVAN_SPENT = 3          /* the budget is used up */
+    ILSTROVAN_SPENT = 3,         /* the budget is used up */
+    ILSTROVAN_WAITING = 4        /* the allowance ended first; of desks only */
 };
 
 /* Is the file an acceptable study? Refusals 1 to 8, then 19, then 23, then 9 to
@@ -237,6 +250,78 @@ uint8_t ilstrovan_audit(const uint8_t *file, size_t file_length,
 uint8_t ilstrovan_page(const uint8_t *file, size_t file_length,
                        const uint32_t *table, size_t table_length,
                        uint32_t share, uint8_t *page, size_t page_length);
+
+/* Runs up to eight desks, each with a file, a table, a budget and an excess of
+   its own. Turns go round the unfinished desks in seat order, one judged table
+   each, until all have ended or the allowance is used up. A desk that ended
+   holds in its table what ilstrovan_run with its budget would leave there, and
+   in its numbers what that would answer. A desk that the allowance cut off
+   after k turns is waiting, and otherwise holds what a run of budget k would;
+   with no turn it has its table as started, share 1, and judged, gap, cost and
+   over 0.
+
+   Writes how many turns there were, and then for each seat from 0 to 7 seven
+   numbers, those of seat k from answer[1 + 7 * k] on: its refusal, its ending
+   (ilstrovan_ending), how many tables were judged, and the share, the gap, the
+   cost and how many links are over of the last. Refusals of a desk as run: it
+   takes no turn, has 0 in its other numbers, and its table is as it was. A seat
+   without a desk has 0 throughout, whatever it is lent, and a table lent there
+   is as it was. Refusals of the whole call: 24, then 25. */
+uint8_t ilstrovan_desks(const uint8_t *file_0, size_t file_0_length,
+                        uint32_t *table_0, size_t table_0_length,
+                        const uint8_t *file_1, size_t file_1_length,
+                        uint32_t *table_1, size_t table_1_length,
+                        const uint8_t *file_2, size_t file_2_length,
+                        uint32_t *table_2, size_t table_2_length,
+                        const uint8_t *file_3, size_t file_3_length,
+                        uint32_t *table_3, size_t table_3_length,
+                        const uint8_t *file_4, size_t file_4_length,
+                        uint32_t *table_4, size_t table_4_length,
+                        const uint8_t *file_5, size_t file_5_length,
+                        uint32_t *table_5, size_t table_5_length,
+                        const uint8_t *file_6, size_t file_6_length,
+                        uint32_t *table_6, size_t table_6_length,
+                        const uint8_t *file_7, size_t file_7_length,
+                        uint32_t *table_7, size_t table_7_length,
+                        uint32_t desks, uint32_t allowance,
+                        const uint32_t budgets[8], const uint16_t excesses[8],
+                        uint64_t answer[57]);
+
+/* What a seat is lent. A seat without a desk may have lengths of 0, but no
+   pointer is NULL. */
+struct ilstrovan_seat {
+    const uint8_t *file;
+    size_t file_length;
+    uint32_t *table;
+    size_t table_length;
+};
+
+/* ilstrovan_desks with the eight seats in an array. */
+static inline uint8_t ilstrovan_desks_at(const struct ilstrovan_seat seats[8],
+                                         uint32_t desks, uint32_t allowance,
+                                         const uint32_t budgets[8],
+                                         const uint16_t excesses[8],
+                                         uint64_t answer[57])
+{
+    return ilstrovan_desks(
+        seats[0].file, seats[0].file_length,
+        seats[0].table, seats[0].table_length,
+        seats[1].file, seats[1].file_length,
+        seats[1].table, seats[1].table_length,
+        seats[2].file, seats[2].file_length,
+        seats[2].table, seats[2].table_length,
+        seats[3].file, seats[3].file_length,
+        seats[3].table, seats[3].table_length,
+        seats[4].file, seats[4].file_length,
+        seats[4].table, seats[4].table_length,
+        seats[5].file, seats[5].file_length,
+        seats[5].table, seats[5].table_length,
+        seats[6].file, seats[6].file_length,
+        seats[6].table, seats[6].table_length,
+        seats[7].file, seats[7].file_length,
+        seats[7].table, seats[7].table_length,
+        desks, allowance, budgets, excesses, answer);
+}
 
 #ifdef __cplusplus
 }

@@ -2,8 +2,9 @@
 //! for those of an earlier build, beside which the benchmark times them.
 
 /// Declares the calls of a static library whose names begin with a prefix, but
-/// for those that are lent a note. Each returns the refusal number or 0, and
-/// writes all of `answer`. All are the same for every version of a study.
+/// for those that are lent a note and the one for desks. Each returns the refusal
+/// number or 0, and writes all of `answer`. All are the same for every version of a
+/// study.
 macro_rules! declare_calls {
     ($prefix:literal) => {
         unsafe extern "C" {

@@ -56,6 +56,9 @@
 //! the lorries: 2 × destinations × links numbers, and 1 + 2 × destinations ×
 //! nodes.
 //!
+//! An office with several studies runs them together: [`desks`] takes up to eight
+//! of them, each with its own budget, excess and flow table, and gives them turns.
+//!
 //! A call needs at most 512 KiB of stack. It keeps nothing, so calls may run in
 //! any number of threads.
 
@@ -63,9 +66,11 @@
 
 #[macro_use]
 mod declare;
+mod desks;
 mod refusal;
 pub mod sys;
 
+pub use desks::{Desk, DesksAnswer, SEATS, desks};
 pub use refusal::Refusal;
 
 /// Bytes of a link's line on a page.
@@ -96,6 +101,20 @@ pub enum Ending {
     Finest,
     /// The budget is used up.
     Spent,
+    /// The allowance ended before the run; of [`desks`] only.
+    Waiting,
+}
+
+impl Ending {
+    /// The ending with this number.
+    fn of(number: u64) -> Self {
+        match number {
+            1 => Ending::Reached,
+            2 => Ending::Finest,
+            3 => Ending::Spent,
+            _ => Ending::Waiting,
+        }
+    }
 }
 
 /// The answer of a pass.
@@ -129,6 +148,20 @@ pub struct Run {
     pub cost: u64,
     /// Links of the last judged table that are past their curves.
     pub over: u32,
+}
+
+impl Run {
+    /// The answer in these numbers.
+    fn of([ending, judged, share, gap, cost, over]: [u64; 6]) -> Self {
+        Run {
+            ending: Ending::of(ending),
+            judged: judged as u32,
+            share: share as u32,
+            gap,
+            cost,
+            over: over as u32,
+        }
+    }
 }
 
 /// The answer of an audit.
@@ -275,19 +308,7 @@ pub fn run(file: &[u8], table: &mut [u32], budget: u32, excess: u16) -> Result<R
         )
     };
     Refusal::of(number)?;
-    let [ending, judged, share, gap, cost, over] = answer;
-    Ok(Run {
-        ending: match ending {
-            1 => Ending::Reached,
-            2 => Ending::Finest,
-            _ => Ending::Spent,
-        },
-        judged: judged as u32,
-        share: share as u32,
-        gap,
-        cost,
-        over: over as u32,
-    })
+    Ok(Run::of(answer))
 }
 
 /// The gap and cost of a table of this share, whoever made it, and how many of

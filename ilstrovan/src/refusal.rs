@@ -5,7 +5,7 @@ use std::fmt;
 use std::num::NonZeroU8;
 
 /// What the numbers mean, from 1 on.
-const WORDS: [&str; 23] = [
+const WORDS: [&str; 25] = [
     "the file is not 32 to 65,536 bytes long",
     "the version is not 1, 2, 3 or 4",
     "nodes are not 2 to 128, links 1 to 512 or destinations 1 to 32, or there are more destinations than nodes",
@@ -29,9 +29,12 @@ const WORDS: [&str; 23] = [
     "the note does not lead from every node with trips to the destination, along links that may carry them",
     "the note has no fewer loadings than the share, or more than the table holds, or a share or flow to be halved is odd",
     "a link's barred byte is neither 0 nor 1",
+    "the desks are not 1 to 8",
+    "the allowance is not 1 to 8,192",
 ];
 
-/// The first question that refused a call. The call changed nothing.
+/// The first question that refused a call, or one of several desks. The call
+/// changed nothing, or nothing at that desk.
 #[derive(Clone, Copy, Debug, PartialEq, Eq)]
 pub struct Refusal(NonZeroU8);
 

@@ -2,6 +2,7 @@
 //! every number answered, and everything lent.
 
 mod common;
+mod lent;
 mod pair;
 mod rounds;
 mod studies;
@@ -25,6 +26,8 @@ fn recorded_calls() {
     assert!(pair.over > 500, "{} with links over", pair.over);
     let pages = pair.answered(Kind::Page);
     assert!(pages[0] > 150, "{pages:?}");
+    let desks = pair.answered(Kind::Desks);
+    assert!(desks[0] > 300, "{desks:?}");
 }
 
 /// Small studies of version 1, whole and damaged.
@@ -41,10 +44,10 @@ fn random_calls_on_small_studies() {
     let (pages, back) = (pair.answered(Kind::Page), pair.answered(Kind::TakeBack));
     // A page puts every question but those of a run and of a pack.
     assert!(pages[0] > 10_000, "{pages:?}");
-    assert_eq!(pair.never(Kind::Page), [13, 17, 19, 20, 21, 22, 23]);
+    assert_eq!(pair.never(Kind::Page), [13, 17, 19, 20, 21, 22, 23, 24, 25]);
     // Taking back puts those of a note, and none to a page.
     assert!(back[0] > 1_500, "{back:?}");
-    assert_eq!(pair.never(Kind::TakeBack), [13, 17, 18, 19, 20, 23]);
+    assert_eq!(pair.never(Kind::TakeBack), [13, 17, 18, 19, 20, 23, 24, 25]);
 }
 
 /// Small studies of version 2, whole and damaged.
@@ -61,9 +64,9 @@ fn random_calls_on_small_studies_with_closed_nodes() {
     let (pages, back) = (pair.answered(Kind::Page), pair.answered(Kind::TakeBack));
     assert!(pages[0] > 10_000, "{pages:?}");
     assert!(pages[20] > 1_000, "{pages:?}");
-    assert_eq!(pair.never(Kind::Page), [13, 17, 21, 22, 23]);
+    assert_eq!(pair.never(Kind::Page), [13, 17, 21, 22, 23, 24, 25]);
     assert!(back[0] > 1_500, "{back:?}");
-    assert_eq!(pair.never(Kind::TakeBack), [13, 17, 18, 23]);
+    assert_eq!(pair.never(Kind::TakeBack), [13, 17, 18, 23, 24, 25]);
 }
 
 /// Small studies of version 3, with closed nodes and without, whole and damaged.
@@ -81,9 +84,9 @@ fn random_calls_on_small_studies_with_powers() {
     let (pages, back) = (pair.answered(Kind::Page), pair.answered(Kind::TakeBack));
     assert!(pages[0] > 10_000, "{pages:?}");
     assert!(pages[7] > 500, "{pages:?}");
-    assert_eq!(pair.never(Kind::Page), [13, 17, 21, 22, 23]);
+    assert_eq!(pair.never(Kind::Page), [13, 17, 21, 22, 23, 24, 25]);
     assert!(back[0] > 1_500, "{back:?}");
-    assert_eq!(pair.never(Kind::TakeBack), [13, 17, 18, 23]);
+    assert_eq!(pair.never(Kind::TakeBack), [13, 17, 18, 23, 24, 25]);
 }
 
 /// Studies of version 1 up to every limit.

@@ -8,7 +8,7 @@ use std::path::Path;
 use std::process::Command;
 
 use second::draft::{Draft, Versioned};
-use second::{AuditAnswer, PassAnswer, RunAnswer};
+use second::{AuditAnswer, Desk, DesksAnswer, PassAnswer, RunAnswer, SEATS};
 use zone::zone;
 
 #[test]
@@ -46,6 +46,8 @@ fn town() {
         expected_of_the_zone(),
         expected_of_powers(),
         expected_of_lorries(),
+        expected_of_two_desks(),
+        expected_of_eight_desks(),
     ];
     assert_eq!(String::from_utf8_lossy(&ran.stdout), expected.concat());
 }
@@ -77,6 +79,10 @@ fn pass_words(a: PassAnswer) -> String {
 }
 
 fn run_words(a: RunAnswer) -> String {
+    format!("run {}", run_numbers(a))
+}
+
+fn run_numbers(a: RunAnswer) -> String {
     let RunAnswer {
         refusal,
         ending,
@@ -86,7 +92,12 @@ fn run_words(a: RunAnswer) -> String {
         cost,
         over,
     } = a;
-    format!("run {refusal} {ending} {judged} {share} {gap} {cost} {over}")
+    format!("{refusal} {ending} {judged} {share} {gap} {cost} {over}")
+}
+
+fn desks_words(a: DesksAnswer) -> String {
+    let seats = a.seats.map(run_numbers).join(" ");
+    format!("desks {} {} {seats}", a.refusal, a.turns)
 }
 
 /// What the program is to print of the town of two roads, by the second
@@ -315,4 +326,59 @@ fn expected_of_lorries() -> String {
         "",
     ]);
     lines.join("\n")
+}
+
+/// What the program is to print of two desks with the town and three turns: the
+/// first waits after two of them, the second is reached at its first.
+fn expected_of_two_desks() -> String {
+    let zeros = |count: usize| " 0".repeat(count);
+    let both = "table 4 0 9\ntable 2 0 9\n";
+    let mut text = format!(
+        "desks 0 3 0 4 2 2 20 2976 0 0 1 1 1 10 1488 0{}\n",
+        zeros(42)
+    );
+    text += both;
+    text += &"table 9 9 9\n".repeat(6);
+    for number in [24, 24, 25, 25] {
+        text += &format!("desks {number}{}\n", zeros(57));
+    }
+    text + both
+}
+
+/// What the program is to print of a study on each seat, by the second
+/// implementation.
+fn expected_of_eight_desks() -> String {
+    let town = Draft::town().file();
+    let zone = zone().closing(&[1]).file();
+    let curved = Draft::town().with_powers(vec![2, 4]).file();
+    let freight = Draft::town().with_lorries(vec![vec![1, 0]]).barring(&[0]);
+    let freight = freight.file();
+    let orders: [(&[u8], usize, u32, u16); SEATS] = [
+        (&town, 3, 10, 0),
+        (&zone, 5, 1, 0),
+        (&curved, 2, 9, 0),
+        (&freight, 4, 8, 0),
+        (&town[..57], 5, 7, 0),
+        (&zone, 4, 1_025, 0),
+        (&curved, 3, 3, 4),
+        (&freight, 3, 2, 5),
+    ];
+    let mut lines = String::new();
+    for allowance in (1..=33).step_by(8) {
+        let mut tables = [[9; 5]; SEATS];
+        let mut lent = orders.iter().zip(&mut tables);
+        let mut desks = std::array::from_fn(|_| {
+            let (&(file, length, budget, excess), table) = lent.next().expect("eight seats");
+            Desk {
+                file,
+                table: &mut table[..length],
+                budget,
+                excess,
+            }
+        });
+        let answer = second::desks(&mut desks, 8, allowance);
+        let tables = tables.map(|table| table_words(&table) + "\n").concat();
+        lines += &format!("{}\n{tables}", desks_words(answer));
+    }
+    lines
 }

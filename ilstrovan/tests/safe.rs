@@ -1,11 +1,11 @@
 //! The safe functions on the town of two roads, document 01's cases and those of
-//! requests A.4 to A.7, and on towns with a zone, those of request A.2.
+//! requests A.4 to A.8, and on towns with a zone, those of request A.2.
 
 mod zone;
 
 use ilstrovan::{
-    Audit, Ending, LINE_BYTES, LONGEST_NOTE, NO_LINK, Outcome, Pass, Run, audit, check, pack, page,
-    pass, run, start, take_back,
+    Audit, Desk, DesksAnswer, Ending, LINE_BYTES, LONGEST_NOTE, NO_LINK, Outcome, Pass, Refusal,
+    Run, SEATS, audit, check, desks, pack, page, pass, run, start, take_back,
 };
 use second::draft::{Draft, Versioned};
 use zone::zone;
@@ -472,4 +472,169 @@ fn a_closed_destination() {
     assert_eq!(table, [1, 0, 0, 0, 0, 1]);
     assert!(audit(&file, &[2, 0, 0, 0, 0, 2], 2).is_ok());
     assert_eq!(refusal(audit(&file, &[2, 0, 0, 1, 1, 1], 2)), 20);
+}
+
+/// Desks with one file, each with a table and with a budget and an excess from the
+/// list.
+fn desks_of<'a>(file: &'a [u8], tables: &'a mut [[u32; 3]], runs: &[(u32, u16)]) -> Vec<Desk<'a>> {
+    let desks = tables.iter_mut().zip(runs);
+    desks
+        .map(|(table, &(budget, excess))| Desk {
+            file,
+            table,
+            budget,
+            excess,
+        })
+        .collect()
+}
+
+/// The answer and the tables of desks with the town.
+fn town_desks(
+    runs: &[(u32, u16)],
+    allowance: u32,
+) -> (Result<DesksAnswer, Refusal>, Vec<[u32; 3]>) {
+    let mut tables = vec![[7; 3]; runs.len()];
+    let file = Draft::town().file();
+    let answer = desks(&mut desks_of(&file, &mut tables, runs), allowance);
+    (answer, tables)
+}
+
+/// The ending and the tables judged of a desk.
+fn ended(answer: &DesksAnswer, seat: usize) -> (Ending, u32) {
+    let run = answer.seats[seat].expect("a desk").expect("accepted");
+    (run.ending, run.judged)
+}
+
+/// Turns go round in seat order: a budget of 3, one of 10 with an excess that the
+/// first table reaches, one of 1,024, and one of 1.
+#[test]
+fn turns_of_desks() {
+    let runs = [(3, 0), (10, 5), (1_024, 4), (1, 0)];
+    for (allowance, judged) in [
+        (1, [1, 0, 0, 0]),
+        (3, [1, 1, 1, 0]),
+        (4, [1, 1, 1, 1]),
+        (5, [2, 1, 1, 1]),
+        (8, [3, 1, 3, 1]),
+        (10, [3, 1, 5, 1]),
+        (8_192, [3, 1, 5, 1]),
+    ] {
+        let (answer, _) = town_desks(&runs, allowance);
+        let answer = answer.expect("accepted");
+        assert_eq!(answer.turns, allowance.min(10));
+        assert_eq!([0, 1, 2, 3].map(|seat| ended(&answer, seat).1), judged);
+        assert_eq!(answer.seats[4..], [None; 4]);
+    }
+
+    let (answer, tables) = town_desks(&runs, 9);
+    let answer = answer.expect("accepted");
+    let endings = [0, 1, 2, 3].map(|seat| ended(&answer, seat).0);
+    let (spent, waiting) = (Ending::Spent, Ending::Waiting);
+    assert_eq!(endings, [spent, Ending::Reached, waiting, spent]);
+    assert_eq!(tables, [[8, 0, 7], [2, 0, 7], [16, 0, 7], [2, 0, 7]]);
+}
+
+/// With no turn a desk has its table as started, share 1, and all else 0.
+#[test]
+fn desks_without_a_turn() {
+    let (answer, tables) = town_desks(&[(10, 0); SEATS], 7);
+    let answer = answer.expect("accepted");
+    let none = Run {
+        ending: Ending::Waiting,
+        judged: 0,
+        share: 1,
+        gap: 0,
+        cost: 0,
+        over: 0,
+    };
+    assert_eq!(answer.seats[7], Some(Ok(none)));
+    let first = Run {
+        judged: 1,
+        gap: 10,
+        cost: 1_488,
+        ..none
+    };
+    assert_eq!(answer.seats[..7], [Some(Ok(first)); 7]);
+    assert_eq!(tables, [[2, 0, 7]; 8]);
+}
+
+/// Ended desks are as runs alone leave them, whatever the study's version, and one
+/// of them is finest.
+#[test]
+fn ended_desks() {
+    let mut rising = Draft::town();
+    rising.links = vec![[0, 1, 10, 100, 2], [0, 1, 15, 7, 1]];
+    let files = [
+        rising.file(),
+        closed_zone().file(),
+        Draft::town().with_powers(vec![2, 4]).file(),
+        freight().file(),
+    ];
+    let mut tables = [[7; 5]; 4];
+    let mut lent: Vec<Desk> = files
+        .iter()
+        .zip(&mut tables)
+        .map(|(file, table)| Desk {
+            file,
+            table,
+            budget: 1_024,
+            excess: 0,
+        })
+        .collect();
+    let answer = desks(&mut lent, 8_192).expect("accepted");
+    let mut turns = 0;
+    for (seat, file) in files.iter().enumerate() {
+        let mut table = [7; 5];
+        let alone = run(file, &mut table, 1_024, 0);
+        assert_eq!(answer.seats[seat], Some(alone));
+        assert_eq!(tables[seat], table);
+        turns += alone.expect("accepted").judged;
+    }
+    assert_eq!(ended(&answer, 0).0, Ending::Finest);
+    assert_eq!(answer.turns, turns);
+}
+
+#[test]
+fn desks_that_are_refused() {
+    // One desk of three, for its budget.
+    let (answer, tables) = town_desks(&[(1, 0), (0, 0), (1, 0)], 8_192);
+    let answer = answer.expect("accepted");
+    assert_eq!(answer.turns, 2);
+    let second = answer.seats[1].expect("a desk");
+    assert_eq!(refusal(second), 13);
+    assert_eq!(tables, [[2, 0, 7], [7; 3], [2, 0, 7]]);
+
+    // And for its file and its table.
+    let (file, mut tables) = (Draft::town().file(), [[7; 3]; 3]);
+    let mut lent = desks_of(&file, &mut tables, &[(1, 0); 3]);
+    lent[0].file = &file[..57];
+    lent[2].table = &mut [];
+    let answer = desks(&mut lent, 1).expect("accepted");
+    let numbers = [0, 2].map(|seat| refusal(answer.seats[seat].expect("a desk")));
+    assert_eq!((numbers, answer.turns), ([4, 12], 1));
+    assert_eq!(tables, [[7; 3], [2, 0, 7], [7; 3]]);
+}
+
+#[test]
+fn calls_for_desks_that_are_refused() {
+    for (count, allowance, number) in [
+        (0, 0, 24),
+        (0, 1, 24),
+        (9, 0, 24),
+        (9, 8_192, 24),
+        (257, 1, 24),
+        (1, 0, 25),
+        (8, 8_193, 25),
+        (8, u32::MAX, 25),
+    ] {
+        let (answer, tables) = town_desks(&vec![(3, 0); count], allowance);
+        assert_eq!(refusal(answer), number, "{count} {allowance}");
+        assert_eq!(tables, vec![[7; 3]; count]);
+    }
+    let words = |count, allowance| {
+        let (answer, _) = town_desks(&vec![(3, 0); count], allowance);
+        answer.expect_err("a refusal").to_string()
+    };
+    assert_eq!(words(0, 1), "refused 24: the desks are not 1 to 8");
+    assert_eq!(words(1, 0), "refused 25: the allowance is not 1 to 8,192");
 }

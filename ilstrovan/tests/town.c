@@ -1,5 +1,6 @@
-/* The town of two roads, the town with a zone, the town with powers and the town
-   with lorries, from C: every call, accepted and refused. */
+/* The town of two roads, the town with a zone, the town with powers, the town
+   with lorries, and desks with all of them, from C: every call, accepted and
+   refused. */
 #include "ilstrovan.h"
 
 #include <stdio.h>
@@ -346,6 +347,62 @@ static void town_with_lorries(void)
            (unsigned)output[94], (unsigned)output[95]);
 }
 
+/* Tables that hold 9s, one for each seat. */
+static void fill_tables(uint32_t tables[8][5])
+{
+    for (size_t k = 0; k < 8; k++)
+        for (size_t i = 0; i < 5; i++)
+            tables[k][i] = 9;
+}
+
+/* Two desks with the town, one of which has its run cut off, and six seats
+   without a desk, one of them lent nothing; then refused calls. */
+static void two_desks(void)
+{
+    uint32_t tables[8][5], budgets[8] = {10, 10, 1, 0, 0, 0, 0, 0};
+    uint16_t excesses[8] = {0, 5, 0, 0, 0, 0, 0, 0};
+    struct ilstrovan_seat seats[8];
+    uint64_t answer[57];
+    static const uint32_t refused[4][2] = {{0, 3}, {9, 0}, {2, 0}, {8, 8193}};
+
+    fill_tables(tables);
+    for (size_t k = 0; k < 8; k++)
+        seats[k] = (struct ilstrovan_seat){town, sizeof town, tables[k], 3};
+    seats[7].file_length = seats[7].table_length = 0;
+    for (size_t i = 0; i < 57; i++)
+        answer[i] = i + 1;
+    show("desks", ilstrovan_desks_at(seats, 2, 3, budgets, excesses, answer), answer, 57);
+    for (size_t k = 0; k < 8; k++)
+        show_table(tables[k]);
+    for (size_t i = 0; i < 4; i++)
+        show("desks",
+             ilstrovan_desks_at(seats, refused[i][0], refused[i][1], budgets, excesses, answer),
+             answer, 57);
+    show_table(tables[0]);
+    show_table(tables[1]);
+}
+
+/* A study on each seat, with runs cut off, ended and refused. */
+static void eight_desks(void)
+{
+    uint32_t tables[8][5], budgets[8] = {10, 1, 9, 8, 7, 1025, 3, 2};
+    uint16_t excesses[8] = {0, 0, 0, 0, 0, 0, 4, 5};
+    struct ilstrovan_seat seats[8] = {
+        {town, sizeof town, tables[0], 3},       {zone, sizeof zone, tables[1], 5},
+        {curved, sizeof curved, tables[2], 2},   {freight, sizeof freight, tables[3], 4},
+        {town, 57, tables[4], 5},                {zone, sizeof zone, tables[5], 4},
+        {curved, sizeof curved, tables[6], 3},   {freight, sizeof freight, tables[7], 3}};
+    uint64_t answer[57];
+
+    for (uint32_t allowance = 1; allowance <= 33; allowance += 8) {
+        fill_tables(tables);
+        show("desks", ilstrovan_desks_at(seats, 8, allowance, budgets, excesses, answer), answer,
+             57);
+        for (size_t k = 0; k < 8; k++)
+            show_numbers(tables[k], 5);
+    }
+}
+
 int main(void)
 {
     uint8_t output[60], page[64];
@@ -395,5 +452,7 @@ int main(void)
     town_with_a_zone();
     town_with_powers();
     town_with_lorries();
+    two_desks();
+    eight_desks();
     return 0;
 }

@@ -7,13 +7,14 @@
 //! same one with all nodes open, then studies with powers of several kinds and
 //! the same ones with power 4 on all links, then studies in which nobody goes to
 //! most destinations, then studies with lorries and the same ones with cars
-//! alone.
+//! alone. Last come desks, each line with the time of all their runs by
+//! themselves and that of the call for desks.
 
 use std::hint::black_box;
 use std::time::{Duration, Instant};
 
 use second::draft::{Dice, Draft, DraftLink, Plan, Versioned, grid};
-use second::{audit, check, page, pass, run, start, take_back};
+use second::{Desk, SEATS, audit, check, desks, page, pass, run, start, take_back};
 
 /// Shortest time of a call over half a second of tries, in microseconds.
 fn shortest<T>(mut call: impl FnMut() -> T) -> f64 {
@@ -165,6 +166,66 @@ fn main() {
     for destinations in [1, 8, 32] {
         lorries(&mut dice, destinations);
     }
+    println!(
+        "{:20} {:>5} {:>5} {:>10} {:>10}",
+        "desks", "desks", "turns", "runs", "desks"
+    );
+    for count in [1, 2, 8] {
+        show_desks("town", &vec![Draft::town().into(); count]);
+    }
+    for destinations in [1, 8, 32] {
+        desks_of_grids(&mut dice, destinations);
+    }
+}
+
+/// One line of times for desks with these studies.
+fn show_desks(name: &str, studies: &[Versioned]) {
+    let files: Vec<Vec<u8>> = studies.iter().map(Versioned::file).collect();
+    let mut tables = [const { Vec::new() }; SEATS];
+    for (table, study) in tables.iter_mut().zip(studies) {
+        table.resize(study.table_length(), 0);
+    }
+    let running = shortest(|| {
+        for (file, table) in files.iter().zip(&mut tables) {
+            black_box(run(file, table, 1_024, 0));
+        }
+    });
+    let mut files = files.iter();
+    let mut seats = tables.each_mut().map(|table| Desk {
+        file: files.next().map_or(&[], Vec::as_slice),
+        table,
+        budget: 1_024,
+        excess: 0,
+    });
+    let count = studies.len() as u32;
+    let turns = desks(&mut seats, count, 8_192).turns;
+    let going_round = shortest(|| desks(&mut seats, count, 8_192));
+    println!("{name:20} {count:5} {turns:5} {running:10.1} {going_round:10.1}");
+}
+
+/// Desks with street grids 16 by 8: one, and eight, every second of which has
+/// lorries and powers.
+fn desks_of_grids(dice: &mut Dice, destinations: u64) {
+    let trips = (480 / destinations).min(90);
+    let studies = [(); SEATS].map(|()| {
+        let mut links = grid(dice, 16, 8, 512, 300, 800);
+        while links.len() < 512 {
+            links.push(dice.pick(&links));
+        }
+        study(dice, 128, &links, destinations, trips)
+    });
+    let mut seat = 0;
+    let studies = studies.map(|draft| {
+        seat += 1;
+        if seat % 2 == 1 {
+            return draft.into();
+        }
+        let study = draft.with_some_powers(dice).with_some_lorries(dice, 5);
+        study.barring_some(dice, 1)
+    });
+    let name = format!("grid 16 by 8, {destinations}");
+    show_desks(&name, &studies[..1]);
+    show_desks(&name, &studies);
 }
 
 /// A street grid 16 by 8 with as many lorries as cars: with one link in ten

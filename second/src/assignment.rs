@@ -194,6 +194,17 @@ impl<'a> Assignment<'a> {
         }
     }
 
+    /// Fills a table as long as it is used with the loading at empty roads. Hands
+    /// back the assignment it was made with, which still has empty roads.
+    pub fn start(study: &'a Study, adjacencies: &'a Adjacencies, table: &mut [u32]) -> Self {
+        let mut empty = Assignment::new(study, adjacencies, 1, [0; MOST_LINKS]);
+        empty.find_times();
+        empty.find_loading();
+        table.fill(0);
+        empty.add_loading(1, table);
+        empty
+    }
+
     /// The table's share.
     pub fn share(&self) -> u32 {
         self.share

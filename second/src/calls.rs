@@ -1,29 +1,25 @@
-//! The eight public calls.
+//! The public calls, but for the one of [`desks`](mod@crate::desks).
 //!
 //! Where questions 1 to 11 are put, questions 19 and 23 come after 8; where
 //! questions 14 to 16 are put, question 20 comes after 16. Question 12 is put to
 //! the note too where one is lent.
 
-use crate::assignment::{Assignment, Move};
+use crate::assignment::Assignment;
 use crate::columns::{LINE_BYTES, Line};
 use crate::format::{MOST_LINKS, Sections};
 use crate::network::{Adjacencies, Adjacency, ByLink, Study};
 use crate::note::{ask_paths, halve, take_out};
-use crate::questions::{LARGEST_BUDGET, LARGEST_SHARE, Question};
+use crate::questions::{LARGEST_SHARE, Question};
 use crate::staircase::{Gauge, Part};
 use crate::tables::{ask_carrying, ask_conservation, ask_length, ask_note_length, ask_totals};
+use crate::turns::{Turns, ask_run};
+
+pub use crate::turns::{REACHED, RUN_FINEST, RunAnswer, SPENT, WAITING};
 
 /// A pass moved the table.
 pub const MOVED: u8 = 1;
 /// A pass found no move.
 pub const FINEST: u8 = 2;
-
-/// A run ended within its excess.
-pub const REACHED: u8 = 1;
-/// A run ended at a table without a move.
-pub const RUN_FINEST: u8 = 2;
-/// A run ended with its budget.
-pub const SPENT: u8 = 3;
 
 /// What a pass answers.
 #[derive(Clone, Copy, Debug, Default, PartialEq, Eq)]
@@ -39,25 +35,6 @@ pub struct PassAnswer {
     /// Share after the pass.
     pub share: u32,
     /// Links of the judged table on step 256.
-    pub over: u32,
-}
-
-/// What a run answers.
-#[derive(Clone, Copy, Debug, Default, PartialEq, Eq)]
-pub struct RunAnswer {
-    /// The first question answered "no", or 0.
-    pub refusal: u8,
-    /// 0 refused, 1 reached, 2 finest, 3 spent.
-    pub ending: u8,
-    /// Tables judged.
-    pub judged: u32,
-    /// Share of the last judged table.
-    pub share: u32,
-    /// Gap of the last judged table.
-    pub gap: u64,
-    /// Cost of the last judged table.
-    pub cost: u64,
-    /// Links of the last judged table on step 256.
     pub over: u32,
 }
 
@@ -115,23 +92,8 @@ fn try_start(file: &[u8], table: &mut [u32]) -> Result<(), Question> {
     let study = Study::read(file)?;
     let used = ask_length(&study, table.len())?;
     let adjacencies = Adjacencies::of(&study);
-    start_table(&study, &adjacencies, &mut table[..used]);
+    Assignment::start(&study, &adjacencies, &mut table[..used]);
     Ok(())
-}
-
-/// Fills a table as long as it is used with the loading at empty roads, and
-/// hands back the assignment it was made with, which still has empty roads.
-fn start_table<'a>(
-    study: &'a Study,
-    adjacencies: &'a Adjacencies,
-    table: &mut [u32],
-) -> Assignment<'a> {
-    let mut empty = Assignment::new(study, adjacencies, 1, [0; MOST_LINKS]);
-    empty.find_times();
-    empty.find_loading();
-    table.fill(0);
-    empty.add_loading(1, table);
-    empty
 }
 
 /// Judges a table and moves it. The note of a move has the number of loadings
@@ -233,10 +195,7 @@ fn try_take_back(
 /// Starts, then judges and moves until one of the three endings. Questions 1
 /// to 13.
 pub fn run(file: &[u8], table: &mut [u32], budget: u32, excess: u16) -> RunAnswer {
-    try_run(file, table, budget, excess).unwrap_or_else(|question| RunAnswer {
-        refusal: question.number(),
-        ..RunAnswer::default()
-    })
+    try_run(file, table, budget, excess).unwrap_or_else(RunAnswer::refused)
 }
 
 fn try_run(
@@ -246,48 +205,14 @@ fn try_run(
     excess: u16,
 ) -> Result<RunAnswer, Question> {
     let study = Study::read(file)?;
-    let used = ask_length(&study, table.len())?;
-    Question::Budget.ask((1..=LARGEST_BUDGET).contains(&budget))?;
-    let table = &mut table[..used];
+    let used = ask_run(&study, table.len(), budget)?;
     let adjacencies = Adjacencies::of(&study);
-
-    let mut assignment = start_table(&study, &adjacencies, table);
-    assignment.take_loading();
-    assignment.find_times();
-    assignment.find_loading();
-    // At most 65,535 · 1,024 · 65,535 with the share, well within 64 bits.
-    let allowed_by_share = u64::from(excess) * u64::from(study.total);
-    let mut judged = 0;
-    let (ending, gap) = loop {
-        judged += 1;
-        let gap = assignment.gap_from_loading();
-        if gap <= allowed_by_share * u64::from(assignment.share()) {
-            break (REACHED, gap);
+    let mut run = Turns::start(&study, &adjacencies, &mut table[..used], budget, excess);
+    loop {
+        if let Some(ending) = run.turn() {
+            return Ok(run.answer(ending));
         }
-        let Some(chosen) = assignment.choose_move() else {
-            break (RUN_FINEST, gap);
-        };
-        if judged == budget {
-            break (SPENT, gap);
-        }
-        assignment.make_move(chosen, table);
-        // Doubling both flow and share changes no time, and with no time no
-        // distance and no loading.
-        if chosen != Move::Double {
-            assignment.find_times();
-            assignment.find_loading();
-        }
-    };
-    let (cost, over) = assignment.cost_and_over();
-    Ok(RunAnswer {
-        refusal: 0,
-        ending,
-        judged,
-        share: assignment.share(),
-        gap,
-        cost,
-        over,
-    })
+    }
 }
 
 /// The gap and cost of a lent table and how many of its links are over.

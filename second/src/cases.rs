@@ -6,7 +6,7 @@
 //! limit; after all these, pages of the same kinds of tables; after these,
 //! studies of version 2 with closed nodes; after these, links past the curve;
 //! after these, studies of version 3 with powers; after these, notes and taking
-//! back; and after these, studies of version 4 with lorries.
+//! back; after these, studies of version 4 with lorries; and after these, desks.
 //!
 //! New calls go to the end of the list, so that a recording made before is the
 //! beginning of the next one.
@@ -15,6 +15,8 @@ use crate::calls::start;
 use crate::draft::{Dice, Draft, DraftLink, Plan, grid};
 use crate::stream::{Call, Kind, Lent, Player, Reply, Second};
 
+mod desks;
+mod desks_networks;
 mod headers;
 mod lorries;
 mod lorry_files;
@@ -148,6 +150,22 @@ pub fn all() -> Vec<Call> {
     lorry_networks::idle_destinations(&mut list);
     lorry_networks::single_limits(&mut list);
     lorry_networks::full_limits(&mut list);
+
+    desks::one_to_eight(&mut list);
+    desks::one_desk(&mut list);
+    desks::allowances(&mut list);
+    desks::versions(&mut list);
+    desks::same_study(&mut list);
+    desks::no_trips(&mut list);
+    desks::refused_files_among_others(&mut list);
+    desks::refused_tables_and_budgets(&mut list);
+    desks::refused_desks_only(&mut list);
+    desks::seats_without_a_desk(&mut list);
+    desks::whole_calls(&mut list);
+    desks::among_other_calls(&mut list);
+    desks_networks::finest(&mut list);
+    desks_networks::random_studies(&mut list);
+    desks_networks::full_limits(&mut list);
     list.calls
 }
 

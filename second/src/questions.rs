@@ -7,13 +7,17 @@ pub const LARGEST_SHARE: u32 = 1_024;
 /// The largest budget a run accepts.
 pub const LARGEST_BUDGET: u32 = 1_024;
 
+/// The most turns that a call for desks may make.
+pub const LARGEST_ALLOWANCE: u32 = 8_192;
+
 /// The largest total of trips.
 pub const LARGEST_TOTAL: u32 = 65_535;
 
 /// A question; used as an error it is the first question answered "no".
 ///
 /// They are put in the order of their numbers, but for 19 and 23, which come
-/// after 8 in this order, and 20, which comes after 16 and before 18 and 21.
+/// after 8 in this order, 20, which comes after 16 and before 18 and 21, and 24
+/// and 25, which come before all others.
 #[derive(Clone, Copy, Debug, PartialEq, Eq)]
 #[repr(u8)]
 pub enum Question {
@@ -64,6 +68,10 @@ pub enum Question {
     NotedFlow = 22,
     /// 23: is each barred byte 0 or 1?
     BarredBytes = 23,
+    /// 24: are there 1 to 8 desks?
+    Desks = 24,
+    /// 25: is the allowance 1 to 8,192?
+    Allowance = 25,
 }
 
 impl Question {

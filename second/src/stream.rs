@@ -6,7 +6,12 @@
 //!
 //! ```text
 //! u8   kind: 1 check, 2 pack, 3 start, 4 pass, 5 run, 6 audit, 7 page,
-//!      8 take back; 0 ends the stream, and nothing follows it
+//!      8 take back, 9 desks; 0 ends the stream, and nothing follows it
+//! ```
+//!
+//! Behind all kinds but desks stands:
+//!
+//! ```text
 //! u32  length of the file in bytes, F
 //!      F bytes of the file
 //! u32  length of what is lent, L: for a pack, the output's bytes; for a
@@ -28,7 +33,30 @@
 //! before is a start, pass, run, audit, page or take back too. As N it means the
 //! note as the last call that was lent one left it, its length included,
 //! whatever calls came in between; before any such call it means an empty note.
-//! P has no such length.
+//! P has no such length. For F and L a call for desks is no call before: they
+//! mean the last one of another kind.
+//!
+//! Behind the kind of desks stands:
+//!
+//! ```text
+//!      for each seat from 0 to 7:
+//! u32  length of the seat's file in bytes, F
+//!      F bytes of the file
+//! u32  length of the seat's table in numbers, L
+//!      L numbers u32, the table as it is lent
+//! u32  budget
+//! u16  excess
+//!      after all seats:
+//! u32  desks
+//! u32  allowance
+//! ```
+//!
+//! Here too a length F or L of 0xFFFF_FFFF is followed by no bytes or numbers. As
+//! F it means the file that this seat had in the last call for desks, as L the
+//! table as that call left it on this seat, its length included; before any such
+//! call both are empty. Files and tables of other kinds have no part in it.
+//!
+//! No file has more than 65,540 bytes, and no table more than 32,800 numbers.
 //!
 //! # The answers
 //!
@@ -43,10 +71,14 @@
 //! audit <refusal> <gap> <cost> <over> <digest>
 //! page <refusal> <digest>
 //! take_back <refusal> <share> <digest>
+//! desks <refusal> <turns> <seat 0> ... <seat 7> <digest>
 //! ```
 //!
+//! Each seat of desks has seven numbers,
+//! `<refusal> <ending> <judged> <share> <gap> <cost> <over>`.
+//!
 //! Outcome: 0 refused, 1 moved, 2 finest. Ending: 0 refused, 1 reached,
-//! 2 finest, 3 spent. Over: how many links of the judged table are on step
+//! 2 finest, 3 spent, 4 waiting. Over: how many links of the judged table are on step
 //! 256, and 0 in a refusal. The digest is the 64-bit FNV-1a digest of all that
 //! was lent, as the call leaves it, in 16 hexadecimal digits: the output's
 //! bytes of a pack; the table's numbers as little-endian bytes of a start, run
@@ -54,9 +86,12 @@
 //! pass or take back, and after them the note's numbers as little-endian bytes
 //! (all of them, also those that the study does not use); the page slice's bytes
 //! of a page (all of them, also those after the first 30m, but not its table,
-//! which it cannot change); no bytes at all of a check.
+//! which it cannot change); the numbers of all eight tables as little-endian
+//! bytes, in the order of the seats, of desks (all of them, also those that no
+//! study uses); no bytes at all of a check.
 
 use crate::calls::{self, AuditAnswer, PassAnswer, RunAnswer, TakeBackAnswer};
+use crate::desks::{Desk, DesksAnswer, SEATS, desks};
 
 /// The length that stands for "as it was left".
 const SAME: u32 = u32::MAX;
@@ -81,11 +116,13 @@ pub enum Kind {
     Page = 7,
     /// Taking back.
     TakeBack = 8,
+    /// Desks.
+    Desks = 9,
 }
 
 impl Kind {
     /// All kinds.
-    pub const ALL: [Kind; 8] = [
+    pub const ALL: [Kind; 9] = [
         Kind::Check,
         Kind::Pack,
         Kind::Start,
@@ -94,6 +131,7 @@ impl Kind {
         Kind::Audit,
         Kind::Page,
         Kind::TakeBack,
+        Kind::Desks,
     ];
 
     /// The word a line of answers begins with.
@@ -107,12 +145,13 @@ impl Kind {
             Kind::Audit => "audit",
             Kind::Page => "page",
             Kind::TakeBack => "take_back",
+            Kind::Desks => "desks",
         }
     }
 
-    /// Whether the call is lent a flow table.
+    /// Whether the call is lent one flow table.
     pub fn has_table(self) -> bool {
-        !matches!(self, Kind::Check | Kind::Pack)
+        !matches!(self, Kind::Check | Kind::Pack | Kind::Desks)
     }
 
     /// Whether the call is lent a note.
@@ -138,6 +177,32 @@ pub enum Lent {
     /// This table, or none for the table as the call before left it, and this
     /// note, or none for the note as it was left last.
     Noted(Option<Vec<u32>>, Option<Vec<u16>>),
+    /// This on eight seats, as for desks.
+    Desks(Box<LentDesks>),
+}
+
+/// What a call for desks is lent, and its two numbers.
+#[derive(Clone, Debug, Default, PartialEq, Eq)]
+pub struct LentDesks {
+    /// The seats.
+    pub seats: [LentSeat; SEATS],
+    /// How many of them have a desk.
+    pub desks: u32,
+    /// Turns that may be made.
+    pub allowance: u32,
+}
+
+/// What one seat is lent, and its two numbers.
+#[derive(Clone, Debug, Default, PartialEq, Eq)]
+pub struct LentSeat {
+    /// The file, or none for the same file as in the last call for desks.
+    pub file: Option<Vec<u8>>,
+    /// The table, or none for the table as the last call for desks left it.
+    pub table: Option<Vec<u32>>,
+    /// Budget.
+    pub budget: u32,
+    /// Excess.
+    pub excess: u16,
 }
 
 /// One recorded call.
@@ -145,7 +210,8 @@ pub enum Lent {
 pub struct Call {
     /// Which call.
     pub kind: Kind,
-    /// The file, or none for the same file as in the call before.
+    /// The file, or none for the same file as in the call before; none for
+    /// desks, whose seats have files of their own.
     pub file: Option<Vec<u8>>,
     /// What is lent.
     pub lent: Lent,
@@ -157,32 +223,67 @@ pub struct Call {
     pub excess: u16,
 }
 
+impl Call {
+    /// A call for desks that are lent this.
+    pub fn for_desks(lent: LentDesks) -> Self {
+        Call {
+            kind: Kind::Desks,
+            file: None,
+            lent: Lent::Desks(Box::new(lent)),
+            share: 0,
+            budget: 0,
+            excess: 0,
+        }
+    }
+}
+
 /// Writes calls as a stream.
 pub fn write_calls(calls: &[Call]) -> Vec<u8> {
     let mut stream = Vec::new();
     for call in calls {
         stream.push(call.kind as u8);
-        write_bytes(&mut stream, call.file.as_deref());
-        match &call.lent {
-            Lent::Nothing => stream.extend(0_u32.to_le_bytes()),
-            Lent::Same => write_numbers(&mut stream, None, u32::to_le_bytes),
-            Lent::Table(table) => write_numbers(&mut stream, Some(table), u32::to_le_bytes),
-            Lent::Output(output) => write_bytes(&mut stream, Some(output)),
-            Lent::Page(table, page) => {
-                write_numbers(&mut stream, table.as_deref(), u32::to_le_bytes);
-                write_bytes(&mut stream, Some(page));
-            }
-            Lent::Noted(table, note) => {
-                write_numbers(&mut stream, table.as_deref(), u32::to_le_bytes);
-                write_numbers(&mut stream, note.as_deref(), u16::to_le_bytes);
-            }
+        if let Lent::Desks(lent) = &call.lent {
+            write_desks(&mut stream, lent);
+        } else {
+            write_call(&mut stream, call);
         }
-        stream.extend(call.share.to_le_bytes());
-        stream.extend(call.budget.to_le_bytes());
-        stream.extend(call.excess.to_le_bytes());
     }
     stream.push(0);
     stream
+}
+
+/// Writes what stands behind the kind of a call that is not for desks.
+fn write_call(stream: &mut Vec<u8>, call: &Call) {
+    write_bytes(stream, call.file.as_deref());
+    match &call.lent {
+        Lent::Nothing | Lent::Desks(_) => stream.extend(0_u32.to_le_bytes()),
+        Lent::Same => write_numbers(stream, None, u32::to_le_bytes),
+        Lent::Table(table) => write_numbers(stream, Some(table), u32::to_le_bytes),
+        Lent::Output(output) => write_bytes(stream, Some(output)),
+        Lent::Page(table, page) => {
+            write_numbers(stream, table.as_deref(), u32::to_le_bytes);
+            write_bytes(stream, Some(page));
+        }
+        Lent::Noted(table, note) => {
+            write_numbers(stream, table.as_deref(), u32::to_le_bytes);
+            write_numbers(stream, note.as_deref(), u16::to_le_bytes);
+        }
+    }
+    stream.extend(call.share.to_le_bytes());
+    stream.extend(call.budget.to_le_bytes());
+    stream.extend(call.excess.to_le_bytes());
+}
+
+/// Writes what stands behind the kind of a call for desks.
+fn write_desks(stream: &mut Vec<u8>, lent: &LentDesks) {
+    for seat in &lent.seats {
+        write_bytes(stream, seat.file.as_deref());
+        write_numbers(stream, seat.table.as_deref(), u32::to_le_bytes);
+        stream.extend(seat.budget.to_le_bytes());
+        stream.extend(seat.excess.to_le_bytes());
+    }
+    stream.extend(lent.desks.to_le_bytes());
+    stream.extend(lent.allowance.to_le_bytes());
 }
 
 /// Writes a length and its bytes, or the length of what stays the same.
@@ -215,7 +316,12 @@ pub fn read_calls(stream: &[u8]) -> Result<Vec<Call>, String> {
         let kind = *Kind::ALL
             .get(usize::from(byte) - 1)
             .ok_or_else(|| format!("there is no kind {byte}"))?;
-        let call = reader.call(kind, calls.last())?;
+        let call = if kind == Kind::Desks {
+            reader.desks()?
+        } else {
+            let before = calls.iter().rfind(|call| call.kind != Kind::Desks);
+            reader.call(kind, before)?
+        };
         calls.push(call);
     }
     if reader.0.is_empty() {
@@ -260,7 +366,28 @@ impl Reader<'_> {
         Ok(Some(chunks.iter().map(|&bytes| number(bytes)).collect()))
     }
 
-    /// A call of this kind after this one.
+    /// A call for desks.
+    fn desks(&mut self) -> Result<Call, String> {
+        let mut lent = LentDesks::default();
+        for seat in &mut lent.seats {
+            *seat = self.seat()?;
+        }
+        lent.desks = u32::from_le_bytes(self.bytes()?);
+        lent.allowance = u32::from_le_bytes(self.bytes()?);
+        Ok(Call::for_desks(lent))
+    }
+
+    /// One of its seats.
+    fn seat(&mut self) -> Result<LentSeat, String> {
+        Ok(LentSeat {
+            file: self.numbers(u8::from_le_bytes)?,
+            table: self.numbers(u32::from_le_bytes)?,
+            budget: u32::from_le_bytes(self.bytes()?),
+            excess: u16::from_le_bytes(self.bytes()?),
+        })
+    }
+
+    /// A call of this kind, not for desks, after this one.
     fn call(&mut self, kind: Kind, before: Option<&Call>) -> Result<Call, String> {
         let file = self.numbers(u8::from_le_bytes)?;
         if file.is_none() && before.is_none() {
@@ -303,7 +430,7 @@ impl Reader<'_> {
     }
 }
 
-/// The eight calls, whoever answers them.
+/// The nine calls, whoever answers them.
 pub trait Calls {
     /// Check.
     fn check(&self, file: &[u8]) -> u8;
@@ -322,6 +449,8 @@ pub trait Calls {
     /// Taking back.
     fn take_back(&self, file: &[u8], table: &mut [u32], share: u32, note: &[u16])
     -> TakeBackAnswer;
+    /// Desks.
+    fn desks(&self, seats: &mut [Desk<'_>; SEATS], desks: u32, allowance: u32) -> DesksAnswer;
 }
 
 /// The calls of this library.
@@ -365,10 +494,18 @@ impl Calls for Second {
     ) -> TakeBackAnswer {
         calls::take_back(file, table, share, note)
     }
+
+    fn desks(&self, seats: &mut [Desk<'_>; SEATS], count: u32, allowance: u32) -> DesksAnswer {
+        desks(seats, count, allowance)
+    }
 }
 
 /// What a call answered.
 #[derive(Clone, Copy, Debug, PartialEq, Eq)]
+#[expect(
+    clippy::large_enum_variant,
+    reason = "few replies are kept at a time, and all can be copied"
+)]
 pub enum Reply {
     /// Check.
     Check(u8),
@@ -386,6 +523,8 @@ pub enum Reply {
     Page(u8),
     /// Taking back.
     TakeBack(TakeBackAnswer),
+    /// Desks.
+    Desks(DesksAnswer),
 }
 
 impl Reply {
@@ -400,10 +539,12 @@ impl Reply {
             Reply::Run(answer) => answer.refusal,
             Reply::Audit(answer) => answer.refusal,
             Reply::TakeBack(answer) => answer.refusal,
+            Reply::Desks(answer) => answer.refusal,
         }
     }
 
-    /// Links of the judged table on step 256; 0 where the call judges none.
+    /// Links of the judged table on step 256; 0 where the call judges none, and
+    /// of desks, which have a count each.
     pub fn over(&self) -> u32 {
         match self {
             Reply::Pass(answer) => answer.over,
@@ -427,17 +568,7 @@ impl Reply {
                 share,
                 over,
             }) => format!("pass {refusal} {outcome} {gap} {cost} {share} {over} {digest:016x}"),
-            Reply::Run(RunAnswer {
-                refusal,
-                ending,
-                judged,
-                share,
-                gap,
-                cost,
-                over,
-            }) => {
-                format!("run {refusal} {ending} {judged} {share} {gap} {cost} {over} {digest:016x}")
-            }
+            Reply::Run(answer) => format!("run {} {digest:016x}", run_numbers(answer)),
             Reply::Audit(AuditAnswer {
                 refusal,
                 gap,
@@ -448,8 +579,30 @@ impl Reply {
             Reply::TakeBack(TakeBackAnswer { refusal, share }) => {
                 format!("take_back {refusal} {share} {digest:016x}")
             }
+            Reply::Desks(DesksAnswer {
+                refusal,
+                turns,
+                seats,
+            }) => {
+                let seats = seats.each_ref().map(run_numbers).join(" ");
+                format!("desks {refusal} {turns} {seats} {digest:016x}")
+            }
         }
     }
+}
+
+/// The numbers of a run's answer in a line.
+fn run_numbers(answer: &RunAnswer) -> String {
+    let RunAnswer {
+        refusal,
+        ending,
+        judged,
+        share,
+        gap,
+        cost,
+        over,
+    } = answer;
+    format!("{refusal} {ending} {judged} {share} {gap} {cost} {over}")
 }
 
 /// The 64-bit FNV-1a digest.
@@ -461,12 +614,21 @@ pub fn digest(bytes: impl IntoIterator<Item = u8>) -> u64 {
         })
 }
 
+/// A seat as the last call for desks left it.
+#[derive(Clone, Debug, Default, PartialEq, Eq)]
+pub struct Seat {
+    /// The file.
+    pub file: Vec<u8>,
+    /// The table.
+    pub table: Vec<u32>,
+}
+
 /// Makes recorded calls one after the other.
 #[derive(Clone, Debug, Default, PartialEq, Eq)]
 pub struct Player {
-    /// The last call's file.
+    /// The file of the last call that was not for desks.
     pub file: Vec<u8>,
-    /// The table as the last call left it.
+    /// The table as the last call that was lent one left it.
     pub table: Vec<u32>,
     /// The output as the last pack left it.
     pub output: Vec<u8>,
@@ -474,11 +636,28 @@ pub struct Player {
     pub page: Vec<u8>,
     /// The note as the last pass or taking back left it.
     pub note: Vec<u16>,
+    /// The seats as the last call for desks left them.
+    pub seats: [Seat; SEATS],
+}
+
+impl Seat {
+    /// Puts what the seat is lent in the place of what was left.
+    fn take_over(&mut self, lent: &LentSeat) {
+        if let Some(file) = &lent.file {
+            self.file.clone_from(file);
+        }
+        if let Some(table) = &lent.table {
+            self.table.clone_from(table);
+        }
+    }
 }
 
 impl Player {
     /// Makes one call.
     pub fn play(&mut self, implementation: &impl Calls, call: &Call) -> Reply {
+        if let Lent::Desks(lent) = &call.lent {
+            return Reply::Desks(self.play_desks(implementation, lent));
+        }
         if let Some(file) = &call.file {
             self.file.clone_from(file);
         }
@@ -495,13 +674,30 @@ impl Player {
             Kind::Audit => Reply::Audit(implementation.audit(file, table, share)),
             Kind::Page => Reply::Page(implementation.page(file, table, share, page)),
             Kind::TakeBack => Reply::TakeBack(implementation.take_back(file, table, share, note)),
+            Kind::Desks => panic!("a call for desks is not lent eight seats"),
         }
+    }
+
+    /// Makes one call for desks.
+    fn play_desks(&mut self, implementation: &impl Calls, lent: &LentDesks) -> DesksAnswer {
+        let mut left = self.seats.iter_mut().zip(&lent.seats);
+        let mut seats = std::array::from_fn(|_| {
+            let (seat, lent) = left.next().expect("there are eight seats");
+            seat.take_over(lent);
+            Desk {
+                file: &seat.file,
+                table: &mut seat.table,
+                budget: lent.budget,
+                excess: lent.excess,
+            }
+        });
+        implementation.desks(&mut seats, lent.desks, lent.allowance)
     }
 
     /// Puts what a call is lent in the place of what was left.
     fn take_over(&mut self, lent: &Lent) {
         match lent {
-            Lent::Nothing | Lent::Same => {}
+            Lent::Nothing | Lent::Same | Lent::Desks(_) => {}
             Lent::Table(table) => self.table.clone_from(table),
             Lent::Output(output) => self.output.clone_from(output),
             Lent::Page(table, page) => {
@@ -524,6 +720,7 @@ impl Player {
     /// Digest of what the last call, of this kind, was lent.
     pub fn digest(&self, kind: Kind) -> u64 {
         let table = self.table.iter().flat_map(|number| number.to_le_bytes());
+        let tables = self.seats.iter().flat_map(|seat| &seat.table);
         let note = self.note.iter().flat_map(|number| number.to_le_bytes());
         match kind {
             Kind::Check => digest([]),
@@ -531,6 +728,7 @@ impl Player {
             Kind::Page => digest(self.page.iter().copied()),
             Kind::Pass | Kind::TakeBack => digest(table.chain(note)),
             Kind::Start | Kind::Run | Kind::Audit => digest(table),
+            Kind::Desks => digest(tables.flat_map(|number| number.to_le_bytes())),
         }
     }
 }

@@ -4,7 +4,7 @@
 mod definitions;
 
 use second::draft::{Dice, Draft, Plan, Versioned, grid};
-use second::stream::{Call, Kind, Lent, Player, Reply, Second};
+use second::stream::{Call, Kind, Lent, LentDesks, LentSeat, Player, Reply, Second};
 use second::{MOVED, PassAnswer, TakeBackAnswer, cases, pack};
 
 use definitions::Literal;
@@ -16,7 +16,7 @@ struct Pair {
     slow: Player,
     made: usize,
     /// How many calls were answered with each number.
-    numbers: [usize; 24],
+    numbers: [usize; 26],
     /// Pages not refused.
     pages: usize,
     /// Answers that count links on step 256.
@@ -109,6 +109,22 @@ impl Pair {
             budget,
             excess,
         })
+    }
+
+    /// A call for one desk, on the first seat.
+    fn desk(&mut self, file: &[u8], table: Vec<u32>, budget: u32, excess: u16) {
+        let mut lent = LentDesks {
+            desks: 1,
+            allowance: 5,
+            ..LentDesks::default()
+        };
+        lent.seats[0] = LentSeat {
+            file: Some(file.to_vec()),
+            table: Some(table),
+            budget,
+            excess,
+        };
+        self.play(&Call::for_desks(lent));
     }
 
     /// A page of this table, or of the table as the call before left it, with a
@@ -306,7 +322,7 @@ impl Pair {
     }
 }
 
-/// Thousands of small studies, all eight calls.
+/// Thousands of small studies, all calls but desks.
 #[test]
 fn small_studies() {
     let mut dice = Dice::new(2_026);
@@ -352,7 +368,7 @@ fn small_closed_study(dice: &mut Dice) -> Versioned {
     }
 }
 
-/// Thousands of small studies with closed nodes, all eight calls.
+/// Thousands of small studies with closed nodes, all calls but desks.
 #[test]
 fn small_studies_with_closed_nodes() {
     let mut dice = Dice::new(2_027);
@@ -378,7 +394,7 @@ fn some_powers_and_zones(dice: &mut Dice, draft: Draft) -> Versioned {
     }
 }
 
-/// Thousands of small studies with powers, all eight calls.
+/// Thousands of small studies with powers, all calls but desks.
 #[test]
 fn small_studies_with_powers() {
     let mut dice = Dice::new(2_031);
@@ -444,7 +460,7 @@ fn small_lorry_study(dice: &mut Dice, turn: usize) -> Versioned {
     study.barring_some(dice, barred)
 }
 
-/// Thousands of small studies with lorries, all eight calls.
+/// Thousands of small studies with lorries, all calls but desks.
 #[test]
 fn small_studies_with_lorries() {
     let mut dice = Dice::new(2_034);
@@ -829,7 +845,12 @@ fn damaged_files() {
             let other = damaged(&mut dice, &file, header);
             pair.call(Kind::Check, &other, Lent::Nothing, 0, 0, 0);
             let kind = dice.pick(&Kind::ALL);
+            let number = dice.below(3) as u32;
             let lent = match kind {
+                Kind::Desks => {
+                    pair.desk(&other, vec![1; dice.index(20)], number, 0);
+                    continue;
+                }
                 Kind::Check => Lent::Nothing,
                 Kind::Pack => Lent::Output(vec![2; dice.index(300)]),
                 Kind::Page => Lent::Page(Some(vec![0; dice.index(20)]), vec![3; dice.index(600)]),
@@ -838,7 +859,6 @@ fn damaged_files() {
                 }
                 _ => Lent::Table(vec![1; dice.index(20)]),
             };
-            let number = dice.below(3) as u32;
             pair.call(kind, &other, lent, number, number, 0);
         }
     }
@@ -885,7 +905,12 @@ fn senseless_files() {
         }
         let table: Vec<u32> = (0..dice.index(8)).map(|_| dice.any_u32()).collect();
         for kind in Kind::ALL {
+            let number = dice.any_u32();
             let lent = match kind {
+                Kind::Desks => {
+                    pair.desk(&file, table.clone(), number, number as u16);
+                    continue;
+                }
                 Kind::Check => Lent::Nothing,
                 Kind::Pack => Lent::Output(vec![7; dice.index(120)]),
                 Kind::Page => Lent::Page(Some(table.clone()), vec![7; dice.index(120)]),
@@ -895,10 +920,59 @@ fn senseless_files() {
                 }
                 _ => Lent::Table(table.clone()),
             };
-            let number = dice.any_u32();
             pair.call(kind, &file, lent, number, number, number as u16);
         }
     }
+}
+
+/// An order for a seat: a study of any kind, a table of numbers without any sense
+/// that is mostly long enough, and a budget that is mostly in range.
+fn some_seat(dice: &mut Dice, turn: usize) -> LentSeat {
+    let study = match turn % 3 {
+        0 => small_lorry_study(dice, turn),
+        1 => small_powers_study(dice),
+        _ => small_closed_study(dice),
+    };
+    let mut file = study.file();
+    if dice.once_in(12) {
+        file = damaged(dice, &file, 32);
+    }
+    let length = study.table_length() + dice.index(3) - usize::from(dice.once_in(15));
+    LentSeat {
+        file: (!dice.once_in(8)).then_some(file),
+        table: (!dice.once_in(8)).then(|| (0..length).map(|_| dice.any_u32()).collect()),
+        budget: dice.pick(&[1, 2, 3, 6, 12, 30, 1_024, 1, 5, 8, 0, 1_025]),
+        excess: dice.pick(&[0, 0, 0, 1, 9, 400, 65_535]),
+    }
+}
+
+/// Desks with small studies of all kinds, and with seats that take over what was
+/// left.
+#[test]
+fn desks_with_small_studies() {
+    let mut dice = Dice::new(910);
+    let mut pair = Pair::default();
+    let (mut endings, mut refused) = ([0; 5], 0);
+    for turn in 0..1_200 {
+        let mut lent = LentDesks {
+            desks: dice.pick(&[8, 8, 8, 8, 7, 5, 3, 2, 1, 0, 9]),
+            allowance: dice.pick(&[1, 3, 8, 12, 20, 40, 40, 90, 8_192, 0, 8_193]),
+            ..LentDesks::default()
+        };
+        for (number, seat) in lent.seats.iter_mut().enumerate() {
+            *seat = some_seat(&mut dice, turn + number);
+        }
+        let Reply::Desks(answer) = pair.play(&Call::for_desks(lent)) else {
+            unreachable!("desks are answered as desks");
+        };
+        for own in answer.seats {
+            endings[usize::from(own.ending)] += 1;
+            refused += usize::from(own.refusal != 0);
+        }
+    }
+    assert!(endings.iter().all(|&count| count >= 50), "{endings:?}");
+    assert!(refused >= 300, "{refused}");
+    assert!(pair.numbers[24] >= 100 && pair.numbers[25] >= 100);
 }
 
 /// Every recorded call, those at the limits included.

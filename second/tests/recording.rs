@@ -7,15 +7,19 @@ use second::format::{Sections, u16_at, u32_at};
 use second::network::Study;
 use second::staircase::LAST_STEP;
 use second::stream::{
-    Call, Kind, Lent, Player, Reply, Second, answers, digest, read_calls, write_calls,
+    Call, Kind, Lent, LentDesks, LentSeat, Player, Reply, Second, answers, digest, read_calls,
+    write_calls,
 };
-use second::{AuditAnswer, FINEST, MOVED, PassAnswer, RunAnswer, TakeBackAnswer, cases};
+use second::{
+    AuditAnswer, DesksAnswer, FINEST, MOVED, PassAnswer, RunAnswer, SEATS, TakeBackAnswer, WAITING,
+    cases, run,
+};
 
 #[test]
 fn the_list_is_long_and_the_stream_short() {
     let calls = cases::all();
     assert!(calls.len() >= 2_400);
-    assert!(write_calls(&calls).len() < 5_000_000);
+    assert!(write_calls(&calls).len() < 5_400_000);
 }
 
 /// Calls before the first ones that were made for pages.
@@ -36,8 +40,14 @@ const WITHOUT_TAKING_BACK: usize = 5_750;
 /// Calls before the first ones that were made for lorries.
 const WITHOUT_LORRIES: usize = 6_447;
 
+/// Calls before the first ones that were made for desks.
+const WITHOUT_DESKS: usize = 7_889;
+
 /// All calls.
-const ALL: usize = 7_889;
+const ALL: usize = 8_337;
+
+/// Kinds of calls that have one study, which are all but desks.
+const WITH_ONE_STUDY: usize = Kind::ALL.len() - 1;
 
 /// The stream of calls as it was before there were notes: those of passes are
 /// left out.
@@ -133,8 +143,8 @@ fn without_over(lines: &str) -> String {
 
 /// The list is the same every time and everywhere, and begins with what it was
 /// before there were pages, before there were closed nodes, before links past
-/// the curve were counted, before there were powers, before there were notes and
-/// before there were lorries. Nothing but the count has come to the answers, and
+/// the curve were counted, before there were powers, before there were notes,
+/// before there were lorries and before there were desks. Nothing but the count has come to the answers, and
 /// the note to the digests, and version 4 is no longer refused 2.
 #[test]
 fn the_list_stays_the_same() {
@@ -187,9 +197,15 @@ fn the_list_stays_the_same() {
         assert_eq!(digest(answered.into_bytes()), lines, "{count}");
     }
     assert_eq!(calls.len(), ALL);
-    assert_eq!(digest(write_calls(&calls)), 0x08F6_1498_8C4E_FCE8);
-    let answered = answers(&Second, &calls);
-    assert_eq!(digest(answered.into_bytes()), 0x1DA6_52D8_B4E8_4A0D);
+    for (count, stream, lines) in [
+        (WITHOUT_DESKS, 0x08F6_1498_8C4E_FCE8, 0x1DA6_52D8_B4E8_4A0D),
+        (ALL, 0x07C8_9E15_956E_9366, 0x0577_A01D_64B0_63D7),
+    ] {
+        let calls = &calls[..count];
+        let answered = answers(&Second, calls);
+        assert_eq!(digest(write_calls(calls)), stream, "{count}");
+        assert_eq!(digest(answered.into_bytes()), lines, "{count}");
+    }
 }
 
 /// The first pass of all is lent a long note, and all others that were there
@@ -260,7 +276,7 @@ fn the_stream_can_be_read_back() {
     assert!(read_calls(&stream).unwrap() == calls);
     assert!(read_calls(&stream[..stream.len() - 1]).is_err());
     assert!(read_calls(&[stream, vec![0]].concat()).is_err());
-    assert!(read_calls(&[9]).is_err());
+    assert!(read_calls(&[10]).is_err());
     assert!(read_calls(&[]).is_err());
 }
 
@@ -440,6 +456,92 @@ fn what_a_taking_back_takes_over() {
     }
 }
 
+/// Four seats with something of each kind of length, and four that take all over.
+fn some_lent_desks() -> LentDesks {
+    let mut lent = LentDesks {
+        desks: 5,
+        allowance: 0x0102_0304,
+        ..LentDesks::default()
+    };
+    let given = [
+        (Some(vec![9, 8]), Some(vec![7, 0x0102_0304]), 6, 5),
+        (None, Some(vec![]), 0x0A0B_0C0D, 0x0102),
+        (Some(vec![]), None, 0, 0),
+        (Some(vec![3]), Some(vec![2]), u32::MAX, u16::MAX),
+    ];
+    for (seat, (file, table, budget, excess)) in lent.seats.iter_mut().zip(given) {
+        *seat = LentSeat {
+            file,
+            table,
+            budget,
+            excess,
+        };
+    }
+    lent
+}
+
+#[test]
+fn the_form_of_desks_in_the_stream() {
+    let calls = [Call::for_desks(some_lent_desks())];
+    #[rustfmt::skip]
+    let stream = [
+        &[9][..],
+        &[2, 0, 0, 0, 9, 8, 2, 0, 0, 0, 7, 0, 0, 0, 4, 3, 2, 1, 6, 0, 0, 0, 5, 0],
+        &[255, 255, 255, 255, 0, 0, 0, 0, 13, 12, 11, 10, 2, 1],
+        &[0, 0, 0, 0, 255, 255, 255, 255, 0, 0, 0, 0, 0, 0],
+        &[1, 0, 0, 0, 3, 1, 0, 0, 0, 2, 0, 0, 0, 255, 255, 255, 255, 255, 255],
+        &[[255; 8].as_slice(), &[0; 6]].concat().repeat(4),
+        &[5, 0, 0, 0, 4, 3, 2, 1],
+        &[0],
+    ]
+    .concat();
+    assert_eq!(write_calls(&calls), stream);
+    assert_eq!(read_calls(&stream).unwrap(), calls);
+    for length in 0..stream.len() {
+        assert!(read_calls(&stream[..length]).is_err());
+    }
+}
+
+/// A call for desks takes over from the last one of its kind only, and the other
+/// kinds from one another only, in reading as in playing.
+#[test]
+fn what_desks_take_over() {
+    let same = [255; 4];
+    let end = [0; 11];
+    let desks = write_calls(&[Call::for_desks(some_lent_desks())]);
+    let desks = &desks[..desks.len() - 1];
+    let start = [3, 0, 0, 0, 0, 1, 0, 0, 0, 7, 0, 0, 0];
+    let audit = [&[6], same.as_slice(), &same].concat();
+    // The audit takes over from the start, across the desks, and from nothing
+    // where there is no start.
+    let stream = [&start, &end[..10], desks, &audit, &end].concat();
+    assert!(read_calls(&stream).is_ok());
+    assert!(read_calls(&[desks, &audit, &end].concat()).is_err());
+    let check = [1, 0, 0, 0, 0, 0, 0, 0, 0, 0, 0, 0, 0, 0, 0, 0, 0, 0, 0];
+    let stream = [&start, &end[..10], &check, desks, &audit, &end].concat();
+    assert!(read_calls(&stream).is_err());
+
+    let mut player = Player::default();
+    for call in read_calls(&[&start, &end[..10], desks, desks, &audit, &end].concat()).unwrap() {
+        let before = player.clone();
+        player.play(&Second, &call);
+        if call.kind == Kind::Desks {
+            assert_eq!((&player.file, &player.table), (&before.file, &before.table));
+        } else {
+            assert_eq!(player.seats, before.seats);
+            assert_eq!((player.file.len(), &player.table), (0, &vec![7]));
+        }
+    }
+    let left = player.seats.clone().map(|seat| (seat.file, seat.table));
+    let mut expected: [(Vec<u8>, Vec<u32>); SEATS] = Default::default();
+    expected[0] = (vec![9, 8], vec![7, 0x0102_0304]);
+    expected[3] = (vec![3], vec![2]);
+    assert_eq!(left, expected);
+    // The digest is that of all tables, in the order of the seats.
+    let tables = [7, 0, 0, 0, 4, 3, 2, 1, 2, 0, 0, 0];
+    assert_eq!(player.digest(Kind::Desks), digest(tables));
+}
+
 #[test]
 fn the_digest() {
     assert_eq!(digest([]), 0xCBF2_9CE4_8422_2325);
@@ -498,6 +600,19 @@ fn lines_with_a_count() {
     ] {
         assert_eq!(reply.line(255), line);
     }
+    let mut desks = DesksAnswer {
+        refusal: 24,
+        turns: 25,
+        ..DesksAnswer::default()
+    };
+    (desks.seats[0], desks.seats[7]) = (run, RunAnswer { refusal: 9, ..run });
+    assert_eq!(
+        Reply::Desks(desks).line(255),
+        format!(
+            "desks 24 25 1 2 3 4 5 6 7 {}9 2 3 4 5 6 7 00000000000000ff",
+            "0 ".repeat(6 * 7)
+        )
+    );
 }
 
 /// Every refusal by every call that can give it, every outcome, every ending.
@@ -553,7 +668,7 @@ fn the_list_has_closed_nodes() {
     let mut player = Player::default();
     let mut accepted: HashSet<&str> = HashSet::new();
     let (mut outcomes, mut endings, mut longest) = ([0; 3], [0; 4], 0);
-    for call in cases::all() {
+    for call in cases::all().drain(..WITHOUT_DESKS) {
         let reply = player.play(&Second, &call);
         let closed = Study::read(&player.file).is_ok_and(|study| study.closed != 0);
         if !closed {
@@ -571,7 +686,7 @@ fn the_list_has_closed_nodes() {
             _ => {}
         }
     }
-    assert_eq!(accepted.len(), Kind::ALL.len());
+    assert_eq!(accepted.len(), WITH_ONE_STUDY);
     assert!(outcomes.iter().all(|&count| count >= 3), "{outcomes:?}");
     assert!(
         endings.iter().skip(1).all(|&count| count >= 3),
@@ -731,7 +846,7 @@ fn the_list_has_powers() {
     let mut accepted: HashSet<&str> = HashSet::new();
     let mut refusals: HashSet<u8> = HashSet::new();
     let (mut outcomes, mut endings, mut closed, mut over) = ([0; 3], [0; 4], 0, 0);
-    for call in &cases::all()[WITHOUT_POWERS..] {
+    for call in &cases::all()[WITHOUT_POWERS..WITHOUT_DESKS] {
         let reply = player.play(&Second, call);
         if !player.file.starts_with(&[3, 0]) {
             continue;
@@ -749,7 +864,7 @@ fn the_list_has_powers() {
             _ => {}
         }
     }
-    assert_eq!(accepted.len(), Kind::ALL.len());
+    assert_eq!(accepted.len(), WITH_ONE_STUDY);
     for number in [0, 1, 3, 4, 5, 6, 7, 8, 19, 9, 10, 11, 15, 16, 17, 18, 20] {
         assert!(refusals.contains(&number), "{number}");
     }
@@ -764,7 +879,7 @@ fn the_list_has_powers() {
 fn the_list_tells_powers_apart() {
     let mut player = player_with_note();
     let mut apart = [0; 8];
-    for call in &cases::all()[WITHOUT_POWERS..] {
+    for call in &cases::all()[WITHOUT_POWERS..WITHOUT_DESKS] {
         let before = player.clone();
         let reply = player.play(&Second, call);
         if reply.refusal() != 0 || !player.file.starts_with(&[3, 0]) {
@@ -988,10 +1103,10 @@ fn the_list_has_notes_that_are_refused() {
 /// without, and are few enough.
 #[test]
 fn calls_for_lorries_stand_alone() {
-    let calls = cases::all();
+    let calls = &cases::all()[..WITHOUT_DESKS];
     let new = &calls[WITHOUT_LORRIES..];
     assert!(starts_afresh(new));
-    assert!(answers(&Second, &calls).ends_with(&answers(&Second, new)));
+    assert!(answers(&Second, calls).ends_with(&answers(&Second, new)));
     assert!((400..=1_500).contains(&new.len()));
     assert!(write_calls(new).len() < 800_000);
 }
@@ -1006,7 +1121,7 @@ fn the_list_has_lorries() {
     let mut refusals: HashSet<u8> = HashSet::new();
     let (mut outcomes, mut endings, mut over) = ([0; 3], [0; 4], 0);
     let (mut table, mut note) = (0, 0);
-    for call in &cases::all()[WITHOUT_LORRIES..] {
+    for call in &cases::all()[WITHOUT_LORRIES..WITHOUT_DESKS] {
         let reply = player.play(&Second, call);
         if !player.file.starts_with(&[4, 0]) {
             continue;
@@ -1026,7 +1141,7 @@ fn the_list_has_lorries() {
             _ => {}
         }
     }
-    assert_eq!(accepted.len(), 2 * Kind::ALL.len());
+    assert_eq!(accepted.len(), 2 * WITH_ONE_STUDY);
     // Version 4 is never refused 2.
     let all: HashSet<u8> = (0..=23).filter(|&number| number != 2).collect();
     assert_eq!(refusals, all);
@@ -1054,7 +1169,7 @@ fn with_other_classes(file: &[u8], sections: &Sections<'_>) -> [Vec<u8>; 2] {
 fn the_list_tells_classes_apart() {
     let mut player = Player::default();
     let mut apart = [[0; 8]; 2];
-    for call in &cases::all()[WITHOUT_LORRIES..] {
+    for call in &cases::all()[WITHOUT_LORRIES..WITHOUT_DESKS] {
         let before = player.clone();
         let reply = player.play(&Second, call);
         let Ok(sections) = Sections::find(&player.file) else {
@@ -1094,7 +1209,7 @@ fn the_list_has_moves_of_lorries_taken_back() {
     let mut player = Player::default();
     let mut last: Option<(Player, u32)> = None;
     let (mut restored, mut both) = ([0; 2], 0);
-    for call in &cases::all()[WITHOUT_LORRIES..] {
+    for call in &cases::all()[WITHOUT_LORRIES..WITHOUT_DESKS] {
         let mut before = player.clone();
         let reply = player.play(&Second, call);
         if let Lent::Noted(Some(table), _) = &call.lent {
@@ -1117,4 +1232,163 @@ fn the_list_has_moves_of_lorries_taken_back() {
     }
     assert!(restored.iter().all(|&count| count >= 10), "{restored:?}");
     assert!(both >= 30, "{both}");
+}
+
+/// Calls made for desks are answered alike with the calls before them and
+/// without, and are few enough.
+#[test]
+fn calls_for_desks_stand_alone() {
+    let calls = cases::all();
+    let new = &calls[WITHOUT_DESKS..];
+    let Lent::Desks(first) = &new[0].lent else {
+        unreachable!("the first of them is for desks");
+    };
+    let mut seats = first.seats.iter();
+    assert!(seats.all(|seat| seat.file.is_some() && seat.table.is_some()));
+    assert!(answers(&Second, &calls).ends_with(&answers(&Second, new)));
+    assert!((250..=450).contains(&new.len()));
+    assert!(write_calls(new).len() < 700_000);
+}
+
+/// A call that was made for desks, the seats before it, its answer, and what it
+/// leaves.
+struct Seated {
+    lent: LentDesks,
+    before: Player,
+    answer: DesksAnswer,
+    after: Player,
+}
+
+/// All those calls, but for those of other kinds among them.
+fn made_for_desks() -> Vec<Seated> {
+    let mut player = Player::default();
+    let mut made = Vec::new();
+    for call in cases::all().drain(WITHOUT_DESKS..) {
+        let mut before = player.clone();
+        let reply = player.play(&Second, &call);
+        let (Lent::Desks(lent), Reply::Desks(answer)) = (call.lent, reply) else {
+            continue;
+        };
+        for (seat, lent) in before.seats.iter_mut().zip(&lent.seats) {
+            seat.file = lent.file.clone().unwrap_or(seat.file.clone());
+            seat.table = lent.table.clone().unwrap_or(seat.table.clone());
+        }
+        made.push(Seated {
+            lent: *lent,
+            before,
+            answer,
+            after: player.clone(),
+        });
+    }
+    made
+}
+
+/// Every number of desks, every refusal and ending in every version, allowances
+/// that are used up and such that are not, and tables longer than needed.
+#[test]
+fn the_list_has_desks() {
+    let mut refusals: HashSet<u8> = HashSet::new();
+    let mut own_refusals: HashSet<u8> = HashSet::new();
+    let mut endings: HashSet<(u16, u8)> = HashSet::new();
+    let mut numbers: HashSet<(u32, bool)> = HashSet::new();
+    let (mut without_turn, mut longer, mut over, mut longest) = (0, 0, 0, 0);
+    for Seated {
+        lent,
+        answer,
+        after,
+        ..
+    } in made_for_desks()
+    {
+        refusals.insert(answer.refusal);
+        if answer.refusal != 0 {
+            continue;
+        }
+        let waiting = answer.seats.iter().any(|own| own.ending == WAITING);
+        numbers.insert((lent.desks, waiting));
+        let desks = after.seats.iter().zip(&answer.seats);
+        for (seat, own) in desks.take(lent.desks as usize) {
+            own_refusals.insert(own.refusal);
+            let Ok(study) = Study::read(&seat.file) else {
+                continue;
+            };
+            endings.insert((u16_at(&seat.file, 0), own.ending));
+            without_turn += usize::from(own.ending == WAITING && own.judged == 0);
+            longer += usize::from(own.refusal == 0 && seat.table.len() > study.table_length());
+            over += usize::from(own.over > 0);
+            longest = longest.max(seat.table.len());
+        }
+    }
+    assert_eq!(refusals, HashSet::from([0, 24, 25]));
+    let all: HashSet<u8> = (0..=13).chain([19, 23]).collect();
+    assert_eq!(own_refusals, all);
+    assert_eq!(numbers.len(), 16, "{numbers:?}");
+    assert_eq!(endings.len(), 20, "{endings:?}");
+    assert!(without_turn >= 100 && longer >= 500 && over >= 100);
+    assert!(longest > 32_768, "{longest}");
+}
+
+/// Seats without a desk are lent files that are refused and such that are not,
+/// and keep their tables; so do all in a refusal.
+#[test]
+fn the_list_has_tables_that_stay() {
+    let (mut good, mut bad, mut refused) = (0, 0, 0);
+    for made in made_for_desks() {
+        let first = match made.answer.refusal {
+            0 => made.lent.desks as usize,
+            _ => 0,
+        };
+        refused += usize::from(first == 0);
+        let seats = made.before.seats.iter().zip(&made.after.seats);
+        for (number, (before, after)) in seats.enumerate().skip(first) {
+            assert_eq!(before, after);
+            assert_eq!(made.answer.seats[number], RunAnswer::default());
+            if first > 0 && !before.table.is_empty() {
+                match Study::read(&before.file) {
+                    Ok(_) => good += 1,
+                    Err(_) => bad += 1,
+                }
+            }
+        }
+    }
+    assert!(good >= 100 && bad >= 20 && refused >= 30, "{good} {bad}");
+}
+
+/// For many of these calls the order of the turns matters: with all turns of one
+/// desk before those of the next, or from the last seat to the first, the
+/// allowance would be shared out in another way.
+#[test]
+fn the_list_tells_turns_apart() {
+    let (mut desk_by_desk, mut from_the_last) = (0, 0);
+    for made in made_for_desks() {
+        let desks = made.lent.desks as usize;
+        if made.answer.refusal != 0 || made.answer.turns < made.lent.allowance {
+            continue;
+        }
+        let lent = made.lent.seats.iter().zip(&made.before.seats).take(desks);
+        let tables: Vec<u32> = lent
+            .map(|(lent, seat)| {
+                let mut table = seat.table.clone();
+                run(&seat.file, &mut table, lent.budget, lent.excess).judged
+            })
+            .collect();
+        let judged: Vec<u32> = made.answer.seats.iter().map(|own| own.judged).collect();
+        let mut left = made.lent.allowance;
+        let one_by_one = tables.iter().map(|&tables| {
+            let own = tables.min(left);
+            left -= own;
+            own
+        });
+        desk_by_desk += usize::from(one_by_one.ne(judged[..desks].iter().copied()));
+        // A round that is cut short leaves its last desks one turn behind.
+        let unfinished: Vec<u32> = judged
+            .iter()
+            .zip(&tables)
+            .filter(|(judged, tables)| judged < tables)
+            .map(|(&judged, _)| judged)
+            .collect();
+        let first = unfinished.first();
+        from_the_last += usize::from(unfinished.iter().any(|judged| Some(judged) != first));
+    }
+    assert!(desk_by_desk >= 80, "{desk_by_desk}");
+    assert!(from_the_last >= 40, "{from_the_last}");
 }

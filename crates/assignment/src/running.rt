@@ -3,10 +3,12 @@ ghost use Rattle.network.specs.Decoded.{Room};
 ghost use Rattle.refusals.specs.Places.{curve_places};
 ghost use Rattle.calls.specs.Calls.{run_number, run_answer, run_table};
 ghost use Rattle.assignment.specs.Answers.{ending_of, ended_answer};
+ghost use Rattle.assignment.specs.Runs.{SetsOut};
 ghost use Rattle.judging.specs.Study.{study_of};
 ghost use Rattle.judging.specs.Classes.{ChainRoom, RowRoom};
 ghost use Rattle.refusals.specs.Parts.{PartsOf};
 
+use crate::Course;
 use crate::answers::refused_run;
 use calls::{Ending, RunAnswer};
 use judging::{Standing, Step};
@@ -20,49 +22,60 @@ pub fn run(file: &[u8], table: &mut [u32], budget: u32, excess: u16) -> RunAnswe
     ensures value { result ≡ run_answer file.now table.old budget excess }
     ensures table_after { table.new ≡ run_table file.now table.old budget excess }
 {
+    run_from(
+        file,
+        table,
+        Course {
+            budget,
+            excess,
+            moves: 0,
+            share: 1,
+            resumed: false,
+        },
+    )
+}
+
+// The same for a run that may be under way already.
+pub fn run_from(file: &[u8], table: &mut [u32], course: Course) -> RunAnswer
+    requires { SetsOut file.now table.old course }
+    ensures value { result ≡ run_answer file.now table.old course.budget course.excess }
+    ensures table_after { table.new ≡ run_table file.now table.old course.budget course.excess }
+{
     if is_small(file) {
         let mut rows = [[0u16, 0, 0, 0, 0, 0]; SHORT_LINKS];
         let mut entries = [0u16; SHORT_ENTRIES];
         let mut curves = [0u64; ONE_LIST];
-        return run_in(
-            file,
-            table,
-            budget,
-            excess,
-            &mut rows,
-            &mut entries,
-            &mut curves,
-        );
+        return run_in(file, table, course, &mut rows, &mut entries, &mut curves);
     }
     let mut curves = [0u64; ALL_LISTS];
     let curves = &mut curves[..curve_places(file)];
     if file.len() <= SHORT {
         let mut rows = [[0u16, 0, 0, 0, 0, 0]; SHORT_LINKS];
         let mut entries = [0u16; SHORT_ENTRIES];
-        return run_in(file, table, budget, excess, &mut rows, &mut entries, curves);
+        return run_in(file, table, course, &mut rows, &mut entries, curves);
     }
     let mut rows = [[0u16, 0, 0, 0, 0, 0]; 512];
     if has_lorries(file) {
         let mut entries = [0u16; ALL_ENTRIES];
-        return run_in(file, table, budget, excess, &mut rows, &mut entries, curves);
+        return run_in(file, table, course, &mut rows, &mut entries, curves);
     }
     let mut entries = [0u16; CAR_ENTRIES];
-    run_in(file, table, budget, excess, &mut rows, &mut entries, curves)
+    run_in(file, table, course, &mut rows, &mut entries, curves)
 }
 
 // The same, in places that are lent for the rows of its links and trips and for the links' curves.
 fn run_in(
     file: &[u8],
     table: &mut [u32],
-    budget: u32,
-    excess: u16,
+    course: Course,
     rows: &mut [[u16; 6]],
     entries: &mut [u16],
     curves: &mut [u64],
 ) -> RunAnswer
-    requires { Room file.now (length rows.old) (length entries.old) × (length curves.old ≡ curve_places file.now) }
-    ensures value { result ≡ run_answer file.now table.old budget excess }
-    ensures table_after { table.new ≡ run_table file.now table.old budget excess }
+    requires room { Room file.now (length rows.old) (length entries.old) × (length curves.old ≡ curve_places file.now) }
+    requires sets_out { SetsOut file.now table.old course }
+    ensures value { result ≡ run_answer file.now table.old course.budget course.excess }
+    ensures table_after { table.new ≡ run_table file.now table.old course.budget course.excess }
 {
     let mut places = [0u16; 64];
     let opening = network::decode(file, rows, &mut places, entries);
@@ -80,25 +93,15 @@ fn run_in(
         commodities,
         trips,
         table,
-        budget,
+        course.budget,
     );
     if refusal != 0 {
         return refused_run(refusal);
     }
-    turns(
-        file,
-        n,
-        links,
-        commodities,
-        trips,
-        table,
-        budget,
-        excess,
-        curves,
-    )
+    turns(file, n, links, commodities, trips, table, course, curves)
 }
 
-// The turns of an accepted run, from the table that a start leaves until one ends it: in places for few commodities, for those of cars alone, or for
+// The turns of an accepted run, from where it sets out until one ends it: in places for few commodities, for those of cars alone, or for
 // as many of lorries too.
 fn turns(
     file: &[u8],
@@ -107,14 +110,14 @@ fn turns(
     commodities: &[u16],
     trips: &[u16],
     table: &mut [u32],
-    budget: u32,
-    excess: u16,
+    course: Course,
     curves: &mut [u64],
 ) -> RunAnswer
-    requires parts_of { PartsOf file.now 0 nodes links.now commodities.now trips.now × (run_number file.now table.old budget ≡ 0) }
+    requires parts_of { PartsOf file.now 0 nodes links.now commodities.now trips.now × (run_number file.now table.old course.budget ≡ 0) }
+    requires sets_out { SetsOut file.now table.old course }
     requires curves_len { length curves.old ≡ curve_places file.now }
-    ensures value { result ≡ run_answer file.now table.old budget excess }
-    ensures table_after { table.new ≡ run_table file.now table.old budget excess }
+    ensures value { result ≡ run_answer file.now table.old course.budget course.excess }
+    ensures table_after { table.new ≡ run_table file.now table.old course.budget course.excess }
 {
     if commodities.len() <= FEW_COMMODITIES {
         let mut chains = [[NO_LINK; 896]; 4];
@@ -127,8 +130,7 @@ fn turns(
             commodities,
             trips,
             table,
-            budget,
-            excess,
+            course,
             curves,
             &mut chains,
             &mut next,
@@ -146,8 +148,7 @@ fn turns(
             commodities,
             trips,
             table,
-            budget,
-            excess,
+            course,
             curves,
             &mut chains,
             &mut next,
@@ -164,8 +165,7 @@ fn turns(
         commodities,
         trips,
         table,
-        budget,
-        excess,
+        course,
         curves,
         &mut chains,
         &mut next,
@@ -182,26 +182,26 @@ fn turns_in(
     commodities: &[u16],
     trips: &[u16],
     table: &mut [u32],
-    budget: u32,
-    excess: u16,
+    course: Course,
     curves: &mut [u64],
     chains: &mut [[u16; 896]],
     next: &mut [[u16; 128]],
     volumes: &mut [[u16; 128]],
 ) -> RunAnswer
-    requires parts_of { PartsOf file.now 0 nodes links.now commodities.now trips.now × (run_number file.now table.old budget ≡ 0) }
+    requires parts_of { PartsOf file.now 0 nodes links.now commodities.now trips.now × (run_number file.now table.old course.budget ≡ 0) }
+    requires sets_out { SetsOut file.now table.old course }
     requires curves_len { length curves.old ≡ curve_places file.now }
     requires chain_room { ChainRoom (study_of nodes links.now commodities.now trips.now) chains.old × RowRoom (length commodities.now) next.old volumes.old }
-    ensures value { result ≡ run_answer file.now table.old budget excess }
-    ensures table_after { table.new ≡ run_table file.now table.old budget excess }
+    ensures value { result ≡ run_answer file.now table.old course.budget course.excess }
+    ensures table_after { table.new ≡ run_table file.now table.old course.budget course.excess }
 {
-    let limit = excess as u64 * questions::total_trips(trips);
+    let limit = course.excess as u64 * questions::total_trips(trips);
     let mut times = [0u32; 512];
     let mut flows = [[0u64; 512]; 2];
     travel::put_powers(curves);
     travel::put_reciprocals(curves, links);
     judging::put_class_chains(nodes, links, commodities, trips, chains);
-    judging::start_table(
+    judging::first_table(
         nodes,
         links,
         commodities,
@@ -213,10 +213,11 @@ fn turns_in(
         next,
         volumes,
         &mut flows,
+        course.resumed,
     );
     travel::write_totals(table, commodities.len(), links.len(), &mut flows[TOTAL]);
-    let mut judged = 0;
-    let mut share = 1;
+    let mut judged = course.moves;
+    let mut share = course.share;
     let mut guess = 0;
     let mut latest = 0;
     let mut known = false;
@@ -227,7 +228,7 @@ fn turns_in(
             known,
             guess,
             limit,
-            last: judged == budget,
+            last: judged == course.budget,
         };
         let turn = judging::turn_table(
             nodes,

@@ -60,6 +60,7 @@ fn ending_word(ending: Ending) -> &'static str {
         Ending::Reached => "reached",
         Ending::Finest => "finest",
         Ending::Spent => "spent",
+        Ending::Waiting => "waiting",
     }
 }
 

@@ -27,6 +27,7 @@ ending_number ending.Refused = 0
 ending_number ending.Reached = 1
 ending_number ending.Finest = 2
 ending_number ending.Spent = 3
+ending_number ending.Waiting = 4
 
 abbrev pub outcome_number : Outcome → ℕ
 outcome_number outcome.Refused = 0

@@ -1,31 +1,21 @@
 -- Document 01, 'A town of two roads': cases P1 to P10 and the listing's run, and cases of document 02's requests, computed from the
 -- definitions. One list of cases, one test, one lemma that the test holds of all.
-use Rattle.std.specs.Prelude.{ℕ, ◌≡◌, refl, Bool, true, false, ◌&&◌, cond, List, [], ◌∷◌, ◌++◌, take, drop, replicate, eqb}
-use Rattle.std.proofs.Common.{arith}
-use Rattle.text.specs.Decimal.{digits_within, decimal, hundredths, aligned}
-use Rattle.study.specs.Bytes.{u16, u32}
-use Rattle.study.specs.Versions.{versions, form_of, section_size}
-use Rattle.study.specs.Header.{version, node_field, link_field, destination_field, has_section, offset, size}
-use Rattle.study.specs.Questions.{length_fits, version_known, counts_fit, each_section, sections_apart, sections_in_order, sizes_fit, opening, refusal}
-use Rattle.study.specs.Sections.{nodes, links, destinations, lorry_destinations, part, link_part, closed_part}
-use Rattle.study.specs.Fields.{tail, head, free_time, rise, capacity, power as power_of, destination, trips, mark_byte}
-use Rattle.theory.specs.Finite.{sum, all, first, largest, tabulate, rows}
-use Rattle.theory.specs.Network.{Network, total_trips}
-use Rattle.theory.specs.Flows.{link_total, total, sum_at, balances, conserves, permits, totals_fit, step, step_time, time_at, times, over_at, over}
-use Rattle.theory.specs.Routes.{routing, IsPath, least_of, from_head, round, rounds, distances, fits_next, next_links, walk, sent_along, loading_row, loading}
-use Rattle.theory.specs.Cost.{staircase, link_cost, cost, least_times, spent_times, gap}
-use Rattle.theory.specs.Moves.{started, moved_times, qualifies, chosen, added, doubled, move, after_moves, reaches, stops, judged, last_judged}
-use Rattle.theory.specs.Notes.{next_marks, note_of, leaves_by, noted_links, leads_from, note_leads, note_loading, can_take_back, taken_back}
-use Rattle.theory.specs.Study.{barred_to, may_use, network, link_mark}
-use Rattle.theory.specs.Marks.{bit, marked, only_node, nodes_below, union, lowest, unvisited, lowest_unvisited}
-use Rattle.calls.specs.Study.{link_row, link_rows, destination_nodes, commodities, trip_entries, network_of}
-use Rattle.calls.specs.Questions.{ends_fit, times_fit, destinations_fit, marks_fit, no_trips_within, total_fits, has_path, trips_reach, table_holds, note_holds, budget_fits, share_fits}
-use Rattle.calls.specs.Questions.{packed_size, output_holds, study_questions, share_questions, check_questions, pack_questions, start_questions, run_questions, table_questions, page_holds, page_questions, note_questions, pass_questions, take_back_questions}
+use Rattle.std.specs.Prelude.{ℕ, ◌≡◌, Bool, true, false, ◌&&◌, cond, List, [], ◌∷◌, ◌++◌, take, drop, replicate, eqb}
+use Rattle.study.specs.Header.{version}
+use Rattle.study.specs.Sections.{links, closed_part}
+use Rattle.study.specs.Fields.{mark_byte}
+use Rattle.theory.specs.Network.{Network}
+use Rattle.theory.specs.Flows.{total, time_at, times, over_at, over}
+use Rattle.theory.specs.Routes.{routing, IsPath, loading}
+use Rattle.theory.specs.Moves.{chosen}
+use Rattle.theory.specs.Marks.{only_node, nodes_below, union, lowest_unvisited}
+use Rattle.calls.specs.Study.{network_of}
 use Rattle.calls.specs.declared.Outcome.TheVariants as outcome
-use Rattle.calls.specs.Pack.{bytes16, bytes32, section_place, packed_header, packed}
-use Rattle.calls.specs.Page.{volume, page_line, line_of, page_of}
-use Rattle.calls.specs.Calls.{ending_number, overwritten, check_number, pack_number, pack_output, start_number, start_table, table_number, audit_answer}
-use Rattle.calls.specs.Calls.{pass_number, pass_answer, pass_table, pass_note, take_back_number, take_back_answer, take_back_table, outcome_number, run_number, ending_at, run_answer, run_table, page_number, page_slice}
+use Rattle.calls.specs.declared.RunAnswer.{RunAnswer}
+use Rattle.calls.specs.Page.{volume, line_of}
+use Rattle.calls.specs.Calls.{ending_number, check_number, pack_number, pack_output, start_number, start_table, table_number, audit_answer}
+use Rattle.calls.specs.Calls.{pass_number, pass_answer, pass_table, pass_note, take_back_number, take_back_answer, take_back_table, outcome_number, run_number, run_answer, run_table, page_number, page_slice}
+use Rattle.calls.specs.Desks.{Desk, ends_after, turns_of, desk_turns, desks_number, desks_answer, desks_table}
 
 -- n 2, m 2, p 1; links (tail, head, a, b, c): 0 1 10 10 2 and 0 1 15 0 1; destination 1; trips 2, 0. File 58 bytes.
 unfoldable pub town : List ℕ
@@ -218,6 +208,27 @@ back file table share note =
 abbrev pub audited : List ℕ → List ℕ → ℕ → List ℕ
 audited file table share = let a = audit_answer file table share in a.gap ∷ a.cost ∷ []
 
+-- A.8: the town at desk 0, with budget 10 and excess 0, and at desk 1 with excess 5; a study that is refused at desk 2; and at desk 3 the town with budget 3
+-- and a longer table.
+abbrev pub queued_desk : ℕ → List ℕ → Desk
+queued_desk budget table = record { file = town; table = table; budget = budget; excess = 0 }
+
+unfoldable pub queued : List Desk
+queued =
+    queued_desk 10 (7 ∷ 7 ∷ [])
+    ∷ record { file = town; table = 7 ∷ 7 ∷ []; budget = 10; excess = 5 }
+    ∷ record { file = stranded_town; table = 7 ∷ 7 ∷ []; budget = 10; excess = 0 }
+    ∷ queued_desk 3 (7 ∷ 7 ∷ 5 ∷ [])
+    ∷ []
+
+-- What a seat answers: refusal, ending, tables judged, share and gap; of all eight seats, one after the other; and with the call's own number and the turns.
+abbrev pub seats_told : List RunAnswer → List ℕ
+seats_told [] = []
+seats_told (a ∷ rest) = a.refusal ∷ ending_number a.ending ∷ a.judged ∷ a.share ∷ a.gap ∷ seats_told rest
+
+abbrev pub told : ℕ → ℕ → List ℕ
+told count allowance = let a = desks_answer queued count allowance in a.refusal ∷ a.turns ∷ seats_told a.seats
+
 -- The lines of the town's page at share 9: "  0   0   1     1.77     0.15" and "  1   0   1     0.22     0.15", and that of the full road:
 -- "  0   0   1 65535.00 42104.31".
 unfoldable pub town_lines : List ℕ
@@ -369,6 +380,26 @@ cases =
     -- A version 4 file of 55 bytes is refused 4. Pack writes the new sections last.
     ∷ case (check_number (take 55 barred_town) ∷ check_number (take 56 barred_town) ∷ []) (4 ∷ 4 ∷ [])
     ∷ case (pack_output barred_town (replicate 95 7)) (barred_town ++ (7 ∷ []))
+    -- A.8: two turns of four desks: one each to desk 0, which waits, and desk 1, which ends; desk 3 has none, and its table is as started.
+    ∷ case (desk_turns queued 4 2) (1 ∷ 0 ∷ [])
+    ∷ case (told 4 2) (0 ∷ 2 ∷ 0 ∷ 4 ∷ 1 ∷ 1 ∷ 10 ∷ 0 ∷ 1 ∷ 1 ∷ 1 ∷ 10 ∷ 11 ∷ 0 ∷ 0 ∷ 0 ∷ 0 ∷ 0 ∷ 4 ∷ 0 ∷ 1 ∷ 0 ∷ replicate 20 0)
+    ∷ case (desks_table queued 4 2 0 ++ desks_table queued 4 2 1 ++ desks_table queued 4 2 2 ++ desks_table queued 4 2 3) (2 ∷ 0 ∷ 2 ∷ 0 ∷ 7 ∷ 7 ∷ 2 ∷ 0 ∷ 5 ∷ [])
+    -- Six turns: two more to desk 0 and two to desk 3, by turns. Each waits with the table that a run of so large a budget judges last.
+    ∷ case (desk_turns queued 4 6) (0 ∷ 3 ∷ 0 ∷ 3 ∷ 1 ∷ 0 ∷ [])
+    ∷ case (take 17 (told 4 6)) (0 ∷ 6 ∷ 0 ∷ 4 ∷ 3 ∷ 4 ∷ 40 ∷ 0 ∷ 1 ∷ 1 ∷ 1 ∷ 10 ∷ 11 ∷ 0 ∷ 0 ∷ 0 ∷ 0 ∷ [])
+    ∷ case (drop 17 (told 4 6)) (0 ∷ 4 ∷ 2 ∷ 2 ∷ 20 ∷ replicate 20 0)
+    ∷ case (desks_table queued 4 6 0 ++ desks_table queued 4 6 3) (8 ∷ 0 ∷ 4 ∷ 0 ∷ 5 ∷ [])
+    -- With nine turns and more each desk ends as its run by itself does.
+    ∷ case (told 4 9) (0 ∷ 9 ∷ 0 ∷ 1 ∷ 5 ∷ 9 ∷ 0 ∷ 0 ∷ 1 ∷ 1 ∷ 1 ∷ 10 ∷ 11 ∷ 0 ∷ 0 ∷ 0 ∷ 0 ∷ 0 ∷ 3 ∷ 3 ∷ 4 ∷ 40 ∷ replicate 20 0)
+    ∷ case (told 4 12) (told 4 9)
+    ∷ case (desks_table queued 4 9 0 ++ desks_table queued 4 9 3) (16 ∷ 2 ∷ 8 ∷ 0 ∷ 5 ∷ [])
+    -- A seat without a desk answers 0 throughout, and a table lent there stays as it was.
+    ∷ case (drop 7 (told 1 9)) (replicate 35 0)
+    ∷ case (desks_table queued 1 9 1 ++ desks_table queued 1 9 3) (7 ∷ 7 ∷ 7 ∷ 7 ∷ 5 ∷ [])
+    -- 24: no desks, and nine, whatever the allowance; then 25: an allowance of 0, and of 8,193.
+    ∷ case (told 0 0 ++ told 9 3) (24 ∷ replicate 41 0 ++ (24 ∷ replicate 41 0))
+    ∷ case (told 4 0 ++ (desks_number 8 8193 ∷ desks_number 8 8192 ∷ [])) (25 ∷ replicate 41 0 ++ (25 ∷ 0 ∷ []))
+    ∷ case (desks_table queued 0 9 0 ++ desks_table queued 4 0 3) (7 ∷ 7 ∷ 7 ∷ 7 ∷ 5 ∷ [])
     ∷ []
 
 -- One lemma, by computation: the test holds of every case; and what the theorems ask of a study, a table, a share and a budget can be
@@ -420,3 +451,9 @@ pub record Computed : Type 0 where
   pub cars-alone : check_number (lorry_town 2 0 0 0 1 1) ≡ 0
   pub lorry-table : table_number shared_town (2 ∷ 0 ∷ 0 ∷ 1 ∷ []) 1 ≡ 0
   pub other-table : table_number shared_town (1 ∷ 1 ∷ 1 ∷ 0 ∷ []) 1 ≡ 0
+  pub queued-number : (desks_number 4 9 ≡ 0) × (desks_number 4 6 ≡ 0) × (desks_number 4 2 ≡ 0)
+  pub queued-turns : desk_turns queued 4 9 ≡ 0 ∷ 0 ∷ 3 ∷ 0 ∷ 3 ∷ 0 ∷ 3 ∷ 1 ∷ 0 ∷ []
+  pub queued-ends : (ends_after queued 4 0 ≡ 5) × (ends_after queued 4 3 ≡ 3)
+  pub queued-waits : (turns_of 0 (desk_turns queued 4 6) ≡ 3) × (turns_of 3 (desk_turns queued 4 2) ≡ 0)
+  pub queued-run : run_number town (7 ∷ 7 ∷ 5 ∷ []) 3 ≡ 0
+  pub queued-refused : run_number stranded_town (7 ∷ 7 ∷ []) 10 ≡ 11

@@ -7,3 +7,5 @@ pub mod Pack
 pub mod Reach
 pub mod Tables
 pub mod Page
+pub mod Turns
+pub mod Desks

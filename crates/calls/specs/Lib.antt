@@ -5,6 +5,7 @@ pub mod Questions
 pub mod Pack
 pub mod Page
 pub mod Calls
+pub mod Desks
 pub mod Sequence
 pub mod Cases
 pub mod Laws

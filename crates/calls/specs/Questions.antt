@@ -88,6 +88,14 @@ output_holds file output = leb (packed_size file) (length output)
 unfoldable pub page_holds : Network → List ℕ → Bool
 page_holds g page = leb (30 * g.links) (length page)
 
+-- 24 (A.8). Are the desks 1 to 8?
+unfoldable pub desks_fit : ℕ → Bool
+desks_fit desks = within 1 8 desks
+
+-- 25 (A.8). Is the allowance 1 to 8,192?
+unfoldable pub allowance_fits : ℕ → Bool
+allowance_fits allowance = within 1 8192 allowance
+
 -- The order of the questions of each call, in one place. A question asked:
 abbrev pub ask : ℕ → Bool → Question
 ask number answer = record { number = number; yes = answer }
@@ -154,3 +162,7 @@ unfoldable pub take_back_questions : List ℕ → List ℕ → ℕ → List ℕ 
 take_back_questions file table share note =
     pass_questions file table share note
     ++ (ask 21 (note_leads (network_of file) note) ∷ ask 22 (can_take_back (network_of file) (record { table = table; share = share }) note) ∷ [])
+
+-- Several desks (A.8) put 24 first of all, then 25; the run of each desk puts its own.
+unfoldable pub desks_questions : ℕ → ℕ → List Question
+desks_questions desks allowance = ask 24 (desks_fit desks) ∷ ask 25 (allowance_fits allowance) ∷ []

@@ -1,13 +1,14 @@
 // The answers of document 01's calls, as values. What each call answers, for any bytes, is defined in specs/; this crate has no code.
 #![tactic(auto)]
 
-// How a run ended. A refused run has no ending.
+// How a run ended. A refused run has no ending. Of several desks (A.8), one that the allowance cut off is waiting.
 #[derive(Clone, Copy)]
 pub enum Ending {
     Refused,
     Reached,
     Finest,
     Spent,
+    Waiting,
 }
 
 // What a pass did. A refused pass did nothing.
@@ -54,4 +55,12 @@ pub struct AuditAnswer {
 pub struct TakeBackAnswer {
     pub refusal: u8,
     pub share: u32,
+}
+
+// (A.8) Several desks: the total of turns, and what each of the eight seats answers.
+#[derive(Clone, Copy)]
+pub struct DesksAnswer {
+    pub refusal: u8,
+    pub turns: u32,
+    pub seats: [RunAnswer; 8],
 }

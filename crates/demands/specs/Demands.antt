@@ -12,8 +12,8 @@ use Rattle.theory.specs.Laws.Conserving.{Carried}
 use Rattle.theory.specs.Laws.Runs.{Judged}
 use Rattle.calls.specs.Study.{network_of}
 use Rattle.calls.specs.Questions.{packed_size}
-use Rattle.calls.specs.Pack.{packed}
 use Rattle.calls.specs.Calls.{check_number, pack_number, pack_output, start_number, start_table, table_number, audit_answer, pass_number, take_back_number, run_number, run_answer, run_table, page_number, page_slice}
+use Rattle.calls.specs.Desks.{Desk, desks_number}
 use Rattle.calls.specs.Sequence.{Call, after_start, after_calls}
 use Rattle.calls.specs.declared.Ending.TheVariants as ending
 use Rattle.calls.specs.Laws.Questions.{Described, check-passed, start-both, table-both}
@@ -22,6 +22,7 @@ use Rattle.calls.specs.Laws.Calls.{refused_audit, audit-accepted, pack-kept, pag
 use Rattle.demands.specs.Packing.{pack-reads-back, pack-twice}
 use Rattle.demands.specs.Packing.Same.{SameStudy}
 use Rattle.demands.specs.Refusals.{first-failing, PassRefused, TakeBackRefused, RunRefused, refused-start, refused-audit, refused-pass, refused-take-back, refused-run}
+use Rattle.demands.specs.Queues.{DesksRefused, refused-desks}
 use Rattle.demands.specs.Results.{Fresh, start-fresh, run-fresh, start-carried, run-carried, auditable-carried}
 use Rattle.demands.specs.RunEndings.{reached-exactly, counted}
 use Rattle.demands.specs.Sequences.{start-auditable, calls-auditable}
@@ -41,6 +42,7 @@ pub record Demand1 : Type 0 where
   pub audit : (file table : List ℕ) (share : ℕ) → (table_number file table share ≡ 0 → ⊥) → audit_answer file table share ≡ refused_audit (table_number file table share)
   pub run : (file table : List ℕ) (budget excess : ℕ) → (run_number file table budget ≡ 0 → ⊥) → RunRefused file table budget excess
   pub page : (file table : List ℕ) (share : ℕ) (page : List ℕ) → (page_number file table share page ≡ 0 → ⊥) → page_slice file table share page ≡ page
+  pub desks : (desks : List Desk) (count allowance : ℕ) → (desks_number count allowance ≡ 0 → ⊥) → DesksRefused desks count allowance
 
 pub demand-1 : Demand1
 demand-1 =
@@ -54,6 +56,7 @@ demand-1 =
       audit = refused-audit;
       run = refused-run;
       page = page-kept;
+      desks = refused-desks;
     }
 
 -- Demand 2. Every result equals the definitions: that is the calls' contracts. Earlier table contents play no part in a start or a run;

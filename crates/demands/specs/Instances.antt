@@ -1,7 +1,7 @@
 -- The hypotheses of the demands and of the requests' theorems can be met: the town of two roads, the busy town, the town with a zone, the
--- town with powers, the towns with a lorry and some marked nodes meet each of them.
+-- town with powers, the towns with a lorry, some marked nodes and a queue of four desks meet each of them.
 use Rattle.std.specs.Prelude.{ℕ, zero, suc, ◌+◌, ◌*◌, ◌/◌, ◌^◌, ◌≤◌, ◌<◌, ◌↔◌, ◌≡◌, true, false, List, [], ◌∷◌, length, get_or, take, replicate}
-use Rattle.std.proofs.Common.{arith}
+use Rattle.std.proofs.Common.{arith, sym, ap, ◌∙◌}
 use Rattle.study.specs.Header.{version}
 use Rattle.study.specs.Sections.{links, destinations, barred_part}
 use Rattle.study.specs.Fields.{mark_byte}
@@ -18,7 +18,8 @@ use Rattle.theory.specs.Laws.Paths.{Simple}
 use Rattle.theory.specs.Laws.Totals.{SameFor}
 use Rattle.calls.specs.Study.{network_of}
 use Rattle.calls.specs.Sequence.{Call, after_start, after_calls}
-use Rattle.calls.specs.Cases.{town, busy_town, curved_town, zone_town, barred_town, shared_town, blank, set_of, word_ends}
+use Rattle.calls.specs.Cases.{town, busy_town, curved_town, zone_town, barred_town, shared_town, blank, set_of, word_ends, queued}
+use Rattle.calls.specs.Desks.{desk_at, turns_of, desk_turns, desks_answer, desks_table}
 use Rattle.calls.proofs.Computed.{computed}
 use Rattle.calls.specs.Page.{page_of}
 use Rattle.calls.specs.Questions.{packed_size}
@@ -36,7 +37,8 @@ use Rattle.demands.specs.Powers.{free_of, rise_of, power_of, with_curves, curves
 use Rattle.demands.specs.TakingBack.{routing_at, next_walk, TakesBackTo}
 use Rattle.demands.specs.Lorries.{TwoClasses, KeepsOff, barred_at}
 use Rattle.demands.specs.LorryTowns.{lorried}
-use Rattle.demands.specs.Requests.{request-A1, request-A2, request-A3, request-A4, request-A5, request-A6, request-A7}
+use Rattle.demands.specs.Queues.{AsRun, AsWaiting, AsStarted, AsRefused, AsNothing, answer_of, turns_at}
+use Rattle.demands.specs.Requests.{request-A1, request-A2, request-A3, request-A4, request-A5, request-A6, request-A7, request-A8}
 
 -- A study that passes questions 1 to 11.
 pub town-described : Described town
@@ -227,3 +229,43 @@ shared_same = request-A7.same shared_town (2 ∷ 0 ∷ 0 ∷ 1 ∷ []) (1 ∷ 1 
 
 pub shared-accepted : (table_number shared_town (2 ∷ 0 ∷ 0 ∷ 1 ∷ []) 1 ≡ 0) × (table_number shared_town (1 ∷ 1 ∷ 1 ∷ 0 ∷ []) 1 ≡ 0)
 shared-accepted = (computed.lorry-table, computed.other-table)
+
+-- Desks in a queue, where nine turns are enough: the first desk, after its first turn, is among the next eight.
+pub queued-served : 1 ≤ turns_of 0 (0 ∷ 0 ∷ 3 ∷ 0 ∷ 3 ∷ 0 ∷ 3 ∷ 1 ∷ [])
+unfolding turns_of
+queued-served = request-A8.within-eight queued 4 9 0 (omega arith) (0 ∷ 0 ∷ 3 ∷ 0 ∷ 3 ∷ 0 ∷ 3 ∷ 1 ∷ []) (0 ∷ []) computed.queued-turns (omega (arith, computed.queued-ends.0)) (omega arith)
+
+pub queued-ended : AsRun (desk_at queued 0) (desk_at queued 0).budget (answer_of queued 4 9 0) (desks_table queued 4 9 0)
+unfolding turns_of
+queued-ended =
+    request-A8.ended queued 4 9 computed.queued-number.0 0 (omega arith)
+    (ap (turns_of 0) computed.queued-turns ∙ sym computed.queued-ends.0)
+
+pub queued-total : (desks_answer queued 4 9).turns ≡ length (desk_turns queued 4 9)
+queued-total = request-A8.total queued 4 9 computed.queued-number.0
+
+-- With six turns the first desk waits after three; with two the last has none.
+pub queued-waiting : AsWaiting (desk_at queued 0) (turns_at queued 4 6 0) (answer_of queued 4 6 0) (desks_table queued 4 6 0)
+queued-waiting =
+    request-A8.waits queued 4 6 computed.queued-number.1 0 (omega arith)
+    (omega (arith, computed.queued-waits.0))
+    (omega (arith, computed.queued-waits.0, computed.queued-ends.0))
+
+pub queued-unserved : AsStarted (desk_at queued 3) (answer_of queued 4 2 3) (desks_table queued 4 2 3)
+queued-unserved =
+    request-A8.unserved queued 4 2 computed.queued-number.2 3 (omega arith) computed.queued-waits.1 (omega (arith, computed.queued-ends.1))
+
+-- The desk whose run would be refused, a seat without a desk, and what a desk holds.
+pub queued_refused : AsRefused (desk_at queued 2) 11 (turns_at queued 4 6 2) (answer_of queued 4 6 2) (desks_table queued 4 6 2)
+unfolding queued
+queued_refused = request-A8.refused queued 4 6 computed.queued-number.1 2 (omega arith) 10 computed.queued-refused
+
+pub queued-nothing : AsNothing (desk_at queued 5) (answer_of queued 4 6 5) (desks_table queued 4 6 5)
+queued-nothing = request-A8.nothing queued 4 6 computed.queued-number.1 5 (omega arith) (omega arith)
+
+pub queued-counted : (answer_of queued 4 6 3).judged ≡ turns_at queued 4 6 3
+queued-counted = request-A8.counted queued 4 6 computed.queued-number.1 3 (omega arith)
+
+pub queued-carries : Carried (network_of (desk_at queued 3).file) (answer_of queued 4 6 3).share (desks_table queued 4 6 3)
+unfolding queued
+queued-carries = request-A8.carries queued 4 6 computed.queued-number.1 3 (omega arith) computed.queued-run

@@ -16,4 +16,5 @@ pub mod Powers
 pub mod TakingBack
 pub mod Lorries
 pub mod LorryTowns
+pub mod Queues
 pub mod Instances

@@ -1,11 +1,10 @@
 -- Demand 1: the first question that fails gives the number, and a refusal has 0 in every other field and leaves lent memory as it was.
-use Rattle.std.specs.Prelude.{ℕ, zero, suc, ◌≡◌, refl, true, false, List, [], ◌∷◌, ◌++◌}
-use Rattle.std.proofs.Common.{arith, sym, ◌∙◌}
+use Rattle.std.specs.Prelude.{ℕ, zero, suc, ◌≡◌, refl, false, List, [], ◌∷◌, ◌++◌}
 use Rattle.study.specs.Questions.{Question, first_no}
 use Rattle.study.specs.Laws.{AllYes}
-use Rattle.calls.specs.Calls.{pack_number, pack_output, start_number, start_table, table_number, audit_answer, run_number, run_answer, run_table}
+use Rattle.calls.specs.Calls.{start_number, start_table, table_number, audit_answer, run_number, run_answer, run_table}
 use Rattle.calls.specs.Calls.{pass_number, pass_answer, pass_table, pass_note, take_back_number, take_back_answer, take_back_table}
-use Rattle.calls.specs.Laws.Calls.{refused_audit, refused_pass, refused_take_back, refused_run, pack-kept, start-kept, audit-refused, pass-refused, pass_kept, note-kept, take-back-refused, take-back-kept, run-refused, run-kept}
+use Rattle.calls.specs.Laws.Calls.{refused_audit, refused_pass, refused_take_back, refused_run, start-kept, audit-refused, pass-refused, pass_kept, note-kept, take-back-refused, take-back-kept, run-refused, run-kept}
 
 -- Where every question before it is answered yes and it is answered no, its number is the list's.
 pub first-failing : (before : List Question) (question : Question) (after : List Question) → AllYes before → question.yes ≡ false → first_no (before ++ question ∷ after) ≡ question.number
@@ -27,7 +26,7 @@ pub record RunRefused (file table : List ℕ) (budget excess : ℕ) : Type 0 whe
   pub unchanged : run_table file table budget excess ≡ table
 
 -- A number that is not 0 is a successor, and of a successor the calls' laws say what is answered.
-refused-answer : {Answer : Type 0} (answer : Answer) (refusal : ℕ → Answer) (number : ℕ) → ((n : ℕ) → number ≡ suc n → answer ≡ refusal (suc n)) → (number ≡ 0 → ⊥)
+pub refused-answer : {Answer : Type 0} (answer : Answer) (refusal : ℕ → Answer) (number : ℕ) → ((n : ℕ) → number ≡ suc n → answer ≡ refusal (suc n)) → (number ≡ 0 → ⊥)
     → answer ≡ refusal number
 refused-answer answer refusal zero successor refused = absurd (refused refl)
 refused-answer answer refusal (suc n) successor refused = successor n refl

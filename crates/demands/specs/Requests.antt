@@ -1,6 +1,6 @@
 -- The theorems that document 02's requests ask for, beside the demands and in the vocabulary of the same definitions. Each proof is a
 -- citation. The demands themselves speak of all calls and all versions, and stand in `Demands`.
-use Rattle.std.specs.Prelude.{ℕ, ◌*◌, ◌+◌, ◌/◌, ◌%◌, ◌^◌, ◌≤◌, ◌<◌, ◌≡◌, true, false, List, ◌∷◌, ◌↔◌, length, get_or, take, replicate}
+use Rattle.std.specs.Prelude.{ℕ, suc, ◌*◌, ◌+◌, ◌/◌, ◌%◌, ◌^◌, ◌≤◌, ◌<◌, ◌≡◌, true, false, List, ◌∷◌, ◌++◌, ◌↔◌, length, get_or, take, replicate}
 use Rattle.study.specs.Header.{version}
 use Rattle.study.specs.Sections.{links, destinations, barred_part}
 use Rattle.study.specs.Fields.{mark_byte}
@@ -24,8 +24,10 @@ use Rattle.calls.specs.Questions.{packed_size}
 use Rattle.calls.specs.Page.{line_of, page_of}
 use Rattle.calls.specs.Calls.{check_number, pack_number, pack_output, table_number, audit_answer, run_number, run_answer, run_table, page_number, page_slice}
 use Rattle.calls.specs.Calls.{pass_number, pass_answer, pass_table, pass_note, take_back_number, take_back_answer, take_back_table}
+use Rattle.calls.specs.Desks.{Desk, desk_at, turns_to_end, ends_after, turns_of, desk_turns, desks_number, desks_answer, desks_table}
 use Rattle.calls.specs.declared.Outcome.TheVariants as outcome
 use Rattle.calls.specs.Laws.Page.{LineRange, LineFits}
+use Rattle.calls.specs.Laws.Turns.{Taken}
 use Rattle.demands.specs.Results.{Fresh}
 use Rattle.demands.specs.Zones.{Closed, Barred, OfLorries, Avoids, OnlyClosed, permitted-exactly, version-1-open, path-avoids, flow-avoids, pack-version, only-closed}
 use Rattle.demands.specs.NextNodes.{word_of, found-exactly, none-exactly}
@@ -33,6 +35,7 @@ use Rattle.demands.specs.PastCurves.{CountsOver, over-when, over-when-fourfold, 
 use Rattle.demands.specs.Powers.{free_of, rise_of, power_of, power-range, curve-exactly, versions-fourth, time-rises, with_curves, curves-rise, curves-bound}
 use Rattle.demands.specs.TakingBack.{routing_at, next_walk, TakesBackTo, walk-short, walk-simple, moved-leads, moved-restores, back-carried, back-fresh, note-fresh, finest-note, doubling-note}
 use Rattle.demands.specs.Lorries.{TwoClasses, KeepsOff, OnlyBarred, barred_at, two-classes, cars-alone, barred-exactly, path-keeps-off, flow-keeps-off, cars-same, only-barred}
+use Rattle.demands.specs.Queues.{AsRun, AsWaiting, AsStarted, AsRefused, AsNothing, answer_of, turns_at, served-within, turns-taken, total-turns, ended-as-run, waits-as-run, unserved-as-started, refused-alone, without-desk, counts-turns, desk-carried}
 use Rattle.demands.specs.Pages.{Plain, Pointed, OfLine, Largest, decimal-plain, hundredths-pointed, full-road, numbers-range, numbers_fit, line-length, line-place, page-length, page-fresh}
 
 -- A.1, volumes on paper. Whatever table the audit accepts, every number fits its columns (3, 3, 3, 8 and 8), so each line has exactly 30
@@ -233,4 +236,51 @@ request-A7 =
       flow = flow-keeps-off;
       same = cars-same;
       only-barred = only-barred;
+    }
+
+-- A.8, several desks. A refusal of the whole call, 24 before 25, is in demand 1; otherwise each seat is as follows. The turns go round the seats, the
+-- latest first in the list. An unfinished desk that has had so many of them has another within eight turns, whatever is queued at the other desks, unless the
+-- turns end first. The turns of the seats add up to the total, which is at most the allowance, and below it only where every desk has ended. A desk that has
+-- ended answers and holds what its run by itself does, with its budget. One that the allowance cuts off after k turns is waiting, and otherwise
+-- answers and holds what a run of budget k does; with no turn its table is as started. A desk whose run would be refused takes no turn, reports its own number
+-- and leaves its table; a seat without a desk answers 0 throughout and leaves its table. The tables judged of a desk are its turns, and what it holds
+-- carries its study's trips at the share that it answers.
+pub record RequestA8 : Type 0 where
+  pub within-eight : (desks : List Desk) (count allowance seat : ℕ) → seat < 8 → (recent earlier : List ℕ) → desk_turns desks count allowance ≡ recent ++ earlier
+      → turns_of seat earlier < ends_after desks count seat → 8 ≤ length recent → 1 ≤ turns_of seat recent
+  pub turns : (desks : List Desk) (count allowance : ℕ) → Taken (ends_after desks count) allowance (desk_turns desks count allowance)
+  pub total : (desks : List Desk) (count allowance : ℕ) → desks_number count allowance ≡ 0 → (desks_answer desks count allowance).turns ≡ length (desk_turns desks count allowance)
+  pub ended : (desks : List Desk) (count allowance : ℕ) → desks_number count allowance ≡ 0 → (seat : ℕ) → seat < count
+      → turns_at desks count allowance seat ≡ turns_to_end (desk_at desks seat)
+      → AsRun (desk_at desks seat) (desk_at desks seat).budget (answer_of desks count allowance seat) (desks_table desks count allowance seat)
+  pub waits : (desks : List Desk) (count allowance : ℕ) → desks_number count allowance ≡ 0 → (seat : ℕ) → seat < count
+      → 1 ≤ turns_at desks count allowance seat → turns_at desks count allowance seat < turns_to_end (desk_at desks seat)
+      → AsWaiting (desk_at desks seat) (turns_at desks count allowance seat) (answer_of desks count allowance seat) (desks_table desks count allowance seat)
+  pub unserved : (desks : List Desk) (count allowance : ℕ) → desks_number count allowance ≡ 0 → (seat : ℕ) → seat < count
+      → turns_at desks count allowance seat ≡ 0 → 0 < turns_to_end (desk_at desks seat)
+      → AsStarted (desk_at desks seat) (answer_of desks count allowance seat) (desks_table desks count allowance seat)
+  pub refused : (desks : List Desk) (count allowance : ℕ) → desks_number count allowance ≡ 0 → (seat : ℕ) → seat < count
+      → (number : ℕ) → run_number (desk_at desks seat).file (desk_at desks seat).table (desk_at desks seat).budget ≡ suc number
+      → AsRefused (desk_at desks seat) (suc number) (turns_at desks count allowance seat) (answer_of desks count allowance seat) (desks_table desks count allowance seat)
+  pub nothing : (desks : List Desk) (count allowance : ℕ) → desks_number count allowance ≡ 0 → (seat : ℕ) → count ≤ seat → seat < 8
+      → AsNothing (desk_at desks seat) (answer_of desks count allowance seat) (desks_table desks count allowance seat)
+  pub counted : (desks : List Desk) (count allowance : ℕ) → desks_number count allowance ≡ 0 → (seat : ℕ) → seat < count
+      → (answer_of desks count allowance seat).judged ≡ turns_at desks count allowance seat
+  pub carries : (desks : List Desk) (count allowance : ℕ) → desks_number count allowance ≡ 0 → (seat : ℕ) → seat < count
+      → run_number (desk_at desks seat).file (desk_at desks seat).table (desk_at desks seat).budget ≡ 0
+      → Carried (network_of (desk_at desks seat).file) (answer_of desks count allowance seat).share (desks_table desks count allowance seat)
+
+pub request-A8 : RequestA8
+request-A8 =
+    record {
+      within-eight = served-within;
+      turns = turns-taken;
+      total = total-turns;
+      ended = ended-as-run;
+      waits = waits-as-run;
+      unserved = unserved-as-started;
+      refused = refused-alone;
+      nothing = without-desk;
+      counted = counts-turns;
+      carries = desk-carried;
     }

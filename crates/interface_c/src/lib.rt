@@ -2,11 +2,12 @@
 // call of its name and promises what that does. include/ilstrovan.h has the C declarations.
 #![tactic(auto)]
 
-ghost use Rattle.std.specs.Prelude.{◌≡◌};
+ghost use Rattle.std.specs.Prelude.{◌≡◌, List, [], ◌∷◌};
 ghost use Rattle.calls.specs.Calls.{check_number, pack_number, pack_output, start_number, start_table};
 ghost use Rattle.calls.specs.Calls.{audit_answer, pass_answer, pass_table, pass_note, run_answer, run_table, page_number, page_slice};
 ghost use Rattle.calls.specs.Calls.{take_back_answer, take_back_table};
-ghost use Rattle.interface.specs.Numbers.{audit_numbers, pass_numbers, run_numbers, take_back_numbers};
+ghost use Rattle.calls.specs.Desks.{desks_answer, desks_table};
+ghost use Rattle.interface.specs.Numbers.{audit_numbers, pass_numbers, run_numbers, take_back_numbers, desks_numbers, queue};
 
 #[unsafe(no_mangle)]
 pub extern "C" fn ilstrovan_check(file: &[u8]) -> u8
@@ -96,4 +97,46 @@ pub extern "C" fn ilstrovan_page(file: &[u8], table: &[u32], share: u32, page: &
     ensures page_after { page.new ≡ page_slice file.now table.now share page.old }
 {
     interface::ilstrovan_page(file, table, share, page)
+}
+
+#[unsafe(no_mangle)]
+pub extern "C" fn ilstrovan_desks(
+    file_0: &[u8],
+    table_0: &mut [u32],
+    file_1: &[u8],
+    table_1: &mut [u32],
+    file_2: &[u8],
+    table_2: &mut [u32],
+    file_3: &[u8],
+    table_3: &mut [u32],
+    file_4: &[u8],
+    table_4: &mut [u32],
+    file_5: &[u8],
+    table_5: &mut [u32],
+    file_6: &[u8],
+    table_6: &mut [u32],
+    file_7: &[u8],
+    table_7: &mut [u32],
+    count: u32,
+    allowance: u32,
+    budgets: &[u32; 8],
+    excesses: &[u16; 8],
+    answer: &mut [u64; 57],
+) -> u8
+    ensures value { result ≡ (desks_answer (queue (file_0.now ∷ file_1.now ∷ file_2.now ∷ file_3.now ∷ file_4.now ∷ file_5.now ∷ file_6.now ∷ file_7.now ∷ []) (table_0.old ∷ table_1.old ∷ table_2.old ∷ table_3.old ∷ table_4.old ∷ table_5.old ∷ table_6.old ∷ table_7.old ∷ []) budgets.now excesses.now 0) count allowance).refusal }
+    ensures table_0_after { table_0.new ≡ desks_table (queue (file_0.now ∷ file_1.now ∷ file_2.now ∷ file_3.now ∷ file_4.now ∷ file_5.now ∷ file_6.now ∷ file_7.now ∷ []) (table_0.old ∷ table_1.old ∷ table_2.old ∷ table_3.old ∷ table_4.old ∷ table_5.old ∷ table_6.old ∷ table_7.old ∷ []) budgets.now excesses.now 0) count allowance 0 }
+    ensures table_1_after { table_1.new ≡ desks_table (queue (file_0.now ∷ file_1.now ∷ file_2.now ∷ file_3.now ∷ file_4.now ∷ file_5.now ∷ file_6.now ∷ file_7.now ∷ []) (table_0.old ∷ table_1.old ∷ table_2.old ∷ table_3.old ∷ table_4.old ∷ table_5.old ∷ table_6.old ∷ table_7.old ∷ []) budgets.now excesses.now 0) count allowance 1 }
+    ensures table_2_after { table_2.new ≡ desks_table (queue (file_0.now ∷ file_1.now ∷ file_2.now ∷ file_3.now ∷ file_4.now ∷ file_5.now ∷ file_6.now ∷ file_7.now ∷ []) (table_0.old ∷ table_1.old ∷ table_2.old ∷ table_3.old ∷ table_4.old ∷ table_5.old ∷ table_6.old ∷ table_7.old ∷ []) budgets.now excesses.now 0) count allowance 2 }
+    ensures table_3_after { table_3.new ≡ desks_table (queue (file_0.now ∷ file_1.now ∷ file_2.now ∷ file_3.now ∷ file_4.now ∷ file_5.now ∷ file_6.now ∷ file_7.now ∷ []) (table_0.old ∷ table_1.old ∷ table_2.old ∷ table_3.old ∷ table_4.old ∷ table_5.old ∷ table_6.old ∷ table_7.old ∷ []) budgets.now excesses.now 0) count allowance 3 }
+    ensures table_4_after { table_4.new ≡ desks_table (queue (file_0.now ∷ file_1.now ∷ file_2.now ∷ file_3.now ∷ file_4.now ∷ file_5.now ∷ file_6.now ∷ file_7.now ∷ []) (table_0.old ∷ table_1.old ∷ table_2.old ∷ table_3.old ∷ table_4.old ∷ table_5.old ∷ table_6.old ∷ table_7.old ∷ []) budgets.now excesses.now 0) count allowance 4 }
+    ensures table_5_after { table_5.new ≡ desks_table (queue (file_0.now ∷ file_1.now ∷ file_2.now ∷ file_3.now ∷ file_4.now ∷ file_5.now ∷ file_6.now ∷ file_7.now ∷ []) (table_0.old ∷ table_1.old ∷ table_2.old ∷ table_3.old ∷ table_4.old ∷ table_5.old ∷ table_6.old ∷ table_7.old ∷ []) budgets.now excesses.now 0) count allowance 5 }
+    ensures table_6_after { table_6.new ≡ desks_table (queue (file_0.now ∷ file_1.now ∷ file_2.now ∷ file_3.now ∷ file_4.now ∷ file_5.now ∷ file_6.now ∷ file_7.now ∷ []) (table_0.old ∷ table_1.old ∷ table_2.old ∷ table_3.old ∷ table_4.old ∷ table_5.old ∷ table_6.old ∷ table_7.old ∷ []) budgets.now excesses.now 0) count allowance 6 }
+    ensures table_7_after { table_7.new ≡ desks_table (queue (file_0.now ∷ file_1.now ∷ file_2.now ∷ file_3.now ∷ file_4.now ∷ file_5.now ∷ file_6.now ∷ file_7.now ∷ []) (table_0.old ∷ table_1.old ∷ table_2.old ∷ table_3.old ∷ table_4.old ∷ table_5.old ∷ table_6.old ∷ table_7.old ∷ []) budgets.now excesses.now 0) count allowance 7 }
+    ensures answer_after { answer.new ≡ desks_numbers (desks_answer (queue (file_0.now ∷ file_1.now ∷ file_2.now ∷ file_3.now ∷ file_4.now ∷ file_5.now ∷ file_6.now ∷ file_7.now ∷ []) (table_0.old ∷ table_1.old ∷ table_2.old ∷ table_3.old ∷ table_4.old ∷ table_5.old ∷ table_6.old ∷ table_7.old ∷ []) budgets.now excesses.now 0) count allowance) }
+{
+    interface::ilstrovan_desks(
+        file_0, table_0, file_1, table_1, file_2, table_2, file_3, table_3, file_4, table_4,
+        file_5, table_5, file_6, table_6, file_7, table_7, count, allowance, budgets, excesses,
+        answer,
+    )
 }

@@ -14,7 +14,7 @@ mod turns;
 pub use audit::audit_table;
 pub use classes::put_class_chains;
 pub use pass::pass_table;
-pub use start::start_table;
+pub use start::{first_table, start_table};
 pub use turns::turn_table;
 
 // The gap and cost of a judged table, and how many of its links are over.

@@ -1,5 +1,5 @@
 // A start.
-ghost use Rattle.std.specs.Prelude.{◌≡◌, [], ◌*◌, ◌≤◌, length, get_or, replicate};
+ghost use Rattle.std.specs.Prelude.{◌≡◌, [], ◌*◌, ◌≤◌, cond, length, get_or, replicate};
 ghost use Rattle.theory.specs.Moves.{started};
 ghost use Rattle.theory.specs.Study.{network};
 ghost use Rattle.calls.specs.Calls.{overwritten};
@@ -45,4 +45,43 @@ pub fn start_table(
     );
     moves::empty_flows(table, commodities.len() * m);
     moves::add_classes(table, nodes, m, commodities, next, volumes, 1);
+}
+
+// The table that a run judges first: a start's, or where it is resumed the table that it is lent.
+pub fn first_table(
+    nodes: usize,
+    links: &[[u16; 6]],
+    commodities: &[u16],
+    trips: &[u16],
+    chains: &[[u16; 896]],
+    curves: &[u64],
+    table: &mut [u32],
+    times: &mut [u32; 512],
+    next: &mut [[u16; 128]],
+    volumes: &mut [[u16; 128]],
+    flows: &mut [[u64; 512]; 2],
+    resumed: bool,
+)
+    requires ready { Ready (study_of nodes links.now commodities.now trips.now) × Prepared (study_of nodes links.now commodities.now trips.now) chains.now curves.now }
+    requires links_in_bounds { length commodities.now * length links.now ≤ length table.old }
+    requires lent { Lent (study_of nodes links.now commodities.now trips.now) times.old next.old volumes.old flows.old × (get_or flows.old 0 [] ≡ replicate 512 0) }
+    ensures table_after { table.new ≡ cond resumed table.old (overwritten (started (network nodes links.now commodities.now trips.now)).table table.old) }
+    ensures lent_2 { Lent (study_of nodes links.now commodities.now trips.now) times.new next.new volumes.new flows.new × (get_or flows.new 0 [] ≡ replicate 512 0) }
+{
+    if resumed {
+        return;
+    }
+    start_table(
+        nodes,
+        links,
+        commodities,
+        trips,
+        chains,
+        curves,
+        table,
+        times,
+        next,
+        volumes,
+        flows,
+    );
 }

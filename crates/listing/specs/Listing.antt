@@ -17,6 +17,7 @@ unfoldable pub ending_word : Ending → List ℕ
 ending_word ending.Reached = 114 ∷ 101 ∷ 97 ∷ 99 ∷ 104 ∷ 101 ∷ 100 ∷ []
 ending_word ending.Finest = 102 ∷ 105 ∷ 110 ∷ 101 ∷ 115 ∷ 116 ∷ []
 ending_word ending.Spent = 115 ∷ 112 ∷ 101 ∷ 110 ∷ 116 ∷ []
+ending_word ending.Waiting = 119 ∷ 97 ∷ 105 ∷ 116 ∷ 105 ∷ 110 ∷ 103 ∷ []
 ending_word ending.Refused = 114 ∷ 101 ∷ 102 ∷ 117 ∷ 115 ∷ 101 ∷ 100 ∷ []
 
 unfoldable pub judged_word : List ℕ

@@ -65,6 +65,7 @@ fn put_ending(out: &mut [u8], at: usize, ending: Ending) -> usize
         Ending::Reached => put_text(out, at, b"reached"),
         Ending::Finest => put_text(out, at, b"finest"),
         Ending::Spent => put_text(out, at, b"spent"),
+        Ending::Waiting => put_text(out, at, b"waiting"),
         Ending::Refused => put_text(out, at, b"refused"),
     }
 }

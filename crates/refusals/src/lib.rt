@@ -5,5 +5,5 @@
 mod numbers;
 mod places;
 
-pub use numbers::{note_refusal, run_refusal, start_refusal, totals_refusal};
+pub use numbers::{budget_fits, note_refusal, run_refusal, start_refusal, totals_refusal};
 pub use places::{FEW_COMMODITIES, curve_places, is_small};

@@ -138,7 +138,7 @@ pub fn run_refusal(
 }
 
 // 13. Is the budget 1 to 1,024?
-fn budget_fits(budget: u32) -> bool
+pub fn budget_fits(budget: u32) -> bool
     ensures { result ≡ budget_fits budget }
 {
     1 <= budget && budget <= 1024

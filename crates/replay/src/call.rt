@@ -12,6 +12,7 @@ pub enum Kind {
     Audit,
     Page,
     TakeBack,
+    Desks,
 }
 
 // A byte that names no kind.
@@ -31,6 +32,7 @@ impl TryFrom<u8> for Kind {
             6 => Ok(Kind::Audit),
             7 => Ok(Kind::Page),
             8 => Ok(Kind::TakeBack),
+            9 => Ok(Kind::Desks),
             _ => Err(UnknownKind(byte)),
         }
     }
@@ -58,13 +60,63 @@ pub struct Call {
     pub share: u32,
     pub budget: u32,
     pub excess: u16,
+    pub desks: u32,
+    pub allowance: u32,
 }
 
-// The file, and what calls are lent. The output is a pack's, or a page slice.
+// What a call of several desks is lent at a seat, and handed for it.
+#[derive(Drop)]
+pub struct Seat {
+    pub file: Buffer<u8, 65540>,
+    pub table: Buffer<u32, 32800>,
+    pub budget: u32,
+    pub excess: u16,
+}
+
+impl Seat {
+    fn new() -> Seat {
+        Seat {
+            file: Buffer::new(0),
+            table: Buffer::new(0),
+            budget: 0,
+            excess: 0,
+        }
+    }
+}
+
+#[derive(Drop)]
+pub struct Seats {
+    pub seat_0: Seat,
+    pub seat_1: Seat,
+    pub seat_2: Seat,
+    pub seat_3: Seat,
+    pub seat_4: Seat,
+    pub seat_5: Seat,
+    pub seat_6: Seat,
+    pub seat_7: Seat,
+}
+
+impl Seats {
+    pub fn new() -> Seats {
+        Seats {
+            seat_0: Seat::new(),
+            seat_1: Seat::new(),
+            seat_2: Seat::new(),
+            seat_3: Seat::new(),
+            seat_4: Seat::new(),
+            seat_5: Seat::new(),
+            seat_6: Seat::new(),
+            seat_7: Seat::new(),
+        }
+    }
+}
+
+// The file, and what calls are lent. The output is a pack's, or a page slice. The seats are lent to several desks alone.
 #[derive(Drop)]
 pub struct Lent {
     pub file: Buffer<u8, 65540>,
     pub table: Buffer<u32, 32800>,
     pub note: Buffer<u16, 8400>,
     pub output: Buffer<u8, 131200>,
+    pub seats: Seats,
 }

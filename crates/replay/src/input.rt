@@ -2,7 +2,7 @@
 ghost use Rattle.std.specs.Prelude.{◌≡◌, ◌≤◌, length, OnErr};
 ghost use Rattle.std.proofs.Common.{lit≤};
 
-use crate::call::{Call, Kind, Lent};
+use crate::call::{Call, Kind, Lent, Seat, Seats};
 use std::io;
 use streams::{Buffer, read_full};
 
@@ -50,11 +50,54 @@ pub fn read_call(rt: &impl Input, lent: &mut Lent) -> io::Result<Option<Call>> {
     let Ok(kind) = Kind::try_from(byte) else {
         return Ok(None);
     };
+    if kind == Kind::Desks {
+        return read_desks(rt, &mut lent.seats);
+    }
     if read_lent(rt, kind, lent)? {
         Ok(Some(read_numbers(rt, kind)?))
     } else {
         Ok(None)
     }
+}
+
+// A call of several desks: what it is lent and handed for each seat, and then its own numbers.
+fn read_desks(rt: &impl Input, seats: &mut Seats) -> io::Result<Option<Call>> {
+    if !read_seats(rt, seats)? {
+        return Ok(None);
+    }
+    let desks = read_number::<u32, 4>(rt)?;
+    let allowance = read_number::<u32, 4>(rt)?;
+    Ok(Some(Call {
+        kind: Kind::Desks,
+        share: 0,
+        budget: 0,
+        excess: 0,
+        desks,
+        allowance,
+    }))
+}
+
+// Answers whether the stream has all seats whole.
+fn read_seats(rt: &impl Input, seats: &mut Seats) -> io::Result<bool> {
+    Ok(
+        read_seat(rt, &mut seats.seat_0)?
+            && read_seat(rt, &mut seats.seat_1)?
+            && read_seat(rt, &mut seats.seat_2)?
+            && read_seat(rt, &mut seats.seat_3)?
+            && read_seat(rt, &mut seats.seat_4)?
+            && read_seat(rt, &mut seats.seat_5)?
+            && read_seat(rt, &mut seats.seat_6)?
+            && read_seat(rt, &mut seats.seat_7)?,
+    )
+}
+
+fn read_seat(rt: &impl Input, seat: &mut Seat) -> io::Result<bool> {
+    if !read_part(rt, &mut seat.file)? || !read_part(rt, &mut seat.table)? {
+        return Ok(false);
+    }
+    seat.budget = read_number::<u32, 4>(rt)?;
+    seat.excess = read_number::<u16, 2>(rt)?;
+    Ok(true)
 }
 
 // Reads what a call of this kind is lent. Answers whether the stream has it whole.
@@ -78,6 +121,8 @@ fn read_numbers(rt: &impl Input, kind: Kind) -> io::Result<Call> {
         share,
         budget,
         excess,
+        desks: 0,
+        allowance: 0,
     })
 }
 

@@ -1,5 +1,5 @@
 // One recorded call: made, and its answer printed.
-use crate::call::{Call, Kind, Lent};
+use crate::call::{Call, Kind, Lent, Seats};
 use crate::{digest, lines};
 use std::io;
 
@@ -13,6 +13,7 @@ pub fn play(rt: &impl Print, lent: &mut Lent, call: Call) -> io::Result<()> {
         Kind::Audit => audit(rt, lent, call.share),
         Kind::Page => page(rt, lent, call.share),
         Kind::TakeBack => take_back(rt, lent, call.share),
+        Kind::Desks => desks(rt, &mut lent.seats, call.desks, call.allowance),
     }
 }
 
@@ -76,5 +77,82 @@ fn take_back(rt: &impl Print, lent: &mut Lent, share: u32) -> io::Result<()> {
         refusal,
         &answer,
         digest::of_noted(table, note),
+    )
+}
+
+fn desks(rt: &impl Print, seats: &mut Seats, desks: u32, allowance: u32) -> io::Result<()> {
+    let budgets = budgets(seats);
+    let excesses = excesses(seats);
+    let mut answer = [0u64; 57];
+    let refusal = call_desks(seats, desks, allowance, &budgets, &excesses, &mut answer);
+    lines::print(rt, "desks", refusal, &answer, digest::of_seats(seats))
+}
+
+fn budgets(seats: &Seats) -> [u32; 8] {
+    [
+        seats.seat_0.budget,
+        seats.seat_1.budget,
+        seats.seat_2.budget,
+        seats.seat_3.budget,
+        seats.seat_4.budget,
+        seats.seat_5.budget,
+        seats.seat_6.budget,
+        seats.seat_7.budget,
+    ]
+}
+
+fn excesses(seats: &Seats) -> [u16; 8] {
+    [
+        seats.seat_0.excess,
+        seats.seat_1.excess,
+        seats.seat_2.excess,
+        seats.seat_3.excess,
+        seats.seat_4.excess,
+        seats.seat_5.excess,
+        seats.seat_6.excess,
+        seats.seat_7.excess,
+    ]
+}
+
+fn call_desks(
+    seats: &mut Seats,
+    desks: u32,
+    allowance: u32,
+    budgets: &[u32; 8],
+    excesses: &[u16; 8],
+    answer: &mut [u64; 57],
+) -> u8 {
+    let Seats {
+        seat_0,
+        seat_1,
+        seat_2,
+        seat_3,
+        seat_4,
+        seat_5,
+        seat_6,
+        seat_7,
+    } = seats;
+    interface::ilstrovan_desks(
+        seat_0.file.as_slice(),
+        seat_0.table.as_mut_slice(),
+        seat_1.file.as_slice(),
+        seat_1.table.as_mut_slice(),
+        seat_2.file.as_slice(),
+        seat_2.table.as_mut_slice(),
+        seat_3.file.as_slice(),
+        seat_3.table.as_mut_slice(),
+        seat_4.file.as_slice(),
+        seat_4.table.as_mut_slice(),
+        seat_5.file.as_slice(),
+        seat_5.table.as_mut_slice(),
+        seat_6.file.as_slice(),
+        seat_6.table.as_mut_slice(),
+        seat_7.file.as_slice(),
+        seat_7.table.as_mut_slice(),
+        desks,
+        allowance,
+        budgets,
+        excesses,
+        answer,
     )
 }

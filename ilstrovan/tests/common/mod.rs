@@ -3,7 +3,7 @@
 
 use ilstrovan::sys;
 use second::stream::Calls;
-use second::{AuditAnswer, PassAnswer, RunAnswer, TakeBackAnswer};
+use second::{AuditAnswer, Desk, DesksAnswer, PassAnswer, RunAnswer, SEATS, TakeBackAnswer};
 
 /// Guard words on either side, so that places of any alignment come up.
 const GUARDS: usize = 24;
@@ -95,6 +95,31 @@ fn narrow<N: TryFrom<u64>>(number: u64) -> N {
     N::try_from(number).unwrap_or_else(|_| panic!("{number} is out of its range"))
 }
 
+/// The answer of a run, or of a desk, in these numbers.
+fn run_answer(refusal: u8, [ending, judged, share, gap, cost, over]: [u64; 6]) -> RunAnswer {
+    RunAnswer {
+        refusal,
+        ending: narrow(ending),
+        judged: narrow(judged),
+        share: narrow(share),
+        gap,
+        cost,
+        over: narrow(over),
+    }
+}
+
+/// The answer of a call for desks in these numbers, turns first.
+fn desks_answer(refusal: u8, numbers: [u64; 57]) -> DesksAnswer {
+    let [turns, seats @ ..] = numbers;
+    let (seats, _) = seats.as_chunks::<7>();
+    let seat = |&[refusal, run @ ..]: &[u64; 7]| run_answer(narrow(refusal), run);
+    DesksAnswer {
+        refusal,
+        turns: narrow(turns),
+        seats: std::array::from_fn(|place| seat(&seats[place])),
+    }
+}
+
 /// The proved calls.
 pub struct Proved;
 
@@ -180,16 +205,7 @@ impl Calls for Proved {
             )
         };
         table.copy_from_slice(lent.open());
-        let [ending, judged, share, gap, cost, over] = opened(&answer);
-        RunAnswer {
-            refusal,
-            ending: narrow(ending),
-            judged: narrow(judged),
-            share: narrow(share),
-            gap,
-            cost,
-            over: narrow(over),
-        }
+        run_answer(refusal, opened(&answer))
     }
 
     fn audit(&self, file: &[u8], table: &[u32], share: u32) -> AuditAnswer {
@@ -274,5 +290,37 @@ impl Calls for Proved {
             refusal,
             share: narrow(share),
         }
+    }
+
+    fn desks(&self, seats: &mut [Desk<'_>; SEATS], desks: u32, allowance: u32) -> DesksAnswer {
+        let files = seats.each_ref().map(|seat| File::new(seat.file));
+        let mut lent = seats.each_ref().map(|seat| guarded_table(seat.table));
+        let budgets = seats.each_ref().map(|seat| seat.budget);
+        let excesses = seats.each_ref().map(|seat| seat.excess);
+        let lent_budgets = Guarded::new(&budgets, GUARD as u32);
+        let lent_excesses = Guarded::new(&excesses, GUARD as u16);
+        let mut answer = guarded_answer::<57>();
+        let places = std::array::from_fn(|place| {
+            sys::Seat::of(files[place].guarded.numbers(), lent[place].numbers_mut())
+        });
+        let refusal = unsafe {
+            sys::ilstrovan_desks_at(
+                &places,
+                desks,
+                allowance,
+                lent_budgets.numbers().as_ptr().cast(),
+                lent_excesses.numbers().as_ptr().cast(),
+                answer.numbers_mut().as_mut_ptr().cast(),
+            )
+        };
+        for (seat, lent) in seats.iter_mut().zip(&lent) {
+            seat.table.copy_from_slice(lent.open());
+        }
+        assert!(lent_budgets.open() == budgets, "desks changed the budgets");
+        assert!(
+            lent_excesses.open() == excesses,
+            "desks changed the excesses"
+        );
+        desks_answer(refusal, opened(&answer))
     }
 }

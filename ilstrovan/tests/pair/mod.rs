@@ -4,8 +4,8 @@
 use crate::common::Proved;
 use second::stream::{Call, Kind, Lent, Player, Reply, Second};
 
-/// Refusals have the numbers 1 to 23; an accepted call has 0.
-const NUMBERS: usize = 24;
+/// Refusals have the numbers 1 to 25; an accepted call has 0.
+pub const NUMBERS: usize = 26;
 
 /// Both implementations, side by side.
 #[derive(Default)]

@@ -307,11 +307,11 @@ pub fn expect(tally: &Tally, moves: u64, refusals: u64, absent: &[Why]) {
         };
         assert!(fits, "{count} {why:?}, of {refused:?}");
     }
-    // Questions about the file, the budget, the output and the page.
+    // Questions about the file, the budget, the output, the page and desks.
     let mut never: Vec<usize> = (1..=11).chain([13, 17, 18, 19]).collect();
     if absent.contains(&Why::ClosedNode) {
         never.push(20);
     }
-    never.push(23);
+    never.extend([23, 24, 25]);
     assert_eq!(tally.pair.never(Kind::TakeBack), never);
 }

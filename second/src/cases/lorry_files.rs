@@ -17,8 +17,8 @@ pub(super) fn lorry_sample() -> Versioned {
 const HEADER: usize = 56;
 
 impl List {
-    /// One of the eight calls, another at each turn, with what it needs for the
-    /// sample study.
+    /// One of the eight calls with one study, another at each turn, with what it
+    /// needs for the sample study.
     fn one_of_eight(&mut self, turn: usize, file: &[u8]) {
         let table = vec![0; 20];
         match turn % 8 {

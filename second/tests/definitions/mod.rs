@@ -1,9 +1,9 @@
-//! The definitions of document 01 and of requests A.1, A.2 and A.4 to A.7 of
+//! The definitions of document 01 and of requests A.1, A.2 and A.4 to A.8 of
 //! document 02, word for word and by brute force, in whole numbers of 128 bits
 //! with a sign.
 
 use second::stream::Calls;
-use second::{AuditAnswer, PassAnswer, RunAnswer, TakeBackAnswer};
+use second::{AuditAnswer, Desk, DesksAnswer, PassAnswer, RunAnswer, TakeBackAnswer};
 
 type Whole = i128;
 
@@ -695,7 +695,7 @@ fn page_text(study: &Study, table: &Table, w: Whole) -> String {
     text
 }
 
-/// The eight calls by the definitions.
+/// The nine calls by the definitions.
 pub struct Literal;
 
 impl Calls for Literal {
@@ -908,5 +908,81 @@ impl Calls for Literal {
             })
         });
         result.unwrap_or_else(|refusal| TakeBackAnswer { refusal, share: 0 })
+    }
+
+    fn desks(&self, seats: &mut [Desk<'_>; 8], desks: u32, allowance: u32) -> DesksAnswer {
+        let nothing = RunAnswer {
+            refusal: 0,
+            ending: 0,
+            judged: 0,
+            share: 0,
+            gap: 0,
+            cost: 0,
+            over: 0,
+        };
+        let mut answer = DesksAnswer {
+            refusal: 0,
+            turns: 0,
+            seats: [nothing; 8],
+        };
+        // "Turned away: 24, desks not 1 to 8, first of all; 25, allowance not 1
+        // to 8,192, second."
+        if !(1..=8).contains(&desks) {
+            answer.refusal = 24;
+            return answer;
+        }
+        if !(1..=8_192).contains(&allowance) {
+            answer.refusal = 25;
+            return answer;
+        }
+        // "if run by itself with its budget"; "A desk whose run would be refused
+        // counts as ended, takes no turn and reports its own number", and judges
+        // no table.
+        // A desk has no more turns than the allowance, so that of the larger
+        // budgets one more than that tells as much.
+        let seats = &mut seats[..desks as usize];
+        let alone = |desk: &Desk<'_>| {
+            let mut numbers = desk.table.to_vec();
+            let budget = match desk.budget {
+                1..=1_024 => desk.budget.min(allowance + 1),
+                _ => desk.budget,
+            };
+            let answer = self.run(desk.file, &mut numbers, budget, desk.excess);
+            (answer, numbers)
+        };
+        let runs: Vec<(RunAnswer, Vec<u32>)> = seats.iter().map(alone).collect();
+        // "Turns go round the unfinished desks in seat order, one judged table
+        // each, until all have ended or a common allowance is used up."
+        let mut taken = vec![0; runs.len()];
+        let unfinished = |taken: &[u32], seat: usize| taken[seat] < runs[seat].0.judged;
+        while (0..runs.len()).any(|seat| unfinished(&taken, seat)) && answer.turns < allowance {
+            for seat in 0..runs.len() {
+                if unfinished(&taken, seat) && answer.turns < allowance {
+                    taken[seat] += 1;
+                    answer.turns += 1;
+                }
+            }
+        }
+        for (seat, desk) in seats.iter_mut().enumerate() {
+            let own = &mut answer.seats[seat];
+            if !unfinished(&taken, seat) {
+                // "Each ended desk holds what it would hold if run by itself
+                // with its budget."
+                *own = runs[seat].0;
+                desk.table.copy_from_slice(&runs[seat].1);
+            } else if taken[seat] > 0 {
+                // "has the ending 'waiting' and otherwise holds what a run of
+                // budget k would"
+                *own = self.run(desk.file, desk.table, taken[seat], desk.excess);
+                own.ending = 4;
+            } else {
+                // "with no turn it has its table as started, share 1, tables
+                // judged, gap, cost and the count of A.4 all 0"
+                own.refusal = self.start(desk.file, desk.table);
+                own.ending = 4;
+                own.share = 1;
+            }
+        }
+        answer
     }
 }

@@ -1,6 +1,6 @@
 -- The turns of a run, and what it answers where it ends.
-use Rattle.std.specs.Prelude.{◌≡◌, ℕ, pred, ◌+◌, ◌*◌, ◌<◌, ◌≤◌, Bool, true, false, cond, not, ◌⊎◌, List, ◌++◌, length, drop, ◌==◌, ◌≢◌, nat_le, slice_index, refl}
-use Rattle.std.proofs.Common.{add-one, mul-le-mul, arith, sym, ◌∙◌, subst, true≢false, inl, inr, ⊎_elim, drop_at, eqb-true}
+use Rattle.std.specs.Prelude.{◌≡◌, ℕ, pred, ◌+◌, ◌*◌, ◌<◌, ◌≤◌, Bool, true, false, cond, ◌⊎◌, List, length, ◌==◌, ◌≢◌, nat_le, slice_index, refl}
+use Rattle.std.proofs.Common.{add-one, mul-le-mul, arith, sym, ◌∙◌, subst, true≢false, inl, inr, ⊎_elim, eqb-true}
 use Rattle.std.proofs.Math.Path.{ap}
 use Rattle.std.proofs.Math.Option.{Option, none, some}
 use Rattle.std.proofs.lemmas.Bool.{eqb-false}
@@ -19,7 +19,7 @@ use Rattle.calls.specs.declared.RunAnswer.{RunAnswer}
 use Rattle.calls.specs.Laws.Questions.{Passed, check-passed, start-both, run-both}
 use Rattle.calls.specs.Laws.Calls.{run-accepted, run-written}
 use Rattle.calls.specs.Laws.Networks.{budget-range, holds-length, length-holds, few-trips}
-use Rattle.calls.specs.Laws.Tables.{run_length, run-passes, overwritten-front, overwritten-length, overwritten-passes}
+use Rattle.calls.specs.Laws.Tables.{run_length, run-passes, overwritten-front, overwritten-length, overwritten-twice, overwritten-passes}
 use Rattle.questions.specs.Laws.Questions.{total_of}
 use Rattle.judging.specs.Study.{Study, study_of, Ready, Judgeable, move_of, step_of, share_after_step, table_after_step}
 use Rattle.judging.specs.Judged.{Turned}
@@ -29,7 +29,8 @@ use Rattle.judging.specs.declared.Step.{Step}
 use Rattle.judging.specs.declared.Step.TheVariants as step
 use Rattle.assignment.specs.Answers.{ending_of, ended_answer}
 use Rattle.refusals.specs.Parts.{PartsOf, study_in}
-use Rattle.assignment.specs.Runs.{Running, Begun}
+use Rattle.assignment.specs.declared.Course.{Course}
+use Rattle.assignment.specs.Runs.{Running, Begun, SetsOut}
 use Rattle.refusals.specs.Laws.Parts.{study-is, network-is, parts-sized, ready, judgeable}
 
 -- What the definitions read of a table that stands in the first numbers of a lent one.
@@ -71,12 +72,6 @@ module _ (file before : List ℕ) (study : Passed file) (i : ℕ) where
       ≡ cond (reaches g excess x) step.Reached (cond (moves (move g x)) (cond last step.Spent step.Moved) step.Finest)
   unfolding step_of
   step-lent excess limit e last = rw (reaches-lent excess limit e, move-lent)
-
--- A table written over one of the same size leaves what was there before both.
-overwritten-twice : (new old before : List ℕ) → length new ≡ length old → overwritten new (overwritten old before) ≡ overwritten new before
-unfolding overwritten
-overwritten-twice new old before e =
-    rw e (ap (λ rest. new ++ rest) (drop_at old (drop (length old) before) (length old) refl))
 
 -- What the tests of a turn say, by its step.
 data Tested (reached moved last : Bool) : Step → Type 0 where
@@ -275,6 +270,17 @@ module _ (file before : List ℕ) (budget excess : ℕ) (accepted : run_number f
 -- The turns begin with what the start left.
 pub begun-running : (file before : List ℕ) (budget excess : ℕ) {table : List ℕ} → Begun file before budget table → Running file before budget excess 0 table 1
 begun-running file before budget excess begun = rw begun.started (run-begins file before budget excess begun.accepted)
+
+-- The table that a run judges first is where it sets out.
+pub sets-out : (file before : List ℕ) (at : Course) {table : List ℕ} → run_number file before at.budget ≡ 0 → SetsOut file before at
+    → table ≡ cond at.resumed before (overwritten (started (network_of file)).table before) → Running file before at.budget at.excess at.moves table at.share
+sets-out file before at {table} accepted h e = go at.resumed refl e
+  where
+    go : (b : Bool) → at.resumed ≡ b → table ≡ cond b before (overwritten (started (network_of file)).table before) → Running file before at.budget at.excess at.moves table at.share
+    go true r f = rw f (h.under-way r)
+    go false r f =
+        let (unmoved, one) = h.fresh r in
+        rw (unmoved, one) (begun-running file before at.budget at.excess (record { accepted = accepted; started = f }))
 
 -- The parts of the file of an accepted run.
 module _ {file : List ℕ} {n : ℕ} {link_list : List (List ℕ)} {commodity_list entries : List ℕ} (parts : PartsOf file 0 n link_list commodity_list entries)

@@ -2,7 +2,7 @@
 use Prim.Native.Nat.{ℕ, suc, ◌+◌, ◌*◌, ◌/◌, ◌%◌, ◌≤◌, ◌<◌}
 use Rattle.std.proofs.Math.Nat.{le_trans}
 use Rattle.std.proofs.Common.{arith, sym, ◌∙◌}
-use Rattle.std.specs.Prelude.{◌≡◌, Bool, true, false, not, ◌&&◌, length, leb, ltb, eqb, ◌↔◌}
+use Rattle.std.specs.Prelude.{◌≡◌, true, not, ◌&&◌, length, leb, ltb, eqb, ◌↔◌}
 use Rattle.std.proofs.Math.Path.{ap}
 use mathlib.Core.List.{List, []}
 use Rattle.std.proofs.Math.ListN.{get_or}
@@ -11,7 +11,6 @@ use Rattle.study.specs.Questions.{within}
 use Rattle.study.specs.Sections.{links, link_size, link_part, closed_part, barred_part}
 use Rattle.study.specs.Fields.{head as head_of, power as power_of, mark_byte}
 use Rattle.study.specs.Laws.{within-true}
-use Rattle.theory.specs.Finite.{all}
 use Rattle.theory.specs.Network.{Network, Sound, total_trips}
 use Rattle.theory.specs.Moves.{table_size}
 use Rattle.theory.specs.Study.{head, free_time, rise, capacity, closed, barred, power, AllFourth, network}
@@ -100,6 +99,10 @@ range-share share low high = both (leb 1 share) (leb share 1024) (le-leb 1 share
 pub budget-range : (budget : ℕ) → budget_fits budget ≡ true → (1 ≤ budget) × (budget ≤ 1024)
 unfolding budget_fits
 budget-range budget e = within-true 1 1024 budget e
+
+pub range-budget : (budget : ℕ) → 1 ≤ budget → budget ≤ 1024 → budget_fits budget ≡ true
+unfolding budget_fits
+range-budget budget low high = both (leb 1 budget) (leb budget 1024) (le-leb 1 budget low) (le-leb budget 1024 high)
 
 -- and question 12 that a table holds p·m numbers.
 pub holds-length : (g : Network) (table : List ℕ) → table_holds g table ≡ true → table_size g ≤ length table

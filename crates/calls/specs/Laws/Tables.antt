@@ -1,15 +1,14 @@
 -- The tables that start, pass and run leave: each passes the audit's questions at its share, and so the bound holds of it.
-use Rattle.std.specs.Prelude.{ℕ, zero, suc, ◌+◌, ◌*◌, ◌-◌, ◌≤◌, ◌<◌, ◌≡◌, refl, Bool, true, false, cond, List, [], ◌∷◌, ◌++◌, length, get_or, take, drop}
-use Rattle.std.proofs.Common.{one-mul, arith, sym, ◌∙◌, ap, length-append, length-drop}
-use Rattle.std.proofs.Math.Nat.{min-eq_left}
-use Rattle.std.proofs.Math.Option.{Option, none, some}
+use Rattle.std.specs.Prelude.{ℕ, ◌+◌, ◌*◌, ◌≤◌, ◌<◌, ◌≡◌, refl, true, List, ◌++◌, length, get_or, drop}
+use Rattle.std.proofs.Common.{drop_at, arith, sym, ◌∙◌, ap, length-append, length-drop}
+use Rattle.std.proofs.Math.Option.{some}
 use Rattle.std.proofs.Math.ListN.{get_or-append}
 use Rattle.theory.specs.Finite.{tabulate}
 use Rattle.theory.specs.Network.{Network, Sound, total_trips}
-use Rattle.theory.specs.Flows.{conserves, Carries, totals_fit, times, total}
-use Rattle.theory.specs.Routes.{routing, loading}
+use Rattle.theory.specs.Flows.{Carries, totals_fit, times, total}
+use Rattle.theory.specs.Routes.{loading}
 use Rattle.theory.specs.Cost.{cost, gap}
-use Rattle.theory.specs.Moves.{Shared, table_size, started, added, doubled, move, after_moves}
+use Rattle.theory.specs.Moves.{Shared, table_size, started, move, after_moves}
 use Rattle.theory.specs.Laws.Finite.{get_d_tabulate}
 use Rattle.theory.specs.Laws.Conserving.{permitted-permits}
 use Rattle.theory.specs.Laws.Local.{carries_same, totals_fit-same}
@@ -34,6 +33,12 @@ overwritten-front new old i p = sym (get_or-append new (drop (length new) old) 0
 pub overwritten-length : (new old : List ℕ) → length new ≤ length old → length (overwritten new old) ≡ length old
 unfolding overwritten
 overwritten-length new old p = omega (arith, length-append new (drop (length new) old), length-drop (length new) old)
+
+-- A table written over one of the same size leaves what was there before both.
+pub overwritten-twice : (new old before : List ℕ) → length new ≡ length old → overwritten new (overwritten old before) ≡ overwritten new before
+unfolding overwritten
+overwritten-twice new old before e =
+    rw e (ap (λ rest. new ++ rest) (drop_at old (drop (length old) before) (length old) refl))
 
 module _ (file : List ℕ) (h : Passed file) where
   abbrev g : Network

@@ -1,5 +1,5 @@
 -- A run's tables, and the count of those that it judges.
-use Prim.Native.Nat.{ℕ, zero, suc, pred, ◌+◌, ◌≤◌, ◌<◌}
+use Prim.Native.Nat.{ℕ, zero, suc, pred, ◌+◌, min, ◌≤◌, ◌<◌}
 use Rattle.std.proofs.Math.Nat.{le_refl}
 use Rattle.std.proofs.Common.{le_trans, add-one, arith, sym, ◌∙◌, ap}
 use Rattle.std.specs.Prelude.{◌≡◌, Bool, true, false, not, ◌||◌, ◌⊎◌}
@@ -137,6 +137,27 @@ module _ (g : Network) (budget excess : ℕ) where
       let not-less : judged g budget excess < k → ⊥ = not-smaller (judged g budget excess) k is h in
       let not_more : k < judged g budget excess → ⊥ = not-smaller k (judged g budget excess) h is in
       omega arith
+
+  -- A smaller budget judges the same tables, as far as it goes.
+  pub judged-fewer : (k : ℕ) → 1 ≤ k → k ≤ budget → Judged g k excess (min k (judged g budget excess))
+  judged-fewer k least few = go (order k (judged g budget excess))
+    where
+      is : Judged g budget excess (judged g budget excess)
+      is = judged-has (le_trans least few)
+
+      go : (k < judged g budget excess) ⊎ (judged g budget excess ≤ k) → Judged g k excess (min k (judged g budget excess))
+      go (inl p) =
+          let smaller : min k (judged g budget excess) ≡ k = omega arith in
+          rw smaller (record { at_least = least; at_most = le_refl k; earlier = λ i q. is.earlier i (omega arith); ends = inr refl })
+      go (inr p) =
+          let smaller : min k (judged g budget excess) ≡ judged g budget excess = omega arith in
+          rw smaller
+          (record {
+            at_least = is.at_least;
+            at_most = p;
+            earlier = is.earlier;
+            ends = ⊎_elim inl (λ e. inr (omega arith)) is.ends;
+          })
 
   -- With a budget of 1,024 or more the last judged table stops the run: 'spent' cannot occur.
   pub last-stops : 1024 ≤ budget → stops g excess (last_judged g budget excess) ≡ true

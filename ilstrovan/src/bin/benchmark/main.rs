@@ -4,10 +4,10 @@
 //! Same studies, same process, turn about. Prints Markdown: for each study and
 //! call the median processor time of either with its quartiles, and the median
 //! of the ratios of neighbouring measurements; then the same of studies with
-//! lorries beside their cars alone; then the stack that each call needs. Where
-//! ILSTROVAN_BEFORE names the static library of an earlier build, its calls are
-//! timed in the same turns; calls that it lacks and studies that it refuses have a
-//! dash.
+//! lorries beside their cars alone, and of desks; then the stack that each call
+//! needs. Where ILSTROVAN_BEFORE names the static library of an earlier build, its
+//! calls are timed in the same turns, but for desks; calls that it lacks and
+//! studies that it refuses have a dash.
 
 #[cfg(before)]
 #[macro_use]
@@ -24,6 +24,7 @@ mod before {
         false
     }
 }
+mod desks;
 mod lorries;
 mod measure;
 mod stack;
@@ -59,6 +60,8 @@ fn main() {
     println!("Processor time: median, and in brackets the quartiles.");
     println!();
     lorries::print(&studies);
+    println!();
+    desks::print(&studies);
     println!();
     print_stack(&studies);
 }

@@ -4,7 +4,10 @@
 use std::ffi::{c_int, c_void};
 use std::ptr;
 
-use ilstrovan::{LONGEST_NOTE, Refusal, audit, check, pack, page, pass, run, start, take_back};
+use ilstrovan::{
+    Desk, LONGEST_NOTE, Refusal, SEATS, audit, check, desks, pack, page, pass, run, start,
+    take_back,
+};
 
 use crate::studies::Study;
 
@@ -51,14 +54,22 @@ pub fn needs<'a>(studies: &[&'a Study]) -> Vec<(&'static str, usize, &'a str)> {
     needs
 }
 
-/// The stack that each call uses with one study, and a thread with it.
-fn needs_of(study: &Study) -> [(&'static str, usize); 8] {
+/// The stack that each call uses with one study, and a thread with it. Desks all
+/// have that study.
+fn needs_of(study: &Study) -> [(&'static str, usize); 9] {
     let file = &study.file;
     let mut output = vec![0; file.len()];
     let mut paper = study.paper();
     let mut note = vec![0; LONGEST_NOTE];
     let mut table = vec![0; study.table_length];
     let mut moved = study.moved();
+    let mut tables = [(); SEATS].map(|()| vec![0; study.table_length]);
+    let mut lent = tables.each_mut().map(|table| Desk {
+        file,
+        table,
+        budget: 8,
+        excess: 0,
+    });
     let mut call = |name, work: &mut dyn FnMut(&mut [u32]) -> Result<(), Refusal>| {
         (name, used(&mut || work(&mut table).expect("accepted")))
     };
@@ -75,6 +86,7 @@ fn needs_of(study: &Study) -> [(&'static str, usize); 8] {
         call("take back", &mut |_| {
             take_back(file, &mut moved.table, moved.share, &moved.note).map(drop)
         }),
+        call("desks", &mut |_| desks(&mut lent, 60).map(drop)),
     ]
 }
 

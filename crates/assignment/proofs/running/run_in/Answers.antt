@@ -31,7 +31,7 @@ returns-then-refusal-ne0 c =
       table_after = sym (run-kept _ _ _ _ (λ e. c.if-refusal-ne0.true (number ∙ e)));
     }
 
-accepted : (c : Else-refusal-ne0) → run_number c.args.file.now c.args.table.now c.args.budget ≡ 0
+accepted : (c : Else-refusal-ne0) → run_number c.args.file.now c.args.table.now c.args.course.budget ≡ 0
 accepted c = sym c.run_refusal-refusal.ensures ∙ c.if-refusal-ne0.false
 
 pub turns-requires : goal.turns-requires
@@ -39,5 +39,6 @@ turns-requires c =
     let good = accepted (goal.at.turns-requires c).Else-refusal-ne0 in
     record {
       parts_of = (parts-opened (parts-decoded c.decode-opening.ensures) (run-opened _ _ _ good), good);
-      curves_len = c.requires.1;
+      curves_len = c.requires.room.1;
+      sets_out = c.requires.sets_out;
     }

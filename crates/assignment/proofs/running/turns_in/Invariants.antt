@@ -10,7 +10,7 @@ use Rattle.assignment.proofs.running.turns_in.Given as goal
 abbrev pub invariant-loop-flows : goal.invariant-loop-flows
 invariant-loop-flows l =
     record {
-      under-way : Running l.file l.fn.table l.budget l.excess l.judged l.table l.share;
+      under-way : Running l.file l.fn.table l.course.budget l.course.excess l.judged l.table l.share;
       known : l.known ≡ true → Known (study_of l.nodes l.links l.commodities l.trips) l.share l.times l.next l.volumes l.flows;
       lent : Lent (study_of l.nodes l.links l.commodities l.trips) l.times l.next l.volumes l.flows;
       totals-are : TotalsOf (study_of l.nodes l.links l.commodities l.trips) l.table l.flows;
@@ -18,4 +18,4 @@ invariant-loop-flows l =
 
 abbrev pub decreases-loop-flows : goal.decreases-loop-flows
 decreases-loop-flows l =
-    l.budget - l.judged
+    l.course.budget - l.judged

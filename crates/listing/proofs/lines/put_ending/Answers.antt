@@ -18,6 +18,11 @@ unfolding ending_word
 returns-in-Spent c =
     record { put = rw c.in-Spent.is c.put_text-in-Spent.ensures; upper_bound = search rules }
 
+pub returns-in-Waiting : goal.returns-in-Waiting
+unfolding ending_word
+returns-in-Waiting c =
+    record { put = rw c.in-Waiting.is c.put_text-in-Waiting.ensures; upper_bound = search rules }
+
 pub returns-in-Refused : goal.returns-in-Refused
 unfolding ending_word
 returns-in-Refused c =
