@@ -34,36 +34,29 @@ round_turns r seat = r.whole + cond (ltb seat r.before) 1 0
 abbrev pub round_visits : Round → ℕ
 round_visits r = 8 * r.whole + r.before
 
--- What a round makes of a seat whose desk it serves until it has had so many turns, and of one that it passes over: a desk that waits after fewer turns is served.
+-- The seats that a round serves: the first round, all; a later one, those whose desk waits after fewer turns than it gives.
 abbrev pub serves : RunAnswer → ℕ → Bool
 serves a until = is_waiting a.ending && ltb a.judged until
 
-abbrev pub answer_by : Desk → RunAnswer → ℕ → RunAnswer
-answer_by d a until = cond (serves a until) (desk_answer d until) a
+abbrev pub every : ℕ → Bool
+every seat = true
 
-abbrev pub desk_by : Desk → RunAnswer → ℕ → Desk
-desk_by d a until = cond (serves a until) (with_table d (desk_table d until)) d
+abbrev pub behind : List RunAnswer → Round → ℕ → Bool
+behind answers r seat = serves (answer_at answers seat) (round_turns r seat)
 
--- A seat before a round and after it.
+-- A seat before a round and after it: passed over, and visited, where it is served or not.
 pub record Kept (seat : ℕ) (desks later : List Desk) (answers later_answers : List RunAnswer) : Type 0 where
   pub answer-is : answer_at later_answers seat ≡ answer_at answers seat
   pub desk-is : desk_at later seat ≡ desk_at desks seat
 
-pub record Opened (r : Round) (seat : ℕ) (desks later : List Desk) (later_answers : List RunAnswer) : Type 0 where
-  pub answer-is : answer_at later_answers seat ≡ desk_answer (desk_at desks seat) (round_turns r seat)
-  pub desk-is : desk_at later seat ≡ with_table (desk_at desks seat) (desk_table (desk_at desks seat) (round_turns r seat))
-
-pub record Taken (r : Round) (seat : ℕ) (desks later : List Desk) (answers later_answers : List RunAnswer) : Type 0 where
-  pub answer-is : answer_at later_answers seat ≡ answer_by (desk_at desks seat) (answer_at answers seat) (round_turns r seat)
-  pub desk-is : desk_at later seat ≡ desk_by (desk_at desks seat) (answer_at answers seat) (round_turns r seat)
+pub record Visited (test : ℕ → Bool) (r : Round) (seat : ℕ) (desks later : List Desk) (answers later_answers : List RunAnswer) : Type 0 where
+  pub answer-is : answer_at later_answers seat ≡ cond (test seat) (desk_answer (desk_at desks seat) (round_turns r seat)) (answer_at answers seat)
+  pub desk-is : desk_at later seat
+      ≡ cond (test seat) (with_table (desk_at desks seat) (desk_table (desk_at desks seat) (round_turns r seat))) (desk_at desks seat)
 
 -- A round under way: the seats before one have been visited, and the others are as they were.
-pub record Opening (r : Round) (before : ℕ) (desks later : List Desk) (answers later_answers : List RunAnswer) : Type 0 where
-  pub visited : (seat : ℕ) → seat < before → Opened r seat desks later later_answers
-  pub kept : (seat : ℕ) → before ≤ seat → Kept seat desks later answers later_answers
-
-pub record Going (r : Round) (before : ℕ) (desks later : List Desk) (answers later_answers : List RunAnswer) : Type 0 where
-  pub visited : (seat : ℕ) → seat < before → Taken r seat desks later answers later_answers
+pub record Going (test : ℕ → Bool) (r : Round) (before : ℕ) (desks later : List Desk) (answers later_answers : List RunAnswer) : Type 0 where
+  pub visited : (seat : ℕ) → seat < before → Visited test r seat desks later answers later_answers
   pub kept : (seat : ℕ) → before ≤ seat → Kept seat desks later answers later_answers
 
 -- What a round asks of a seat: a desk that waits has its turns behind it.

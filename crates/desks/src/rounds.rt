@@ -2,7 +2,7 @@
 ghost use Rattle.std.specs.Prelude.{◌≡◌, ℕ, ◌≤◌, ◌<◌, length};
 ghost use Rattle.calls.specs.Desks.{desk_at};
 ghost use Rattle.desks.specs.Seats.{desks_of, references};
-ghost use Rattle.desks.specs.Rounds.{answer_at, round_turns, serves, Opening, Going, Stands};
+ghost use Rattle.desks.specs.Rounds.{answer_at, round_turns, serves, every, behind, Going, Stands};
 
 use crate::answers::{is_waiting, unserved};
 use crate::seats::serve_seat;
@@ -27,7 +27,7 @@ pub fn open_desks(
     requires round_fits { round.whole ≤ 8192 }
     ensures same_references { references seat_0.new seat_1.new seat_2.new seat_3.new seat_4.new seat_5.new seat_6.new seat_7.new ≡ references seat_0.old seat_1.old seat_2.old seat_3.old seat_4.old seat_5.old seat_6.old seat_7.old }
     ensures answers_len { length answers.new ≡ 8 }
-    ensures opened { Opening round count (desks_of seat_0.old seat_1.old seat_2.old seat_3.old seat_4.old seat_5.old seat_6.old seat_7.old) (desks_of seat_0.new seat_1.new seat_2.new seat_3.new seat_4.new seat_5.new seat_6.new seat_7.new) answers.old answers.new }
+    ensures opened { Going every round count (desks_of seat_0.old seat_1.old seat_2.old seat_3.old seat_4.old seat_5.old seat_6.old seat_7.old) (desks_of seat_0.new seat_1.new seat_2.new seat_3.new seat_4.new seat_5.new seat_6.new seat_7.new) answers.old answers.new }
 {
     for seat in 0..count {
         answers[seat] = serve_seat(
@@ -63,7 +63,7 @@ pub fn serve_round(
     requires stands { (seat : ℕ) → seat < 8 → Stands (desk_at (desks_of seat_0.old seat_1.old seat_2.old seat_3.old seat_4.old seat_5.old seat_6.old seat_7.old) seat) (answer_at answers.old seat) }
     ensures same_references { references seat_0.new seat_1.new seat_2.new seat_3.new seat_4.new seat_5.new seat_6.new seat_7.new ≡ references seat_0.old seat_1.old seat_2.old seat_3.old seat_4.old seat_5.old seat_6.old seat_7.old }
     ensures answers_len { length answers.new ≡ 8 }
-    ensures gone { Going round 8 (desks_of seat_0.old seat_1.old seat_2.old seat_3.old seat_4.old seat_5.old seat_6.old seat_7.old) (desks_of seat_0.new seat_1.new seat_2.new seat_3.new seat_4.new seat_5.new seat_6.new seat_7.new) answers.old answers.new }
+    ensures gone { Going (behind answers.old round) round 8 (desks_of seat_0.old seat_1.old seat_2.old seat_3.old seat_4.old seat_5.old seat_6.old seat_7.old) (desks_of seat_0.new seat_1.new seat_2.new seat_3.new seat_4.new seat_5.new seat_6.new seat_7.new) answers.old answers.new }
 {
     for seat in 0..8 {
         let answer = answers[seat];

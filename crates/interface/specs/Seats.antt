@@ -15,7 +15,7 @@ pub eight-seats : (seats : List RunAnswer) → length seats ≡ 8
     → (let at : ℕ → List ℕ = λ i. seat_numbers (get_or seats i no_answer) in
     map seat_numbers seats ≡ at 0 ∷ at 1 ∷ at 2 ∷ at 3 ∷ at 4 ∷ at 5 ∷ at 6 ∷ at 7 ∷ [])
 unfolding tabulate
-eight-seats seats long = ap (map seat_numbers) (list-is 8 seats (λ i. get_or seats i no_answer) long (λ i p. refl))
+eight-seats seats long = ap (map seat_numbers) (list-is 8 seats no_answer (λ i. get_or seats i no_answer) long (λ i p. refl))
 
 -- Rows one after the other.
 pub rows-joined : (seats : List RunAnswer) → flat_map (λ x. x) (map seat_numbers seats) ≡ flat_map seat_numbers seats

@@ -10,7 +10,7 @@ use Rattle.calls.specs.Desks.{Desk, desk_at, desk_answer, desk_table, no_answer}
 use Rattle.calls.specs.declared.RunAnswer.{RunAnswer}
 use Rattle.desks.specs.declared.Round.{Round}
 use Rattle.desks.specs.Seats.{with_table, served_at}
-use Rattle.desks.specs.Rounds.{answer_at, waits_at, turns_had, turns_made, waiting_count, waiting_sum, round_turns, serves, Kept, Opened, Taken, Opening, Going}
+use Rattle.desks.specs.Rounds.{answer_at, waits_at, turns_had, turns_made, waiting_count, waiting_sum, round_turns, serves, behind, Kept, Visited, Going}
 
 pub sum-none : (f : ℕ → ℕ) → sum 0 f ≡ 0
 sum-none f = sum-zero 0 f (λ i p. absurd (omega arith))
@@ -105,7 +105,7 @@ served-other (d ∷ desks) (suc seat) until zero n = refl
 served-other (d ∷ desks) (suc seat) until (suc other) n = served-other desks seat until other (λ e. n (ap suc e))
 
 -- A visit to one seat of a round under way.
-module _ (r : Round) (seat : ℕ) (desks now : List Desk) (answers₀ answers : List RunAnswer) (until : ℕ) (until-is : until ≡ round_turns r seat) where
+module _ (test : ℕ → Bool) (r : Round) (seat : ℕ) (desks now : List Desk) (answers₀ answers : List RunAnswer) (until : ℕ) (until-is : until ≡ round_turns r seat) where
   module _ (later : List Desk) (later_answers : List RunAnswer) (a : RunAnswer) (seat-below : seat < 8) (answers-long : length answers ≡ 8) (now-long : length now ≡ 8)
       (a-is : a ≡ desk_answer (desk_at now seat) until) (answers-are : later_answers ≡ slice_set answers seat a) (later-is : later ≡ served_at now seat until) where
     answer-here : answer_at later_answers seat ≡ desk_answer (desk_at now seat) until
@@ -123,65 +123,43 @@ module _ (r : Round) (seat : ℕ) (desks now : List Desk) (answers₀ answers : 
     kept-there : (other : ℕ) → (other ≡ seat → ⊥) → Kept other desks now answers₀ answers → Kept other desks later answers₀ later_answers
     kept-there other n k = record { answer-is = answer-there other n ∙ k.answer-is; desk-is = desk-there other n ∙ k.desk-is }
 
-    pub opening-more : Opening r seat desks now answers₀ answers → Opening r (seat + 1) desks later answers₀ later_answers
-    opening-more o =
+    pub going-served : Going test r seat desks now answers₀ answers → test seat ≡ true → Going test r (seat + 1) desks later answers₀ later_answers
+    going-served o yes' =
         record {
           visited = λ other p. ⊎_elim (earlier other) here (below_suc seat other (omega arith));
           kept = λ other p. kept-there other (λ e. omega (arith, e)) (o.kept other (omega arith));
         }
       where
-        earlier : (other : ℕ) → other < seat → Opened r other desks later later_answers
+        earlier : (other : ℕ) → other < seat → Visited test r other desks later answers₀ later_answers
         earlier other p =
             let n : other ≡ seat → ⊥ = λ e. omega (arith, e) in
             let was = o.visited other p in
             record { answer-is = answer-there other n ∙ was.answer-is; desk-is = desk-there other n ∙ was.desk-is }
 
-        opened : Kept seat desks now answers₀ answers → Opened r seat desks later later_answers
-        opened k =
+        visited : Kept seat desks now answers₀ answers → Visited test r seat desks later answers₀ later_answers
+        visited k =
             record {
-              answer-is = answer-here ∙ (rw (k.desk-is, until-is) refl);
-              desk-is = desk-here ∙ (rw (k.desk-is, until-is) refl);
+              answer-is = answer-here ∙ (rw (yes', k.desk-is, until-is) refl);
+              desk-is = desk-here ∙ (rw (yes', k.desk-is, until-is) refl);
             }
 
-        here : {other : ℕ} → other ≡ seat → Opened r other desks later later_answers
-        here e = subst (λ s. Opened r s desks later later_answers) (sym e) (opened (o.kept seat (omega arith)))
-
-    pub going-served : Going r seat desks now answers₀ answers → serves (answer_at answers seat) until ≡ true → Going r (seat + 1) desks later answers₀ later_answers
-    going-served o test =
-        record {
-          visited = λ other p. ⊎_elim (earlier other) here (below_suc seat other (omega arith));
-          kept = λ other p. kept-there other (λ e. omega (arith, e)) (o.kept other (omega arith));
-        }
-      where
-        earlier : (other : ℕ) → other < seat → Taken r other desks later answers₀ later_answers
-        earlier other p =
-            let n : other ≡ seat → ⊥ = λ e. omega (arith, e) in
-            let was = o.visited other p in
-            record { answer-is = answer-there other n ∙ was.answer-is; desk-is = desk-there other n ∙ was.desk-is }
-
-        taken : Kept seat desks now answers₀ answers → Taken r seat desks later answers₀ later_answers
-        taken k =
-            let true-test : serves (answer_at answers₀ seat) (round_turns r seat) ≡ true = rw (← k.answer-is, ← until-is) test in
-            record {
-              answer-is = answer-here ∙ (rw (true-test, k.desk-is, until-is) refl);
-              desk-is = desk-here ∙ (rw (true-test, k.desk-is, until-is) refl);
-            }
-
-        here : {other : ℕ} → other ≡ seat → Taken r other desks later answers₀ later_answers
-        here e = subst (λ s. Taken r s desks later answers₀ later_answers) (sym e) (taken (o.kept seat (omega arith)))
+        here : {other : ℕ} → other ≡ seat → Visited test r other desks later answers₀ later_answers
+        here e = subst (λ s. Visited test r s desks later answers₀ later_answers) (sym e) (visited (o.kept seat (omega arith)))
 
   -- A visit that passes over a desk.
-  pub going-past : Going r seat desks now answers₀ answers → serves (answer_at answers seat) until ≡ false → Going r (seat + 1) desks now answers₀ answers
-  going-past o test =
+  pub going-past : Going test r seat desks now answers₀ answers → test seat ≡ false → Going test r (seat + 1) desks now answers₀ answers
+  going-past o none =
       record {
         visited = λ other p. ⊎_elim (λ q. o.visited other q) here (below_suc seat other (omega arith));
         kept = λ other p. o.kept other (omega arith);
       }
     where
-      taken : Kept seat desks now answers₀ answers → Taken r seat desks now answers₀ answers
-      taken k =
-          let false-test : serves (answer_at answers₀ seat) (round_turns r seat) ≡ false = rw (← k.answer-is, ← until-is) test in
-          record { answer-is = k.answer-is ∙ (rw false-test refl); desk-is = k.desk-is ∙ (rw false-test refl) }
+      visited : Kept seat desks now answers₀ answers → Visited test r seat desks now answers₀ answers
+      visited k = record { answer-is = k.answer-is ∙ (rw none refl); desk-is = k.desk-is ∙ (rw none refl) }
 
-      here : {other : ℕ} → other ≡ seat → Taken r other desks now answers₀ answers
-      here e = subst (λ s. Taken r s desks now answers₀ answers) (sym e) (taken (o.kept seat (omega arith)))
+      here : {other : ℕ} → other ≡ seat → Visited test r other desks now answers₀ answers
+      here e = subst (λ s. Visited test r s desks now answers₀ answers) (sym e) (visited (o.kept seat (omega arith)))
+
+  -- Whether a seat that is still to be visited is behind is told by its answer as it stands.
+  pub still-behind : Going test r seat desks now answers₀ answers → serves (answer_at answers seat) until ≡ behind answers₀ r seat
+  still-behind o = let k = o.kept seat (omega arith) in rw (until-is, k.answer-is) refl

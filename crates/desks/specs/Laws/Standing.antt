@@ -1,5 +1,5 @@
 -- How the desks stand from round to round, and where the turns end.
-use Rattle.std.specs.Prelude.{◌≡◌, ℕ, zero, suc, ◌+◌, ◌-◌, ◌/◌, ◌%◌, ◌≤◌, ◌<◌, min, Bool, true, false, ◌⊎◌, cond, List, [], ◌∷◌, length, replicate, ltb, refl}
+use Rattle.std.specs.Prelude.{get_or, ◌≡◌, ℕ, zero, suc, ◌+◌, ◌-◌, ◌/◌, ◌%◌, ◌≤◌, ◌<◌, min, Bool, true, false, ◌⊎◌, cond, List, [], ◌∷◌, length, replicate, ltb, refl}
 use Rattle.std.proofs.Common.{arith, sym, ◌∙◌, ap, subst, add-one, mod-lt, inl, inr, ⊎_elim, lt-ltb, ltb-true}
 use Rattle.std.proofs.lemmas.Bool.{le-ltb, ltb-false}
 use Rattle.theory.specs.Finite.{count, tabulate}
@@ -11,7 +11,7 @@ use Rattle.calls.specs.Laws.Desks.{is_waiting, ended-answer, ended-table, desk-j
 use Rattle.calls.specs.Laws.Turns.{visits, visits-mono, served, all-served, sums-equal, all-turns, turns-made}
 use Rattle.desks.specs.declared.Round.{Round}
 use Rattle.desks.specs.Seats.{with_table, Waits}
-use Rattle.desks.specs.Rounds.{answer_at, waits_at, turns_had, turns_made, waiting_count, waiting_sum, round_turns, round_visits, serves, Kept, Taken, Opening, Going, Stands}
+use Rattle.desks.specs.Rounds.{answer_at, waits_at, turns_had, turns_made, waiting_count, waiting_sum, round_turns, round_visits, serves, every, behind, Kept, Visited, Going, Stands}
 use Rattle.desks.specs.Standing.{SeatAt, Standing, desks_left}
 use Rattle.desks.specs.Laws.Rounds.{shares}
 
@@ -159,7 +159,7 @@ module _ (desks : List Desk) (desk_count : ℕ) where
 
     -- Another round.
     module _ (r : Round) (later : List Desk) (later_answers : List RunAnswer) (some-left : 1 ≤ left) (before : r.before ≤ 8)
-        (turns-are : waiting_sum answers (round_turns r) ≡ left + waiting_sum answers (turns_had answers)) (gone : Going r 8 now later answers later_answers) where
+        (turns-are : waiting_sum answers (round_turns r) ≡ left + waiting_sum answers (turns_had answers)) (gone : Going (behind answers r) r 8 now later answers later_answers) where
       abbrev next_visit : ℕ
       next_visit = round_visits r
 
@@ -196,7 +196,7 @@ module _ (desks : List Desk) (desk_count : ℕ) where
           onward : turns_at seat ≤ visits next_visit seat
           onward = visits-mono s.visit next_visit seat forward
 
-          go : (b : Bool) → ltb seat desk_count ≡ b → Taken r seat now later answers later_answers → SeatAt desks desk_count next_visit seat later later_answers
+          go : (b : Bool) → ltb seat desk_count ≡ b → Visited (behind answers r) r seat now later answers later_answers → SeatAt desks desk_count next_visit seat later later_answers
           go true f t =
               let answer-is : answer_at answers seat ≡ desk_answer d (turns_at seat) = at.answer-is ∙ rw f refl in
               let desk-is : desk_at now seat ≡ with_table d (desk_table d (turns_at seat)) = at.desk-is ∙ rw f refl in
@@ -256,25 +256,21 @@ count-below (suc k) n =
     ∙ ⊎_elim (λ p. rw (lt-ltb k n p) (omega arith)) (λ p. rw (le-ltb k n p) (omega arith)) (order k n)
 
 -- A list that has so many elements, one by one.
-pub list-is : (n : ℕ) (answers : List RunAnswer) (f : ℕ → RunAnswer) → length answers ≡ n → ((i : ℕ) → i < n → answer_at answers i ≡ f i) → answers ≡ tabulate n f
+pub list-is : {A : Type 0} (n : ℕ) (xs : List A) (d : A) (f : ℕ → A) → length xs ≡ n → ((i : ℕ) → i < n → get_or xs i d ≡ f i) → xs ≡ tabulate n f
 unfolding tabulate
-list-is zero [] f long each = refl
-list-is zero (a ∷ answers) f long each = absurd (omega arith)
-list-is (suc n) [] f long each = absurd (omega arith)
-list-is (suc n) (a ∷ answers) f long each =
-    let first : a ≡ f zero = each zero (omega arith) in
-    let rest = list-is n answers (λ i. f (suc i)) (omega arith) (λ i p. each (suc i) (omega arith)) in
+list-is zero [] d f long each = refl
+list-is zero (x ∷ xs) d f long each = absurd (omega arith)
+list-is (suc n) [] d f long each = absurd (omega arith)
+list-is (suc n) (x ∷ xs) d f long each =
+    let first : x ≡ f zero = each zero (omega arith) in
+    let rest = list-is n xs d (λ i. f (suc i)) (omega arith) (λ i p. each (suc i) (omega arith)) in
     rw (first, rest) refl
 
-desks-are : (n : ℕ) (desks : List Desk) (f : ℕ → Desk) → length desks ≡ n → ((i : ℕ) → i < n → desk_at desks i ≡ f i) → desks ≡ tabulate n f
-unfolding tabulate
-desks-are zero [] f long each = refl
-desks-are zero (d ∷ desks) f long each = absurd (omega arith)
-desks-are (suc n) [] f long each = absurd (omega arith)
-desks-are (suc n) (d ∷ desks) f long each =
-    let first : d ≡ f zero = each zero (omega arith) in
-    let rest = desks-are n desks (λ i. f (suc i)) (omega arith) (λ i p. each (suc i) (omega arith)) in
-    rw (first, rest) refl
+-- The desk of a seat is that element of the list.
+desk-read : (desks : List Desk) (seat : ℕ) → get_or desks seat (desk_at [] 0) ≡ desk_at desks seat
+desk-read [] seat = refl
+desk-read (d ∷ desks) zero = refl
+desk-read (d ∷ desks) (suc seat) = desk-read desks seat
 
 none-answered : (n seat : ℕ) → answer_at (replicate n no_answer) seat ≡ no_answer
 none-answered zero seat = refl
@@ -288,7 +284,7 @@ module _ (desks : List Desk) (desk_count allowance : ℕ) where
   -- The first round.
   module _ (r : Round) (later : List Desk) (answers later_answers : List RunAnswer) (some-desks : 1 ≤ desk_count) (few-desks : desk_count ≤ 8)
       (whole-is : r.whole ≡ allowance / desk_count) (before-is : r.before ≡ allowance % desk_count)
-      (none : answers ≡ replicate 8 no_answer) (opened : Opening r desk_count desks later answers later_answers) where
+      (none : answers ≡ replicate 8 no_answer) (opened : Going every r desk_count desks later answers later_answers) where
     first-few : r.before ≤ desk_count
     first-few = omega (arith, before-is, mod-lt allowance {m = desk_count} (omega arith))
 
@@ -390,19 +386,19 @@ module _ (desks : List Desk) (desk_count allowance : ℕ) where
       pub answers-are : (turns : ℕ) → turns ≡ allowance - left → ◌≡◌ {A = DesksAnswer} (record { refusal = 0; turns = turns; seats = answers }) (desks_answer desks desk_count allowance)
       answers-are turns e =
           let turns-is : turns ≡ length all = omega (arith, turns-left) in
-          let seats-are = list-is 8 answers (seat_answer desks desk_count (λ i. turns_of i all)) answers-long (λ seat h. (s.each seat h).answer-is ∙ (seat-is seat h).0) in
+          let seats-are = list-is 8 answers no_answer (seat_answer desks desk_count (λ i. turns_of i all)) answers-long (λ seat h. (s.each seat h).answer-is ∙ (seat-is seat h).0) in
           rw (turns-is, seats-are) (sym (desks-accepted desks desk_count allowance accepted))
 
       pub left-are : now ≡ desks_left desks desk_count allowance
       left-are =
-          desks-are 8 now (λ seat. with_table (desk_at desks seat) (desks_table desks desk_count allowance seat)) now-long (λ seat h.
-          (s.each seat h).desk-is ∙ ap (with_table (desk_at desks seat)) ((seat-is seat h).1 ∙ sym (desks-written desks desk_count allowance seat accepted)))
+          list-is 8 now (desk_at [] 0) (λ seat. with_table (desk_at desks seat) (desks_table desks desk_count allowance seat)) now-long (λ seat h.
+          desk-read now seat ∙ (s.each seat h).desk-is ∙ ap (with_table (desk_at desks seat)) ((seat-is seat h).1 ∙ sym (desks-written desks desk_count allowance seat accepted)))
 
   -- A refusal of the whole call leaves every desk as it is.
   pub refused-left : length desks ≡ 8 → (desks_number desk_count allowance ≡ 0 → ⊥) → desks ≡ desks_left desks desk_count allowance
   refused-left long refused =
-      desks-are 8 desks (λ seat. with_table (desk_at desks seat) (desks_table desks desk_count allowance seat)) long (λ seat h.
-      ap (with_table (desk_at desks seat)) (sym (desks-kept desks desk_count allowance seat refused)))
+      list-is 8 desks (desk_at [] 0) (λ seat. with_table (desk_at desks seat) (desks_table desks desk_count allowance seat)) long (λ seat h.
+      desk-read desks seat ∙ ap (with_table (desk_at desks seat)) (sym (desks-kept desks desk_count allowance seat refused)))
 
   pub refused-answers : (number : ℕ) → number ≡ desks_number desk_count allowance → (number ≡ 0 → ⊥) → refused_desks number ≡ desks_answer desks desk_count allowance
   refused-answers zero e refused = absurd (refused refl)
