@@ -8,7 +8,7 @@
 #![tactic(auto)]
 
 use case_lines::{Buffer, each_line, read_numbers, read_study, read_table};
-use show::show;
+use show::{Program, show};
 use std::io;
 
 mod show;
@@ -35,12 +35,13 @@ fn run_line(rt: &(impl Input + Print), word: u8, cases: &mut Cases) -> io::Resul
             cases.table.len = read_table(rt, &mut cases.table.items)?;
             Ok(())
         }
-        b'p' => show(rt, cases, |input, table, response| {
-            response.len = report::respond_page(input, table, &mut response.items);
-        }),
-        _ => show(rt, cases, |input, table, response| {
-            response.len = report::respond(input, table, &mut response.items);
-        }),
+        b'p' => show(rt, Program::Page, &cases.input, cases.table.as_mut_slice()),
+        _ => show(
+            rt,
+            Program::Assign,
+            &cases.input,
+            cases.table.as_mut_slice(),
+        ),
     }
 }
 

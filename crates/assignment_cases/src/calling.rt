@@ -1,53 +1,80 @@
-// The calls, each with its numbers and its label from standard input.
-use crate::{Cases, report};
+// The calls, each with its numbers and its label from standard input. A call is lent what is in use of the file and
+// of the table, so how much that is stays as it was.
+ghost use Rattle.std.specs.Prelude.{◌≡◌, length, OnErr};
+
+use crate::report;
 use case_lines::{label, number, number_u16};
 use std::io;
 
-pub fn start(rt: &(impl Input + Print), cases: &mut Cases) -> io::Result<()> {
+pub fn call(
+    rt: &(impl Input + Print),
+    word: u8,
+    file: &[u8],
+    table: &mut [u32],
+    note: &mut [u16; 8],
+) -> io::Result<()>
+    ensures { OnErr result ((length table.new ≡ length table.old) × (length note.new ≡ length note.old)) }
+{
+    match word {
+        b's' => start(rt, file, table),
+        b'a' => audit(rt, file, table),
+        b'p' => pass(rt, file, table, note),
+        b'b' => take_back(rt, file, table, note),
+        _ => run(rt, file, table),
+    }
+}
+
+fn start(rt: &(impl Input + Print), file: &[u8], table: &mut [u32]) -> io::Result<()>
+    ensures { OnErr result (length table.new ≡ length table.old) }
+{
     label(rt)?;
-    let file = cases.file.as_slice();
-    let table = cases.table.as_mut_slice();
     report::start(rt, assignment::start(file, table))?;
     report::left(rt, table)
 }
 
-pub fn audit(rt: &(impl Input + Print), cases: &Cases) -> io::Result<()> {
+fn audit(rt: &(impl Input + Print), file: &[u8], table: &[u32]) -> io::Result<()> {
     let share = number(rt)?;
     label(rt)?;
-    let file = cases.file.as_slice();
-    let table = cases.table.as_slice();
     report::audit(rt, share, assignment::audit(file, table, share))?;
     report::left(rt, table)
 }
 
-pub fn pass(rt: &(impl Input + Print), cases: &mut Cases) -> io::Result<()> {
+fn pass(
+    rt: &(impl Input + Print),
+    file: &[u8],
+    table: &mut [u32],
+    note: &mut [u16; 8],
+) -> io::Result<()>
+    ensures { OnErr result ((length table.new ≡ length table.old) × (length note.new ≡ length note.old)) }
+{
     let share = number(rt)?;
     label(rt)?;
-    let file = cases.file.as_slice();
-    let table = cases.table.as_mut_slice();
-    let note = &mut cases.note;
     report::pass(rt, share, passes::pass(file, table, share, note))?;
     report::noted(rt, note)?;
     report::left(rt, table)
 }
 
-pub fn take_back(rt: &(impl Input + Print), cases: &mut Cases) -> io::Result<()> {
+fn take_back(
+    rt: &(impl Input + Print),
+    file: &[u8],
+    table: &mut [u32],
+    note: &[u16; 8],
+) -> io::Result<()>
+    ensures { OnErr result (length table.new ≡ length table.old) }
+{
     let share = number(rt)?;
     label(rt)?;
-    let file = cases.file.as_slice();
-    let table = cases.table.as_mut_slice();
-    let note = &cases.note;
     report::take_back(rt, share, passes::take_back(file, table, share, note))?;
     report::noted(rt, note)?;
     report::left(rt, table)
 }
 
-pub fn run(rt: &(impl Input + Print), cases: &mut Cases) -> io::Result<()> {
+fn run(rt: &(impl Input + Print), file: &[u8], table: &mut [u32]) -> io::Result<()>
+    ensures { OnErr result (length table.new ≡ length table.old) }
+{
     let budget = number(rt)?;
     let excess = number_u16(rt)?;
     label(rt)?;
-    let file = cases.file.as_slice();
-    let table = cases.table.as_mut_slice();
     let answer = assignment::run(file, table, budget, excess);
     report::run(rt, budget, excess, answer)?;
     report::left(rt, table)

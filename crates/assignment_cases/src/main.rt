@@ -41,11 +41,13 @@ fn run_line(rt: &(impl Input + Print), word: u8, cases: &mut Cases) -> io::Resul
         b'f' => read_file(rt, &mut cases.file),
         b't' => read_flows(rt, &mut cases.table),
         b'n' => read_note(rt, &mut cases.note),
-        b's' => calling::start(rt, cases),
-        b'a' => calling::audit(rt, cases),
-        b'p' => calling::pass(rt, cases),
-        b'b' => calling::take_back(rt, cases),
-        _ => calling::run(rt, cases),
+        _ => calling::call(
+            rt,
+            word,
+            cases.file.as_slice(),
+            cases.table.as_mut_slice(),
+            &mut cases.note,
+        ),
     }
 }
 

@@ -2,7 +2,7 @@
 ghost use Rattle.std.specs.Prelude.{◌<◌, ◌≤◌, ◌^◌, IfOk};
 
 use std::io;
-use std::io::Read;
+use std::io::{Bytes, Read};
 
 // There are fewer lines than this.
 const MOST_LINES: usize = 1000;
@@ -47,8 +47,13 @@ fn is_in_word(byte: u8) -> bool {
 
 // The next number, taken modulo 2³². It is 0 where there is no digit.
 pub fn number(rt: &impl Input) -> io::Result<u32> {
+    next_number(&mut rt.reader().bytes())
+}
+
+// What `number` reads, of an input that serves for more than one number.
+pub fn next_number<R: Read + Drop>(input: &mut Bytes<R>) -> io::Result<u32> {
     let mut value = 0u32;
-    for byte in rt.reader().bytes().take(MOST_DIGITS) {
+    for byte in input.take(MOST_DIGITS) {
         let byte = byte?;
         if !byte.is_ascii_digit() {
             break;
@@ -67,7 +72,14 @@ pub fn number_u16(rt: &impl Input) -> io::Result<u16> {
 pub fn number_within(rt: &impl Input, most: usize) -> io::Result<usize>
     ensures { IfOk result (λ value. (value ≤ most) × (value < 2 ^ 32)) }
 {
-    Ok(most.min(number(rt)? as usize))
+    next_within(&mut rt.reader().bytes(), most)
+}
+
+// The same for `number_within`.
+pub fn next_within<R: Read + Drop>(input: &mut Bytes<R>, most: usize) -> io::Result<usize>
+    ensures { IfOk result (λ value. (value ≤ most) × (value < 2 ^ 32)) }
+{
+    Ok(most.min(next_number(input)? as usize))
 }
 
 // Prints the rest of the line.

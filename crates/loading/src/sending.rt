@@ -61,19 +61,15 @@ struct Trips {
 }
 
 impl Trips {
-    // The trips of each node, as they wait there at first.
-    fn new(trips: &[u16]) -> Self
-        requires { length trips.now ≤ 128 }
-        ensures { OwnBelow (length trips.now) trips.now result.waiting × (result.volumes ≡ all_zero) }
+    // The trips of each node wait there at first. They are put into what is lent: what a function answers is copied.
+    fn put_own(&mut self, trips: &[u16])
+        requires { (length trips.now ≤ 128) × (self.old.waiting ≡ all_zero) }
+        ensures own { OwnBelow (length trips.now) trips.now self.new.waiting }
+        ensures rest { self.new.volumes ≡ self.old.volumes }
     {
-        let mut own = Trips {
-            waiting: [0; 128],
-            volumes: [0; 128],
-        };
         for (j, here) in trips.iter().enumerate() {
-            own.waiting[j] = u32::from(*here);
+            self.waiting[j] = u32::from(*here);
         }
-        own
     }
 
     // Sends the waiting trips of node k on to node h.
@@ -159,8 +155,13 @@ pub fn volumes(
         return;
     }
     let next_links = NextLinks { nodes, links, next };
-    let mut on_way = Trips::new(trips);
+    let mut on_way = Trips {
+        waiting: [0; 128],
+        volumes: [0; 128],
+    };
+    on_way.put_own(trips);
     on_way.send_in_order(next_links);
+    // Until nobody is sent: no turn of it counts.
     while on_way.send_waiting(next_links) {}
     *volumes = on_way.volumes;
 }

@@ -1,4 +1,6 @@
 // Lines of output.
+ghost use Rattle.std.specs.Prelude.{◌<◌};
+
 use crate::Bytes;
 use case_lines::{label, number_within};
 use std::io;
@@ -24,8 +26,12 @@ pub fn show(rt: &(impl Input + Print), output: &[u8]) -> io::Result<()> {
     println!(rt; "")
 }
 
-fn digest(bytes: &[u8]) -> u32 {
-    bytes.iter().fold(0, |sum, byte| {
-        ((u64::from(sum) * 31 + u64::from(*byte) + 1) % 1000003) as u32
-    })
+fn digest(bytes: &[u8]) -> u32
+    ensures { result < 1000003 }
+{
+    let mut sum = 0;
+    for byte in bytes {
+        sum = ((u64::from(sum) * 31 + u64::from(*byte) + 1) % 1000003) as u32;
+    }
+    sum
 }

@@ -54,8 +54,9 @@ fn put_rows(file: &mut [u8]) {
 
 // Puts numbers of two bytes from `at` on. What lies past the end is left out.
 fn put(file: &mut [u8], at: usize, numbers: &[u16]) {
-    let values = numbers.iter().flat_map(|number| number.to_le_bytes());
-    for (byte, value) in file.iter_mut().skip(at).zip(values) {
-        *byte = value;
+    if let Some(bytes) = file.get_mut(at..) {
+        for (place, number) in bytes.chunks_mut(2).zip(numbers) {
+            case_lines::put(place, 0, &number.to_le_bytes());
+        }
     }
 }

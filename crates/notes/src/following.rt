@@ -4,6 +4,7 @@ ghost use Rattle.theory.specs.Routes.{distance, is_some};
 ghost use Rattle.theory.specs.Study.{node_of, may_use};
 ghost use Rattle.notes.specs.Followed.{by_note, may_follow, is_settled, Readable, Settled, Origins, Traced, row_leads, Followed, note_follows, AllReadable, AllFollowed};
 
+use loading::index;
 use theory::{HEAD, NO_LINK, TAIL, may_use, node_of};
 
 // Whether trips of a commodity may go on from node j by link l: it is one of the node's own outgoing links, and permitted.
@@ -19,13 +20,6 @@ fn may_follow(links: &[[u16; 6]], commodity: u16, j: usize, l: u16) -> bool
         return false;
     }
     may_use(link, commodity)
-}
-
-// A number of 16 bits, as an index.
-fn index(x: u16) -> usize
-    ensures { result ≡ x }
-{
-    x as usize
 }
 
 // Whether a walk need go no further than node j: it is the destination, or its next link is known already.

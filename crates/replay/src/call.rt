@@ -111,7 +111,8 @@ impl Seats {
     }
 }
 
-// The file, and what calls are lent. The output is a pack's, or a page slice. The seats are lent to several desks alone.
+// The file, and what calls are lent. The output is a pack's, or a page slice. Its memory holds the bytes of a table or a
+// note too, while they are read. The seats are lent to several desks alone.
 #[derive(Drop)]
 pub struct Lent {
     pub file: Buffer<u8, 65540>,

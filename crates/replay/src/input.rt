@@ -1,5 +1,5 @@
 // What a stream holds: little-endian numbers, and lengths with the numbers after them.
-ghost use Rattle.std.specs.Prelude.{◌≡◌, ◌≤◌, length, OnErr};
+ghost use Rattle.std.specs.Prelude.{◌≡◌, ◌≤◌, ◌*◌, length, OnErr};
 ghost use Rattle.std.proofs.Common.{lit≤};
 
 use crate::call::{Call, Kind, Lent, Seat, Seats};
@@ -9,18 +9,22 @@ use streams::{Buffer, read_full};
 // A length that stands for what was left.
 const SAME: u32 = 4294967295;
 
-// So many numbers are read at a time.
-const MOST_AT_A_TIME: usize = 1024;
+// Where bytes are read that become numbers: the output's memory, which has room for those of any table and any note.
+type Bytes = [u8; 131200];
 
 // A number that a stream holds as SIZE bytes.
 trait Encoded<const SIZE: usize>: Copy {
     fn decode(bytes: [u8; SIZE]) -> Self;
 
-    // An array of the bytes fits memory.
+    // There are bytes, and an array of them fits memory.
+    ghost has_bytes: { 1 ≤ SIZE };
+
     ghost is_short: { SIZE ≤ 8 };
 }
 
 impl Encoded<1> for u8 {
+    ghost has_bytes = { lit≤ tt };
+
     ghost is_short = { lit≤ tt };
 
     fn decode(bytes: [u8; 1]) -> u8 {
@@ -29,6 +33,8 @@ impl Encoded<1> for u8 {
 }
 
 impl Encoded<2> for u16 {
+    ghost has_bytes = { lit≤ tt };
+
     ghost is_short = { lit≤ tt };
 
     fn decode(bytes: [u8; 2]) -> u16 {
@@ -37,6 +43,8 @@ impl Encoded<2> for u16 {
 }
 
 impl Encoded<4> for u32 {
+    ghost has_bytes = { lit≤ tt };
+
     ghost is_short = { lit≤ tt };
 
     fn decode(bytes: [u8; 4]) -> u32 {
@@ -51,18 +59,18 @@ pub fn read_call(rt: &impl Input, lent: &mut Lent) -> io::Result<Option<Call>> {
         return Ok(None);
     };
     if kind == Kind::Desks {
-        return read_desks(rt, &mut lent.seats);
+        return read_desks(rt, &mut lent.seats, &mut lent.output.items);
     }
     if read_lent(rt, kind, lent)? {
-        Ok(Some(read_numbers(rt, kind)?))
+        Ok(Some(read_end(rt, kind)?))
     } else {
         Ok(None)
     }
 }
 
 // A call of several desks: what it is lent and handed for each seat, and then its own numbers.
-fn read_desks(rt: &impl Input, seats: &mut Seats) -> io::Result<Option<Call>> {
-    if !read_seats(rt, seats)? {
+fn read_desks(rt: &impl Input, seats: &mut Seats, bytes: &mut Bytes) -> io::Result<Option<Call>> {
+    if !read_seats(rt, seats, bytes)? {
         return Ok(None);
     }
     let desks = read_number::<u32, 4>(rt)?;
@@ -77,22 +85,22 @@ fn read_desks(rt: &impl Input, seats: &mut Seats) -> io::Result<Option<Call>> {
     }))
 }
 
-// Answers whether the stream has all seats whole.
-fn read_seats(rt: &impl Input, seats: &mut Seats) -> io::Result<bool> {
+// Answers whether the stream has all seats whole. Past the first that is not, nothing is read.
+fn read_seats(rt: &impl Input, seats: &mut Seats, bytes: &mut Bytes) -> io::Result<bool> {
     Ok(
-        read_seat(rt, &mut seats.seat_0)?
-            && read_seat(rt, &mut seats.seat_1)?
-            && read_seat(rt, &mut seats.seat_2)?
-            && read_seat(rt, &mut seats.seat_3)?
-            && read_seat(rt, &mut seats.seat_4)?
-            && read_seat(rt, &mut seats.seat_5)?
-            && read_seat(rt, &mut seats.seat_6)?
-            && read_seat(rt, &mut seats.seat_7)?,
+        read_seat(rt, &mut seats.seat_0, bytes)?
+            && read_seat(rt, &mut seats.seat_1, bytes)?
+            && read_seat(rt, &mut seats.seat_2, bytes)?
+            && read_seat(rt, &mut seats.seat_3, bytes)?
+            && read_seat(rt, &mut seats.seat_4, bytes)?
+            && read_seat(rt, &mut seats.seat_5, bytes)?
+            && read_seat(rt, &mut seats.seat_6, bytes)?
+            && read_seat(rt, &mut seats.seat_7, bytes)?,
     )
 }
 
-fn read_seat(rt: &impl Input, seat: &mut Seat) -> io::Result<bool> {
-    if !read_part(rt, &mut seat.file)? || !read_part(rt, &mut seat.table)? {
+fn read_seat(rt: &impl Input, seat: &mut Seat, bytes: &mut Bytes) -> io::Result<bool> {
+    if !read_bytes(rt, &mut seat.file)? || !read_numbers(rt, &mut seat.table, bytes)? {
         return Ok(false);
     }
     seat.budget = read_number::<u32, 4>(rt)?;
@@ -100,19 +108,20 @@ fn read_seat(rt: &impl Input, seat: &mut Seat) -> io::Result<bool> {
     Ok(true)
 }
 
-// Reads what a call of this kind is lent. Answers whether the stream has it whole.
+// Reads what a call of this kind is lent, each part whether or not those before it are whole. Answers whether the
+// stream has all of it whole.
 fn read_lent(rt: &impl Input, kind: Kind, lent: &mut Lent) -> io::Result<bool> {
+    let bytes = &mut lent.output.items;
+    let file = read_bytes(rt, &mut lent.file)?;
+    let table = !kind.takes_table() || read_numbers(rt, &mut lent.table, bytes)?;
+    let note = !kind.takes_note() || read_numbers(rt, &mut lent.note, bytes)?;
     lent.output.len = 0;
-    Ok(
-        read_part(rt, &mut lent.file)?
-            && (!kind.takes_table() || read_part(rt, &mut lent.table)?)
-            && (!kind.takes_note() || read_part(rt, &mut lent.note)?)
-            && (!kind.takes_output() || read_part(rt, &mut lent.output)?),
-    )
+    let output = !kind.takes_output() || read_bytes(rt, &mut lent.output)?;
+    Ok(file && table && note && output)
 }
 
 // The numbers at a call's end.
-fn read_numbers(rt: &impl Input, kind: Kind) -> io::Result<Call> {
+fn read_end(rt: &impl Input, kind: Kind) -> io::Result<Call> {
     let share = read_number::<u32, 4>(rt)?;
     let budget = read_number::<u32, 4>(rt)?;
     let excess = read_number::<u16, 2>(rt)?;
@@ -126,37 +135,57 @@ fn read_numbers(rt: &impl Input, kind: Kind) -> io::Result<Call> {
     })
 }
 
-// A length and its numbers, each made of SIZE bytes. Answers whether the stream has them all, and they fit.
-fn read_part<T: Encoded<SIZE>, const N: usize, const SIZE: usize>(
-    rt: &impl Input,
-    part: &mut Buffer<T, N>,
-) -> io::Result<bool> {
+// A length and its bytes. Answers whether the stream has them all, and they fit.
+fn read_bytes<const N: usize>(rt: &impl Input, part: &mut Buffer<u8, N>) -> io::Result<bool>
+    ensures { OnErr result (part.new.len ≡ part.old.len) }
+{
     match read_number::<u32, 4>(rt)? {
         SAME => Ok(true),
         len if len as usize <= N => {
+            let whole = fill(rt, &mut part.items[..len as usize])?;
             part.len = len as usize;
-            fill(rt, part.as_mut_slice())
+            Ok(whole)
         }
         _ => Ok(false),
     }
 }
 
-// Answers whether the stream has as many numbers.
-fn fill<T: Encoded<SIZE>, const SIZE: usize>(rt: &impl Input, numbers: &mut [T]) -> io::Result<bool>
-    ensures { OnErr result (length numbers.new ≡ length numbers.old) }
+// A length and its numbers, each made of SIZE bytes, all of which are read into `bytes` before the part changes.
+// Answers whether the stream has them all, and they fit.
+fn read_numbers<T: Encoded<SIZE>, const N: usize, const SIZE: usize>(
+    rt: &impl Input,
+    part: &mut Buffer<T, N>,
+    bytes: &mut [u8],
+) -> io::Result<bool>
+    requires { N * SIZE ≤ length bytes.old }
+    ensures { OnErr result ((part.new ≡ part.old) × (length bytes.new ≡ length bytes.old)) }
 {
-    let mut chunk = [[0u8; SIZE]; MOST_AT_A_TIME];
-    for part in numbers.chunks_mut(MOST_AT_A_TIME) {
-        let encoded = &mut chunk[..part.len()];
-        let bytes = encoded.as_flattened_mut();
-        if read_full(rt, bytes)? < bytes.len() {
-            return Ok(false);
+    match read_number::<u32, 4>(rt)? {
+        SAME => Ok(true),
+        len if len as usize <= N => {
+            let bytes = &mut bytes[..len as usize * SIZE];
+            let whole = fill(rt, bytes)?;
+            part.len = len as usize;
+            decode(bytes, part.as_mut_slice());
+            Ok(whole)
         }
-        for (number, bytes) in part.iter_mut().zip(encoded) {
-            *number = T::decode(*bytes);
-        }
+        _ => Ok(false),
     }
-    Ok(true)
+}
+
+// Reads up to the end of the bytes. Answers whether the stream has as many.
+fn fill(rt: &impl Input, bytes: &mut [u8]) -> io::Result<bool>
+    ensures { OnErr result (length bytes.new ≡ length bytes.old) }
+{
+    Ok(read_full(rt, bytes)? == bytes.len())
+}
+
+// The numbers that the bytes hold.
+fn decode<T: Encoded<SIZE>, const SIZE: usize>(bytes: &[u8], numbers: &mut [T]) {
+    let (encoded, _) = bytes.as_chunks::<SIZE>();
+    for (number, bytes) in numbers.iter_mut().zip(encoded) {
+        *number = T::decode(*bytes);
+    }
 }
 
 // The next number, of SIZE bytes. Where the stream ends before that, the bytes that are not there are 0.

@@ -1,5 +1,5 @@
 // A line of answers: the call's name, its numbers in decimal, and the digest in 16 hexadecimal
-// digits, separated by single spaces.
+// digits, separated by single spaces. The refusal is the number that the exported calls answer.
 use std::io;
 
 pub fn print(

@@ -21,7 +21,8 @@
 // A length of 2^32 - 1 has nothing after it: the file of the call before, the table as the call
 // before left it, or the note as the last call that was lent one left it (empty before any). Each seat
 // has a file and a table of its own, which the last call of several desks had and left. A file or
-// a part of what is lent that is not whole, or does not fit, ends the stream; past its end a number is 0.
+// a part of what is lent that is not whole, or does not fit, ends the stream (but for several desks
+// the other parts of the call are read too); past its end a number is 0.
 #![tactic(auto)]
 
 use std::io;
@@ -46,11 +47,20 @@ fn main(rt: HostRuntime) -> io::Result<()> {
         output: Buffer::new(0),
         seats: Seats::new(),
     };
+    let lent = &mut lent;
     for _ in 0..MOST_CALLS {
-        let Some(call) = input::read_call(&rt, &mut lent)? else {
+        let Some(call) = input::read_call(&rt, lent)? else {
             return Ok(());
         };
-        play::play(&rt, &mut lent, call)?;
+        play::play(
+            &rt,
+            lent.file.as_slice(),
+            lent.output.as_mut_slice(),
+            lent.table.as_mut_slice(),
+            lent.note.as_mut_slice(),
+            &mut lent.seats,
+            call,
+        )?;
     }
     Ok(())
 }

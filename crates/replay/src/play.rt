@@ -1,74 +1,99 @@
 // One recorded call: made, and its answer printed.
-use crate::call::{Call, Kind, Lent, Seats};
+ghost use Rattle.std.specs.Prelude.{◌≡◌, length, OnErr};
+
+use crate::call::{Call, Kind, Seats};
 use crate::{digest, lines};
 use std::io;
 
-pub fn play(rt: &impl Print, lent: &mut Lent, call: Call) -> io::Result<()> {
+// The call of its kind, lent what is in use of each part of the memory. `output` is a pack's output or a page slice, and
+// the seats are those of several desks.
+pub fn play(
+    rt: &impl Print,
+    file: &[u8],
+    output: &mut [u8],
+    table: &mut [u32],
+    note: &mut [u16],
+    seats: &mut Seats,
+    call: Call,
+) -> io::Result<()>
+    ensures { OnErr result ((length output.new ≡ length output.old) × (length table.new ≡ length table.old) × (length note.new ≡ length note.old)) }
+{
     match call.kind {
-        Kind::Check => check(rt, lent),
-        Kind::Pack => pack(rt, lent),
-        Kind::Start => start(rt, lent),
-        Kind::Pass => pass(rt, lent, call.share),
-        Kind::Run => run(rt, lent, call.budget, call.excess),
-        Kind::Audit => audit(rt, lent, call.share),
-        Kind::Page => page(rt, lent, call.share),
-        Kind::TakeBack => take_back(rt, lent, call.share),
-        Kind::Desks => desks(rt, &mut lent.seats, call.desks, call.allowance),
+        Kind::Check => check(rt, file),
+        Kind::Pack => pack(rt, file, output),
+        Kind::Start => start(rt, file, table),
+        Kind::Pass => pass(rt, file, table, call.share, note),
+        Kind::Run => run(rt, file, table, call.budget, call.excess),
+        Kind::Audit => audit(rt, file, table, call.share),
+        Kind::Page => page(rt, file, table, call.share, output),
+        Kind::TakeBack => take_back(rt, file, table, call.share, note),
+        Kind::Desks => desks(rt, seats, call.desks, call.allowance),
     }
 }
 
-fn check(rt: &impl Print, lent: &Lent) -> io::Result<()> {
-    let refusal = interface::ilstrovan_check(lent.file.as_slice());
+fn check(rt: &impl Print, file: &[u8]) -> io::Result<()> {
+    let refusal = interface::ilstrovan_check(file);
     lines::print(rt, "check", refusal, &[], digest::of_nothing())
 }
 
-fn pack(rt: &impl Print, lent: &mut Lent) -> io::Result<()> {
-    let output = lent.output.as_mut_slice();
-    let refusal = interface::ilstrovan_pack(lent.file.as_slice(), output);
+fn pack(rt: &impl Print, file: &[u8], output: &mut [u8]) -> io::Result<()>
+    ensures { OnErr result (length output.new ≡ length output.old) }
+{
+    let refusal = interface::ilstrovan_pack(file, output);
     lines::print(rt, "pack", refusal, &[], digest::of_bytes(output))
 }
 
-fn start(rt: &impl Print, lent: &mut Lent) -> io::Result<()> {
-    let table = lent.table.as_mut_slice();
-    let refusal = interface::ilstrovan_start(lent.file.as_slice(), table);
+fn start(rt: &impl Print, file: &[u8], table: &mut [u32]) -> io::Result<()>
+    ensures { OnErr result (length table.new ≡ length table.old) }
+{
+    let refusal = interface::ilstrovan_start(file, table);
     lines::print(rt, "start", refusal, &[], digest::of_numbers(table))
 }
 
-fn pass(rt: &impl Print, lent: &mut Lent, share: u32) -> io::Result<()> {
-    let file = lent.file.as_slice();
-    let table = lent.table.as_mut_slice();
-    let note = lent.note.as_mut_slice();
+fn pass(
+    rt: &impl Print,
+    file: &[u8],
+    table: &mut [u32],
+    share: u32,
+    note: &mut [u16],
+) -> io::Result<()>
+    ensures { OnErr result ((length table.new ≡ length table.old) × (length note.new ≡ length note.old)) }
+{
     let mut answer = [0u64; 5];
     let refusal = interface::ilstrovan_pass(file, table, share, note, &mut answer);
     lines::print(rt, "pass", refusal, &answer, digest::of_noted(table, note))
 }
 
-fn run(rt: &impl Print, lent: &mut Lent, budget: u32, excess: u16) -> io::Result<()> {
-    let file = lent.file.as_slice();
-    let table = lent.table.as_mut_slice();
+fn run(rt: &impl Print, file: &[u8], table: &mut [u32], budget: u32, excess: u16) -> io::Result<()>
+    ensures { OnErr result (length table.new ≡ length table.old) }
+{
     let mut answer = [0u64; 6];
     let refusal = interface::ilstrovan_run(file, table, budget, excess, &mut answer);
     lines::print(rt, "run", refusal, &answer, digest::of_numbers(table))
 }
 
-fn audit(rt: &impl Print, lent: &Lent, share: u32) -> io::Result<()> {
-    let table = lent.table.as_slice();
+fn audit(rt: &impl Print, file: &[u8], table: &[u32], share: u32) -> io::Result<()> {
     let mut answer = [0u64; 3];
-    let refusal = interface::ilstrovan_audit(lent.file.as_slice(), table, share, &mut answer);
+    let refusal = interface::ilstrovan_audit(file, table, share, &mut answer);
     lines::print(rt, "audit", refusal, &answer, digest::of_numbers(table))
 }
 
-fn page(rt: &impl Print, lent: &mut Lent, share: u32) -> io::Result<()> {
-    let file = lent.file.as_slice();
-    let page = lent.output.as_mut_slice();
-    let refusal = interface::ilstrovan_page(file, lent.table.as_slice(), share, page);
+fn page(rt: &impl Print, file: &[u8], table: &[u32], share: u32, page: &mut [u8]) -> io::Result<()>
+    ensures { OnErr result (length page.new ≡ length page.old) }
+{
+    let refusal = interface::ilstrovan_page(file, table, share, page);
     lines::print(rt, "page", refusal, &[], digest::of_bytes(page))
 }
 
-fn take_back(rt: &impl Print, lent: &mut Lent, share: u32) -> io::Result<()> {
-    let file = lent.file.as_slice();
-    let table = lent.table.as_mut_slice();
-    let note = lent.note.as_slice();
+fn take_back(
+    rt: &impl Print,
+    file: &[u8],
+    table: &mut [u32],
+    share: u32,
+    note: &[u16],
+) -> io::Result<()>
+    ensures { OnErr result (length table.new ≡ length table.old) }
+{
     let mut answer = [0u64; 1];
     let refusal = interface::ilstrovan_take_back(file, table, share, note, &mut answer);
     lines::print(

@@ -179,8 +179,8 @@ struct Network<'a> {
 }
 
 impl Network<'_> {
-    // Writes the next links to the destinations of a group.
-    fn put_group(&self, group: &[u16], rows: &mut [[u16; 128]])
+    // Writes the next links to the destinations of a group, over marks that are lent: made anew for each group they would be cleared for nothing.
+    fn put_group(&self, group: &[u16], marks: &mut [[u32; 8]; 128], rows: &mut [[u16; 128]])
         requires all_searchable { AllSearchable self.now.nodes self.now.links.now group.now self.now.times.now × Linked (class_of group.now) self.now.links.now self.now.chains.now }
         requires few { (0 < length group.now) × (length group.now ≤ 8) × (length rows.old ≡ length group.now) × RowsEnd self.now.nodes rows.old }
         ensures { NextsTo self.now.nodes self.now.links.now group.now self.now.times.now rows.new }
@@ -192,12 +192,11 @@ impl Network<'_> {
             group: group_of(group),
             into: &self.chains[INTO],
         };
-        let mut marks = [[0; 8]; 128];
-        search.put_marks(&mut marks);
+        search.put_marks(marks);
         let routes = Routes {
             search,
             out: &self.chains[OUT],
-            marks: &marks,
+            marks,
         };
         routes.put_open(rows);
         routes.put_closed(rows);
@@ -208,10 +207,12 @@ impl Network<'_> {
         requires { (length table.old ≡ length self.now.destinations.now) × RowsEnd self.now.nodes table.old }
         ensures { EachChosen self.now.nodes self.now.links.now self.now.destinations.now self.now.trips.now self.now.times.now used table.old table.new }
     {
+        let mut marks = [[0; 8]; 128];
         for first in (0..self.destinations.len()).step_by(8) {
             let past = group_end(self.destinations.len(), first);
             if any_trips(&self.trips[first * self.nodes..past * self.nodes]) == used {
-                self.put_group(&self.destinations[first..past], &mut table[first..past]);
+                let group = &self.destinations[first..past];
+                self.put_group(group, &mut marks, &mut table[first..past]);
             }
         }
     }

@@ -69,13 +69,13 @@ pub fn least_times(
     requires trips_len { length trips.now ≡ length destinations.now * nodes }
     ensures { result ≡ least_over nodes links.now destinations.now trips.now times.now }
 {
+    let mut marks = [[0; 8]; 128];
     let mut least = 0;
     for first in (0..destinations.len()).step_by(8) {
         let past = group_end(destinations.len(), first);
         let trips = &trips[first * nodes..past * nodes];
         if any_trips(trips) {
             let group = group_of(&destinations[first..past]);
-            let mut marks = [[0; 8]; 128];
             search(nodes, links, times, group, into, &mut marks);
             least += least_to_group(nodes, trips, &marks);
         }

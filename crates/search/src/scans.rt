@@ -1,14 +1,22 @@
 // Least times for eight commodities side by side, which are the destinations of a group: a table of marks has a row for each node and a column for
 // each destination.
-ghost use Rattle.std.specs.Prelude.{◌≡◌, ◌↔◌, ℕ, ◌≤◌, ◌<◌, IsTrue, get_or};
+ghost use Rattle.std.specs.Prelude.{◌≡◌, ◌↔◌, ℕ, ◌≤◌, ◌<◌, ◌^◌, min, IsTrue, get_or};
 ghost use Rattle.search.specs.Given.{longest, class_of};
 ghost use Rattle.search.specs.Chains.{chain_of};
 ghost use Rattle.search.specs.Lanes.{RowMarked, Shaped, Marked, EachRelaxed, EachSearchable, SomeFallen};
 
 use theory::{NO_LINK, TAIL, node_of};
 
-// A node that no link has reached: more than any distance, and with a link's time added still below 2^31.
+// A node that no link has reached: more than any distance, and with a link's time added still below 2^31. A number, as the definitions have it.
 pub const UNREACHED: u32 = 1073741824;
+
+// The lower of two marks. They are compared as signed numbers, of which the processor compares several at once.
+fn lower(a: u32, b: u32) -> u32
+    requires { (a < 2 ^ 31) × (b < 2 ^ 31) }
+    ensures { result ≡ min a b }
+{
+    if (a as i32) < (b as i32) { a } else { b }
+}
 
 // Lowers the marks of a link's tail to its time plus the marks of its head, where that is less.
 fn relax(marks: &mut [[u32; 8]; 128], tail: usize, ahead: [u32; 8], time: u32)
@@ -18,7 +26,7 @@ fn relax(marks: &mut [[u32; 8]; 128], tail: usize, ahead: [u32; 8], time: u32)
 {
     let mut own = marks[tail];
     for k in 0..8 {
-        own[k] = (ahead[k] + time).min(own[k]);
+        own[k] = lower(ahead[k] + time, own[k]);
     }
     marks[tail] = own;
 }
@@ -94,7 +102,8 @@ impl Search<'_> {
     }
 
     // The least times to the destinations of the group. Nodes are scanned until no mark changes. The marks are lent: as a result they are copied,
-    // which is slower than allowed.
+    // which is slower than allowed; and inlined, so that the compiler sees that nothing of what they held is read.
+    #[inline(always)]
     pub fn put_marks(self, marks: &mut [[u32; 8]; 128])
         ensures { LeastFound self.entry marks.new }
     {

@@ -85,7 +85,7 @@ pub fn put_hundredths(out: &mut [u8], at: usize, width: usize, x: u64) -> usize
     put_byte(out, at, last)
 }
 
-// The last digit of x.
+// The last digit of x, as a byte: the library has no conversion that says so.
 fn digit(x: u64) -> u8
     ensures { result ≡ 48 + x % 10 }
 {

@@ -50,6 +50,7 @@ pub fn chosen(
         above: None,
     };
     let mut tries = 0;
+    // By `while`: the bounds close in by what each try says, and no index is counted.
     while bounds.low < bounds.high {
         let j = bounds.next_try(tries, guess, gap);
         tries += 1;

@@ -45,8 +45,8 @@ fn put_list(list: &mut [u64], i: u32)
     }
 }
 
-// Where the list of a power begins, in curves of so many places or more: a number that says which lists there are, as the contract has it. Where there is one list it is that of power 4: a loop over links then
-// need not look at their powers.
+// Where the list of a power begins, in curves of so many places or more: a number that says which lists there are, as the contract has it.
+// Where there is one list it is that of power 4: a loop over links then need not look at their powers.
 pub fn list_start(power: u16, places: usize) -> usize
     requires { (power ≤ 4) × (1797 ≤ places + 257 * power) }
     ensures { result ≡ 512 + 257 * (4 - power) }

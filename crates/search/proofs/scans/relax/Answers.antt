@@ -1,7 +1,16 @@
 -- `scans::relax` meets its contract.
 use Rattle.std.proofs.Common.{◌≡◌, arith}
-use Rattle.search.specs.Laws.Lanes.{each-relaxed}
+use native.Mathlib.Nat.{le_refl}
+use Rattle.search.specs.Laws.Lanes.{row-most, each-relaxed}
 use Rattle.search.proofs.scans.relax.Goals as goal
+
+pub lower-requires : goal.lower-requires
+lower-requires c =
+    let k = c.loop-k.k in
+    let inside = c.loop-k-test.true in (
+      omega (arith, c.requires.tail_bound.2 k inside),
+      omega (arith, row-most c.args.marks.now c.requires.shaped.1 c.requires.tail_bound.0 k inside, c.loop-k.invariant.rest k (le_refl _)),
+    )
 
 pub returns : goal.returns
 returns c =
