@@ -11,7 +11,7 @@ pub fn call(
     word: u8,
     file: &[u8],
     table: &mut [u32],
-    note: &mut [u16; 8],
+    note: &mut [u16],
 ) -> io::Result<()>
     ensures { OnErr result ((length table.new ≡ length table.old) × (length note.new ≡ length note.old)) }
 {
@@ -43,7 +43,7 @@ fn pass(
     rt: &(impl Input + Print),
     file: &[u8],
     table: &mut [u32],
-    note: &mut [u16; 8],
+    note: &mut [u16],
 ) -> io::Result<()>
     ensures { OnErr result ((length table.new ≡ length table.old) × (length note.new ≡ length note.old)) }
 {
@@ -58,7 +58,7 @@ fn take_back(
     rt: &(impl Input + Print),
     file: &[u8],
     table: &mut [u32],
-    note: &[u16; 8],
+    note: &[u16],
 ) -> io::Result<()>
     ensures { OnErr result (length table.new ≡ length table.old) }
 {

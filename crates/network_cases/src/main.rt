@@ -38,14 +38,14 @@ fn run_line(rt: &(impl Input + Print), word: u8, cases: &mut Cases) -> io::Resul
     match word {
         b'f' => read_file(rt, &mut cases.file),
         b'r' => row::read(rt, &mut cases.file),
-        b'l' => row::read_link(rt, &mut cases.file),
+        b'l' => row::read_link(rt, &mut cases.file.items),
         b'p' => report::pack(rt, cases.file.as_slice(), &mut cases.output),
         b's' => report::show(rt, cases.output.as_slice()),
         b'a' => {
             copy(&cases.output, &mut cases.file);
             Ok(())
         }
-        _ => row::read_trips(rt, &mut cases.file),
+        _ => row::read_trips(rt, &mut cases.file.items),
     }
 }
 

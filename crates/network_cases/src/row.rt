@@ -1,5 +1,7 @@
 // The largest study: 128 nodes in a row, each link from a node to the next, 32 destinations. In this
 // order of the links one sweep of a reach search marks few nodes.
+ghost use Rattle.std.specs.Prelude.{◌≡◌, length, OnErr};
+
 use crate::Bytes;
 use case_lines::{number, number_u16, read_header};
 use std::io;
@@ -13,20 +15,24 @@ pub fn read(rt: &impl Input, file: &mut Bytes) -> io::Result<()> {
 }
 
 // Reads a link, its tail and its head.
-pub fn read_link(rt: &impl Input, file: &mut Bytes) -> io::Result<()> {
+pub fn read_link(rt: &impl Input, file: &mut [u8]) -> io::Result<()>
+    ensures { OnErr result (length file.new ≡ length file.old) }
+{
     let link = number(rt)? as usize;
     let tail = number_u16(rt)?;
     let head = number_u16(rt)?;
-    put(&mut file.items, 32 + 10 * link, &[tail, head]);
+    put(file, 32 + 10 * link, &[tail, head]);
     Ok(())
 }
 
 // Reads a destination, a node, and the trips from it.
-pub fn read_trips(rt: &impl Input, file: &mut Bytes) -> io::Result<()> {
+pub fn read_trips(rt: &impl Input, file: &mut [u8]) -> io::Result<()>
+    ensures { OnErr result (length file.new ≡ length file.old) }
+{
     let k = number(rt)? as usize;
     let node = number(rt)? as usize;
     let trips = number_u16(rt)?;
-    put(&mut file.items, 5216 + 256 * k + 2 * node, &[trips]);
+    put(file, 5216 + 256 * k + 2 * node, &[trips]);
     Ok(())
 }
 
@@ -52,11 +58,12 @@ fn put_rows(file: &mut [u8]) {
     }
 }
 
-// Puts numbers of two bytes from `at` on. What lies past the end is left out.
+// Puts numbers of two bytes from `at` on. What lies past the end is left out: whole numbers, since the place and the length of the memory are even.
 fn put(file: &mut [u8], at: usize, numbers: &[u16]) {
     if let Some(bytes) = file.get_mut(at..) {
-        for (place, number) in bytes.chunks_mut(2).zip(numbers) {
-            case_lines::put(place, 0, &number.to_le_bytes());
+        let (places, _) = bytes.as_chunks_mut::<2>();
+        for (place, number) in places.iter_mut().zip(numbers) {
+            *place = number.to_le_bytes();
         }
     }
 }
